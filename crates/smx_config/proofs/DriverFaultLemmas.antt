@@ -40,19 +40,19 @@ good_before ds i j d e here later before h =
     let fine = good (take j ds) i d found h in
     (fine.0, λ same. fine.1 (subst (Any (λ e. e.name ≡ d.name)) (sym (take-take i j ds (omega (arith, before)))) same))
 
--- the driver spoils the list
+-- the driver makes the list invalid
 abbrev Spoils : List DriverSpec → ℕ → DriverSpec → Type 0
 Spoils ds i d = (spec_check d ≡ Ok tt) × (HasSameName ds i d → ⊥) → ⊥
 
--- by what is said of it
+-- it does so if it fails the check
 bad_spec : (ds : List DriverSpec) (i : ℕ) (d : DriverSpec) (f : SpecFault) → spec_check d ≡ Err f → Spoils ds i d
 bad_spec ds i d f bad fine = let same = sym bad ∙ fine.0 in absurd cc
 
--- or by its name
+-- it does so if an earlier driver has its name
 same_name : (ds : List DriverSpec) (i : ℕ) (d : DriverSpec) → HasSameName ds i d → Spoils ds i d
 same_name ds i d same fine = fine.1 same
 
--- the first that does has one number
+-- the first such driver has only one number
 one_number : (ds : List DriverSpec) (i j : ℕ) (d e : DriverSpec) → IsFirstBad ds i d → Spoils ds i d
     → IsFirstBad ds j e → Spoils ds j e → i ≡ j
 one_number ds i j d e first bad other worse = elim (cases_Bool (ltb i j)) [
@@ -63,23 +63,23 @@ one_number ds i j d e first bad other worse = elim (cases_Bool (ltb i j)) [
   ]
 ]
 
--- the first driver that spoils a list, at one place of it, is one driver
+-- the first wrong driver of a list, at one number, is only one driver
 one_driver : (ds : List DriverSpec) (i j : ℕ) (d e : DriverSpec) → IsFirstBad ds i d → IsFirstBad ds j e → i ≡ j → d ≡ e
 one_driver ds i j d e first other same =
     same_Some _ _ (sym first.here ∙ ap (slice_get ds) same ∙ other.here)
 
--- a valid list has none
+-- a valid list has no such driver
 none_spoils : (ds : List DriverSpec) (i : ℕ) (d : DriverSpec) → IsFirstBad ds i d → Spoils ds i d → IsDriverList ds → ⊥
 none_spoils ds i d first bad h = bad (good ds i d first.here h)
 
--- what is said of the two, where both are the first
+-- if both drivers are the first wrong one, they have the same number and the same result of the check
 one_check : (ds : List DriverSpec) (i j : ℕ) (d e : DriverSpec) → IsFirstBad ds i d → Spoils ds i d
     → IsFirstBad ds j e → Spoils ds j e → (i ≡ j) × (spec_check d ≡ spec_check e)
 one_check ds i j d e first bad other worse =
     let number = one_number ds i j d e first bad other worse in
     (number, ap spec_check (one_driver ds i j d e first other number))
 
--- two faults that a list is refused for are the same
+-- if a list is refused with two faults, they are the same
 pub one_fault : (ds : List DriverSpec) (f g : ConfigFault) → RefusesDrivers ds f → RefusesDrivers ds g → f ≡ g
 one_fault ds TooMany TooMany h k = refl
 one_fault ds TooMany (BadSpec j g) h k = absurd (omega (arith, h, k.1.few))

@@ -1,4 +1,4 @@
--- A move to the place to which the first message may go on, and what is marked after it.
+-- A move of a first message to its next place, and the marks after it.
 use Rattle.std.proofs.Common.{◌≡◌, List, Option, Some, sym, ap, ◌∙◌}
 use Rattle.smx_types.specs.declared.driver.DriverSpec.{DriverSpec}
 use Rattle.smx_types.specs.declared.stream.Place.{Place}
@@ -15,7 +15,7 @@ use Rattle.smx_config.specs.declared.marks.Marks.{Marks}
 use Rattle.smx_config.proofs.WakeLemmas.{marks_after}
 use Rattle.smx_config.proofs.WokenLemmas.{turned_is}
 
--- a message that goes to the place that it may go on to makes the move
+-- moving a first message to the place to which it may move on is the move from its place
 pub moves_there : (m n : Machine) (p q : Place) → next_open_place m.drivers m.configuration p ≡ Some q
     → n ≡ record m { configuration = after_move_between m.drivers m.configuration p q }
     → n ≡ record m { configuration = after_move m.drivers m.configuration p }
@@ -23,8 +23,8 @@ moves_there m n p q e is = is ∙ ap (λ (o : Option Place).
     record m { configuration = after_move_to m.drivers m.configuration p o (first_message m.configuration.flow p) })
     (sym e)
 
--- after a move it is enough to mark the place that it takes from, the one that it goes to, if that was empty, and what
--- waits for the first of them, if that is freed
+-- after a move it is enough to mark the place that the message left, the place that it reached, if that was empty, and
+-- the places that wait for the first of these, if that is no longer full
 pub moved_marks : (drivers : List DriverSpec) (c : Configuration) (p q : Place) (old new : Marks) → IsSound drivers c
     → AreMarks drivers c old → next_open_place drivers c p ≡ Some q
     → IsWoken drivers (after_move drivers c p) (turned_by_move drivers c p) (same_place p) old new

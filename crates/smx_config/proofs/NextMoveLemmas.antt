@@ -1,4 +1,4 @@
--- The least number with a run mark, and what is left of the marks where its place can't be moved from.
+-- The least number with a run mark, and the marks after its place turned out not to be movable.
 use Rattle.std.proofs.Common.{◌≡◌, ℕ, suc, ◌<◌, Bool, true, false, cond, List, length, set, Option, Some, None}
 use Rattle.std.proofs.Common.{refl, sym, ap, ◌∙◌, subst, inl, inr, arith}
 use Rattle.std.specs.Prelude.{◌≢◌, IfNone}
@@ -28,20 +28,20 @@ use Rattle.smx_config.specs.Moves.{IsLeastMove}
 use Rattle.smx_config.specs.Wakes.{everywhere}
 use Rattle.smx_config.proofs.PlaceNumberLemmas.{one_place}
 
--- where it is settled there is no least move
+-- a settled configuration has no least move
 pub none_left : (drivers : List DriverSpec) (c : Configuration) (r : Option Move) (P : Type 0) → IsSettled drivers c
     → IsLeastMove drivers c r → IfNone r P → P
 none_left drivers c None P s least none = none
 none_left drivers c (Some m) P s least none = let e = none_is_least drivers c s in
     absurd (none-some least.moves.from (sym e ∙ least.least))
 
--- ---- where a first message may go on to
+-- ---- the place to which a first message may move on
 
 -- the place, unless it is full
 abbrev if_open : Configuration → Option Place → Option Place
 if_open c o = o >>= (λ q. cond (is_full c q) None (Some q))
 
--- where a first message goes, unless that is full, is where it may go on to
+-- a first message may move on to its next place, unless that is full
 open_of_next : (drivers : List DriverSpec) (c : Configuration) (p : Place)
     → next_open_place drivers c p ≡ if_open c (next_of_first drivers c p)
 open_of_next drivers c p = by (first_message c.flow p) where
@@ -50,35 +50,35 @@ open_of_next drivers c p = by (first_message c.flow p) where
   by None = refl
   by (Some m) = refl
 
--- where a first message goes next, by whether that is full
+-- the same, given the next place and whether it is full
 by_full : (drivers : List DriverSpec) (c : Configuration) (p q : Place) (full : Bool)
     → next_of_first drivers c p ≡ Some q → is_full c q ≡ full → next_open_place drivers c p ≡ cond full None (Some q)
 by_full drivers c p q full next is = open_of_next drivers c p
     ∙ (ap (if_open c) next ∙ ap (λ (b : Bool). cond b None (Some q)) is)
 
--- a first message whose next place isn't full may go on to that
+-- a first message whose next place isn't full may move on to it
 pub moves_to : (drivers : List DriverSpec) (c : Configuration) (p q : Place) → next_of_first drivers c p ≡ Some q
     → is_full c q ≡ false → next_open_place drivers c p ≡ Some q
 moves_to drivers c p q next vacant = by_full drivers c p q false next vacant
 
--- a place whose first message may go on to another is movable
+-- a place is movable if its first message may move on
 pub movable_to : (drivers : List DriverSpec) (c : Configuration) (p q : Place) → next_open_place drivers c p ≡ Some q
     → is_movable drivers c p ≡ true
 movable_to drivers c p q e = ap (λ (o : Option Place). is_some o) e
 
--- a place is not movable where its first message goes nowhere next
+-- a place is not movable if its first message has no next place
 stays_nowhere : (drivers : List DriverSpec) (c : Configuration) (p : Place) → next_of_first drivers c p ≡ None
     → is_movable drivers c p ≡ false
 stays_nowhere drivers c p none =
     ap (λ (o : Option Place). is_some o) (open_of_next drivers c p ∙ ap (if_open c) none)
 
--- nor where that goes to a full place
+-- a place is not movable if the next place of its first message is full
 stays_behind : (drivers : List DriverSpec) (c : Configuration) (p q : Place) → next_of_first drivers c p ≡ Some q
     → is_full c q ≡ true → is_movable drivers c p ≡ false
 stays_behind drivers c p q next full =
     ap (λ (o : Option Place). is_some o) (by_full drivers c p q true next full)
 
--- a place from which a message goes next has one
+-- if the first message of a place has a next place, the place has a message
 pub next_has_message : (drivers : List DriverSpec) (c : Configuration) (p q : Place)
     → next_of_first drivers c p ≡ Some q → first_message c.flow p ≢ None
 next_has_message drivers c p q e none = none-some q (sym (ap (next_of drivers c p) none) ∙ e)
@@ -117,7 +117,7 @@ movable_marked drivers c m i p h there moves = elim (cases_Bool (has_bit m.run i
   | inr f ↦ absurd (false≢true (sym (unmarked_stays drivers c m i p h there f) ∙ moves))
 ]
 
--- without a run mark it is settled
+-- if there is no run mark, the configuration is settled
 pub none_marked : (drivers : List DriverSpec) (c : Configuration) (m : Marks) → IsSound drivers c → AreMarks drivers c m
     → HasNoBit m.run → IsSettled drivers c
 none_marked drivers c m sound h none p = elim (cases_Bool (is_movable drivers c p)) [
@@ -127,7 +127,7 @@ none_marked drivers c m sound h none p = elim (cases_Bool (is_movable drivers c 
   | inr f ↦ f
 ]
 
--- the place of the least number with a run mark, where it is movable, is the least movable place
+-- if the place of the least number with a run mark is movable, it is the least movable place
 pub least_is : (drivers : List DriverSpec) (c : Configuration) (m : Marks) (n : ℕ) (p : Place) → IsSound drivers c
     → AreMarks drivers c m → IsAt drivers n p → ((k : ℕ) → k < n → has_bit m.run k ≡ false)
     → is_movable drivers c p ≡ true → least_movable drivers c ≡ Some p
@@ -146,14 +146,14 @@ pub none_if_not_some : (o : Option Message) → false ≡ is_some o → None ≡
 none_if_not_some None h = refl
 none_if_not_some (Some m) h = absurd (false≢true h)
 
--- what holds where nothing was found
+-- if nothing was found, a property that holds in that case holds
 pub if_none : (r : Option ℕ) (P : Type 0) → is_some r ≡ false → IfNone r P → P
 if_none None P none h = h
 if_none (Some n) P none h = absurd (false≢true (sym none))
 
 -- ---- a run mark is cleared
 
--- where the run mark of one number is cleared, each other number without a run mark had none before
+-- if the run mark of one number is cleared, each other number without a run mark had none before
 still_run : (old new : BitTable) (n k : ℕ) → ((m : ℕ) → has_bit new m ≡ has_bit_but old n m) → n ≢ k
     → has_bit new k ≡ false → has_bit old k ≡ false
 still_run old new n k gone other clear = elim (cases_Bool (has_bit old k)) [
@@ -165,7 +165,7 @@ still_run old new n k gone other clear = elim (cases_Bool (has_bit old k)) [
 abbrev pub with_run : Marks → BitTable → Marks
 with_run m run = record { run = run; wanted = m.wanted; waits = m.waits }
 
--- a place from which no message goes next needs no mark
+-- a place needs no run mark if its first message has no next place
 pub unmarked : (drivers : List DriverSpec) (c : Configuration) (n : ℕ) (p : Place) (m : Marks) (run : BitTable)
     → AreMarks drivers c m → IsAt drivers n p → next_of_first drivers c p ≡ None
     → ((k : ℕ) → has_bit run k ≡ has_bit_but m.run n k) → run.count ≡ m.run.count → AreMarks drivers c (with_run m run)
@@ -183,11 +183,11 @@ unmarked drivers c n p m run h here none gone same = record {
   listed = h.listed;
 }
 
--- these rings, where one number is in that of another
+-- these rings, with one number moved to the ring of another
 abbrev pub with_waiter : RingTable → ℕ → ℕ → RingTable
 with_waiter t n j = record t { owners = set t.owners n (suc j) }
 
--- the mark of a number goes, which waits for a full one now, and that is wanted
+-- the run mark of number `n` is cleared, and number `j` is wanted; the other marks are kept
 pub record IsHeldUp (n j : ℕ) (m : Marks) (run wanted : BitTable) : Type 0 where
   pub gone : (k : ℕ) → has_bit run k ≡ has_bit_but m.run n k
   pub wants : has_bit wanted j ≡ true
@@ -195,7 +195,7 @@ pub record IsHeldUp (n j : ℕ) (m : Marks) (run wanted : BitTable) : Type 0 whe
   pub run_over : run.count ≡ m.run.count
   pub wanted_over : wanted.count ≡ m.wanted.count
 
--- what is left of the marks
+-- the marks are still right if place `n` loses its run mark and then waits for the full next place of its first message
 pub held_up : (drivers : List DriverSpec) (c : Configuration) (n j : ℕ) (p q : Place) (m : Marks)
     (run wanted : BitTable)
     → AreMarks drivers c m → IsAt drivers n p → IsAt drivers j q → n < length (places_of drivers)
@@ -251,7 +251,7 @@ held_up drivers c n j p q m run wanted h here to_at below next full k = record {
 
 -- ---- at first
 
--- no marks beside the empty configuration
+-- the empty configuration needs no marks, if no place waits
 pub marks_at_first : (drivers : List DriverSpec) (m : Marks) → AreFor (length (places_of drivers)) m
     → ((n : ℕ) → n < length (places_of drivers) → at m.waits.owners n ≡ 0) → AreMarks drivers empty m
 marks_at_first drivers m over none = record {

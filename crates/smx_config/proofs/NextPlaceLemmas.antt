@@ -37,12 +37,12 @@ drivers_differ links test l none e same = none l.ctl.driver
         | inr b ↦ Contains-append_right (y ∷ []) ys x (contained t ys x (rw b at f))
       ]
 
--- what the next place is
+-- the drivers have the next place, and it is of another driver
 pub record IsNext (drivers : List DriverSpec) (p q : Place) : Type 0 where
   pub known : IsKnown drivers q.stream
   pub differ : p.stream.driver ≢ q.stream.driver
 
--- a place that is not barred
+-- a place that is there unless a condition holds: if a place was found, it is this one, and the condition doesn't hold
 pub open_is : (b : Bool) (p q : Place) → cond b None (Some p) ≡ Some q → (b ≡ false) × (p ≡ q)
 open_is true p q e = absurd cc
 open_is false p q e = (refl, some_is p q e)
@@ -91,7 +91,7 @@ next_above drivers c p addr q h e =
     subst (λ (x : Place). IsNext drivers p x) here
     (record { known = at.1; differ = λ same. apart (lower ∙ same ∙ upper) })
 
--- what is there under a condition is there without it
+-- a value that an option has under a condition is its value
 only_if : {X : Type 0} (b : Bool) (o : Option X) (x : X) → cond b o None ≡ Some x → o ≡ Some x
 only_if true o x e = e
 only_if false o x e = absurd cc
@@ -105,14 +105,14 @@ next_known drivers c stream side.Write addr q h e = next_below drivers c (record
 next_known drivers c stream side.Read addr q h e =
     next_above drivers c (record { stream = stream; side = side.Read }) addr q h e
 
--- where a message may go on to
+-- the properties of a place to which the first message of another place may move on
 pub record IsOpenNext (drivers : List DriverSpec) (c : Configuration) (p q : Place) : Type 0 where
   pub some : IsSome (first_message c.flow p)
   pub known : IsKnown drivers q.stream
   pub differ : same_place p q ≡ false
   pub free : is_full c q ≡ false
 
--- where a first message may go on to is another place, which the drivers have and which isn't full
+-- the place to which a first message may move on is another place; the drivers have it, and it isn't full
 pub open_next : (drivers : List DriverSpec) (c : Configuration) (p q : Place) → IsSound drivers c
     → next_open_place drivers c p ≡ Some q → IsOpenNext drivers c p q
 open_next drivers c p q h e =

@@ -24,13 +24,13 @@ use Rattle.smx_queues.proofs.PlaceLemmas.{place_is}
 use Rattle.smx_queues.proofs.PlacesOfLemmas.{number_known}
 use Rattle.smx_config.proofs.PlaceNumberLemmas.{is_another, one_number}
 
--- nothing is marked where no place with a message passes the test
+-- if no place with a message passes the test, nothing has to be marked
 pub none_marked : (drivers : List DriverSpec) (flow : List QueuedMessage) (test : Place → Bool) (m : BitTable)
     → ((p : Place) → test p ≡ true → first_message flow p ≡ None) → IsMarkedWhere drivers flow test m m
 none_marked drivers flow test m none =
     record { kept = λ i h. h; marked = λ i p there some t. absurd (some (none p t)); count = refl }
 
--- a mark at the number of the place
+-- a mark at the number of a place is enough for the test of this place
 pub one_marked : (drivers : List DriverSpec) (flow : List QueuedMessage) (place : Place) (n : ℕ) (old new : BitTable)
     → IsAt drivers n place → has_bit new n ≡ true → ((i : ℕ) → has_bit old i ≡ true → has_bit new i ≡ true)
     → new.count ≡ old.count → IsMarkedWhere drivers flow (same_place place) old new
@@ -50,18 +50,18 @@ none_there drivers flow place m none = record {
   count = refl;
 }
 
--- where it had messages, no mark is asked for
+-- a place that had messages before needs no mark
 pub no_more_marked : (filled : Bool) (n : ℕ) (m : BitTable) → filled ≡ true → IsMarkedUnless filled n m m
 no_more_marked filled n m h =
     record { here = λ none. absurd (false≢true (sym none ∙ h)); kept = λ i k. k; count = refl }
 
--- where there are no messages, none has to be marked
+-- if there are no messages, nothing has to be marked
 pub none_queued : (drivers : List DriverSpec) (flow : List QueuedMessage) (test : Place → Bool) (m : BitTable)
     → length flow ≡ 0 → IsMarkedWhere drivers flow test m m
 none_queued drivers [] test m none = none_marked drivers [] test m (λ p t. refl)
 none_queued drivers (h ∷ flow) test m none = absurd (omega (arith, none))
 
--- a mark that one test asks for another one asks for too
+-- marks that are enough for one test are enough for a narrower test
 pub fewer_asked : (drivers : List DriverSpec) (flow : List QueuedMessage) (these those : Place → Bool)
     (old new : BitTable) → ((p : Place) → those p ≡ true → these p ≡ true)
     → IsMarkedWhere drivers flow these old new → IsMarkedWhere drivers flow those old new
@@ -73,7 +73,7 @@ fewer_asked drivers flow these those old new too m = record {
 
 -- ---- one side of a driver's streams, one minor after another
 
--- the places that are asked for, of the minors below a number
+-- the places that pass the test and whose minors are below a number
 abbrev pub asks_below : Configuration → ℕ → Side → ℕ → ℕ → Place → Bool
 asks_below c driver s addr n p = asks_at c driver s addr p && nat_lt p.stream.minor n
 
@@ -81,7 +81,7 @@ asks_below c driver s addr n p = asks_at c driver s addr p && nat_lt p.stream.mi
 abbrev side_of : ℕ → ℕ → Side → Place
 side_of driver minor s = record { stream = record { driver = driver; minor = minor }; side = s }
 
--- a place that is asked for, of a minor, is that side of its stream
+-- a place that passes the test and has minor `n` is that side of its stream
 its_place : (c : Configuration) (driver : ℕ) (s : Side) (addr n : ℕ) (p : Place) → asks_at c driver s addr p ≡ true
     → p.stream.minor ≡ n → p ≡ side_of driver n s
 its_place c driver s addr n p t is =
@@ -89,7 +89,7 @@ its_place c driver s addr n p t is =
     let b = and_parts (same_side p.side s) (eqb p.stream.driver driver) a.0 in
     place_is p (side_of driver n s) (rw (b.1, eq-eqb p.stream.minor n is, b.0) refl)
 
--- no minor is below the first one
+-- no minor is below minor 0, so nothing has to be marked
 pub none_below : (drivers : List DriverSpec) (c : Configuration) (driver : ℕ) (s : Side) (addr : ℕ) (m : BitTable)
     → IsMarkedWhere drivers c.flow (asks_below c driver s addr 0) m m
 none_below drivers c driver s addr m = none_marked drivers c.flow (asks_below c driver s addr 0) m (λ p t.
@@ -97,7 +97,7 @@ none_below drivers c driver s addr m = none_marked drivers c.flow (asks_below c 
       none : (n : ℕ) → n < 0 → ⊥
       none n lt = omega arith
 
--- with that of one minor more, which is marked or not asked for
+-- one more minor, whose place is marked if it passes the test
 pub one_minor_more : (drivers : List DriverSpec) (c : Configuration) (driver : ℕ) (s : Side) (addr n : ℕ)
     (old mid new : BitTable) → IsMarkedWhere drivers c.flow (asks_below c driver s addr n) old mid
     → IsMarkedIf drivers c addr (side_of driver n s) mid new
@@ -118,7 +118,7 @@ one_minor_more drivers c driver s addr n old mid new before one = record {
   count = one.count ∙ before.count;
 }
 
--- all minors are below the number of the driver's
+-- marks for all minors below the number of the driver's minors are marks for all its streams
 pub all_minors : (drivers : List DriverSpec) (c : Configuration) (driver : ℕ) (s : Side) (addr n : ℕ)
     (old new : BitTable) → n ≡ minors_of drivers driver
     → IsMarkedWhere drivers c.flow (asks_below c driver s addr n) old new
@@ -134,7 +134,7 @@ all_minors drivers c driver s addr n old new many m = record {
   count = m.count;
 }
 
--- what is asked for between two drivers is asked for at the lower one
+-- a place that is asked for between two drivers is asked for at the lower driver
 pub at_lower : (c : Configuration) (driver addr lower : ℕ) (p : Place) → asks_between c driver addr lower p ≡ true
     → asks_at c lower side.Read addr p ≡ true
 at_lower c driver addr lower p t =
@@ -145,7 +145,7 @@ at_lower c driver addr lower p t =
 
 -- ---- the read sides below a driver, one lower driver after another
 
--- a read side that is asked for is one below the driver
+-- a read side that is asked for belongs to a stream below the driver
 asked_below : (c : Configuration) (driver addr : ℕ) (p : Place) → asks_up c driver addr p ≡ true
     → is_below_driver c driver p.stream ≡ true
 asked_below c driver addr p t =
@@ -153,7 +153,7 @@ asked_below c driver addr p t =
     (has_addr addr (first_message c.flow p)) t in
     (and_parts (same_side p.side side.Read) (is_below_driver c driver p.stream) below.0).1
 
--- the link above a stream is a path from its driver to that of the stream
+-- a link between two drivers is a path from the upper driver to the lower one
 below_reaches : (links : List Link) (s : StreamId) (driver lower : ℕ) → s.driver ≡ lower
     → list_any (λ l. same_stream l.lower s && eqb l.ctl.driver driver) links ≡ true
     → reaches links driver lower ≡ true
@@ -170,7 +170,7 @@ below_reaches (l ∷ links) s driver lower is h =
       | inr f ↦ or_left (reaches links driver lower) _ (below_reaches links s driver lower is (rw f at h))
     ]
 
--- where no path leads from the one driver to the other, none of these places has to be marked
+-- if no path leads from the one driver to the other, none of the places between them has to be marked
 pub none_between : (drivers : List DriverSpec) (c : Configuration) (driver addr lower : ℕ) (m : BitTable)
     → reaches c.links driver lower ≡ false → IsMarkedWhere drivers c.flow (asks_between c driver addr lower) m m
 none_between drivers c driver addr lower m none = none_marked drivers c.flow (asks_between c driver addr lower) m
@@ -179,11 +179,11 @@ none_between drivers c driver addr lower m none = none_marked drivers c.flow (as
     absurd (false≢true (sym none ∙ below_reaches c.links p.stream driver lower
     (eqb-true p.stream.driver lower both.1) (asked_below c driver addr p both.0))))
 
--- the read sides below the driver that are asked for, at streams of the lower drivers below a number
+-- the read sides that are asked for, at streams below the driver whose own driver has a number below this one
 abbrev pub asks_before : Configuration → ℕ → ℕ → ℕ → Place → Bool
 asks_before c driver addr n p = asks_up c driver addr p && nat_lt p.stream.driver n
 
--- none of them is of a driver before the first one
+-- no driver comes before driver 0, so nothing has to be marked
 pub none_before : (drivers : List DriverSpec) (c : Configuration) (driver addr : ℕ) (m : BitTable)
     → IsMarkedWhere drivers c.flow (asks_before c driver addr 0) m m
 none_before drivers c driver addr m = none_marked drivers c.flow (asks_before c driver addr 0) m (λ p t.
@@ -192,7 +192,7 @@ none_before drivers c driver addr m = none_marked drivers c.flow (asks_before c 
       none : (n : ℕ) → n < 0 → ⊥
       none n lt = omega arith
 
--- with those of one driver more
+-- one more driver, whose places are marked
 pub one_driver_more : (drivers : List DriverSpec) (c : Configuration) (driver addr n : ℕ) (old mid new : BitTable)
     → IsMarkedWhere drivers c.flow (asks_before c driver addr n) old mid
     → IsMarkedWhere drivers c.flow (asks_between c driver addr n) mid new
@@ -210,7 +210,7 @@ one_driver_more drivers c driver addr n old mid new before one = record {
   count = one.count ∙ before.count;
 }
 
--- where all links are among so many drivers, a stream below one of them is of one of these
+-- if the drivers of all links are below `n`, so is the driver of each stream below a link
 lower_within : (n : ℕ) (links : List Link) (s : StreamId) (driver : ℕ) → All (IsWithin n) links
     → list_any (λ l. same_stream l.lower s && eqb l.ctl.driver driver) links ≡ true → s.driver < n
 lower_within n links s driver within h = by links (recursion_from_All (IsWithin n) links within) h where
@@ -225,7 +225,7 @@ lower_within n links s driver within h = by links (recursion_from_All (IsWithin 
     | inr f ↦ by ls w.1 (rw f at t)
   ]
 
--- all lower drivers are before the end of the drivers that links may have
+-- marks for all drivers below `n` are enough, if the drivers of all links are below `n`
 pub all_before : (drivers : List DriverSpec) (c : Configuration) (driver addr n : ℕ) (old new : BitTable)
     → All (IsWithin n) c.links
     → IsMarkedWhere drivers c.flow (asks_before c driver addr n) old new

@@ -7,7 +7,7 @@ use Rattle.smx_commands.specs.Machine.{Machine}
 use Rattle.smx_model.specs.Settling.{least_movable, after_move, after_settling_within}
 use Rattle.smx_model.proofs.LeastMarkedLemmas.{settling_moves}
 
--- settling is the move from the least movable place, and then settling within one move less
+-- settling is the move from the least movable place, and then settling with one move less
 pub settled_one : (drivers : List DriverSpec) (n : ℕ) (c d : Configuration) (p : Place) → 0 < n
     → least_movable drivers c ≡ Some p → d ≡ after_move drivers c p
     → after_settling_within drivers (n - 1) d ≡ after_settling_within drivers n c
@@ -22,7 +22,7 @@ pub within_zero : (drivers : List DriverSpec) (n : ℕ) (c d : Configuration) �
 within_zero drivers zero c d z e = e
 within_zero drivers (suc n) c d z e = absurd (omega arith)
 
--- a machine with the same drivers, and the configuration that was wanted
+-- a machine with the same drivers and this configuration is the old one with this configuration
 pub settled_to : (m old : Machine) (c : Configuration) → m.drivers ≡ old.drivers → m.configuration ≡ c
     → m ≡ record old { configuration = c }
 settled_to m old c same is = rw (← same, ← is) refl

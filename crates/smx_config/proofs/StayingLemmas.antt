@@ -1,5 +1,5 @@
--- Places from which no message goes on: the read side of a stream that is not linked below, and the write side of a
--- leaf driver's stream. So what is left where a message was read or transmitted turns nothing.
+-- Places from which no message moves on: the read side of a stream that is not linked below, and the write side of a
+-- leaf driver's stream. So if a message was read or transmitted, the messages after it still don't move on.
 use Rattle.std.proofs.Common.{◌≡◌, ℕ, Bool, true, false, List, [], ◌∷◌, find, Option, None, Some}
 use Rattle.std.proofs.Common.{Ok, refl, sym, ◌∙◌, subst, inl, inr}
 use Rattle.std.specs.List.{list_any}
@@ -29,7 +29,7 @@ use Rattle.smx_queues.proofs.PlaceLemmas.{place_is}
 
 -- ---- what an accepted lookup says
 
--- the driver of a live device's stream is no multiplexing one
+-- the driver of a live device's stream is not a multiplexing driver
 live_is : (drivers : List DriverSpec) (c : Configuration) (name : List ℕ) (minor : ℕ) (s : StreamId)
     → live_leaf drivers c name minor ≡ Ok s → is_mux drivers s.driver ≡ false
 live_is drivers c name minor s e =
@@ -37,9 +37,9 @@ live_is drivers c name minor s e =
     let live = bound (refuse HungUp (is_hung c.hungs found.0)) (λ h. Ok found.0) s found.2 in
     (leaf_says drivers c name minor s (found.1 ∙ live.2)).1
 
--- ---- where no message goes on
+-- ---- places from which no message moves on
 
--- where no link passes a test, a search by it finds none
+-- if no link passes a test, a search with this test finds no link
 none_found : (test : Link → Bool) (links : List Link) → list_any test links ≡ false → find test links ≡ None
 none_found test [] h = refl
 none_found test (l ∷ ls) h = elim (cases_Bool (test l)) [
@@ -47,7 +47,7 @@ none_found test (l ∷ ls) h = elim (cases_Bool (test l)) [
   | inr f ↦ rw f (none_found test ls (rw f at h))
 ]
 
--- the first message of a place goes nowhere next, if no message does
+-- if no message has a next place from here, neither has the first message
 nowhere_next : (drivers : List DriverSpec) (c : Configuration) (p : Place)
     → ((m : Message) → next_of drivers c p (Some m) ≡ None) → next_of_first drivers c p ≡ None
 nowhere_next drivers c p none = by (first_message c.flow p) where
@@ -55,24 +55,24 @@ nowhere_next drivers c p none = by (first_message c.flow p) where
   by None = refl
   by (Some m) = none m
 
--- nothing goes up from a stream that is not below a link
+-- no message goes up from a stream that is not below a link
 read_side_stays : (drivers : List DriverSpec) (c : Configuration) (p : Place) → p.side ≡ side.Read
     → is_below c.links p.stream ≡ false → next_of_first drivers c p ≡ None
 read_side_stays drivers c p at free = nowhere_next drivers c p
     (λ m. rw (at, none_found (λ l. same_stream l.lower p.stream) c.links free) refl)
 
--- nothing goes down from a leaf driver's stream
+-- no message goes down from a leaf driver's stream
 write_side_stays : (drivers : List DriverSpec) (c : Configuration) (s : StreamId) → is_mux drivers s.driver ≡ false
     → next_of_first drivers c (write_side s) ≡ None
 write_side_stays drivers c s leaf = nowhere_next drivers c (write_side s) (λ m. rw leaf refl)
 
--- where the first message of a place goes nowhere next, that of the same place doesn't either
+-- if the first message of a place has no next place, the same is true of a place that is the same
 stays_at : (drivers : List DriverSpec) (c : Configuration) (q p : Place) → same_place q p ≡ true
     → next_of_first drivers c q ≡ None → next_of_first drivers c p ≡ None
 stays_at drivers c q p same none =
     subst (λ (x : Place). next_of_first drivers c x ≡ None) (place_is q p same) none
 
--- after a read no message goes on from the place that it read from
+-- after a read, no message moves on from the place that was read
 pub read_stays : (drivers : List DriverSpec) (c : Configuration) (process fd : ℕ) (x : Configuration × Reply)
     (p : Place) → outcome drivers c process (command.Read fd) ≡ Ok x
     → of_stream (free_stream c process fd) (λ s. same_place (read_side s)) p ≡ true
@@ -84,7 +84,7 @@ read_stays drivers c process fd x p e t =
     (read_side_stays drivers x.0 (read_side found.0) refl
     (subst (λ (ls : List Link). is_below ls found.0 ≡ false) (sym links) (free_says c process fd found.0 found.1).1))
 
--- after a transmit none goes on from the place that it took from
+-- after a transmit, no message moves on from the place whose message was taken
 pub transmit_stays : (drivers : List DriverSpec) (c : Configuration) (process : ℕ) (name : List ℕ) (minor : ℕ)
     (x : Configuration × Reply) (p : Place) → outcome drivers c process (command.Transmit name minor) ≡ Ok x
     → of_stream (live_leaf drivers c name minor) (λ s. same_place (write_side s)) p ≡ true

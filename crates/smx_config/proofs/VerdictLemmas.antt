@@ -13,14 +13,14 @@ use Rattle.smx_config.specs.Verdicts.{IsVerdict}
 use Rattle.smx_config.specs.declared.verdict.Verdict.{Verdict}
 use Rattle.smx_config.specs.declared.verdict.Verdict.TheVariants.{Legal, Illegal, ConfigDiffers}
 
--- two views are the same, or they are not
+-- two views are equal, or they differ
 same_or_not : (v w : ConfigView) → (v ≡ w) ⊎ (v ≢ w)
 same_or_not v w = elim (cases_Bool _) [
   | inl t ↦ inl ((view_tells v w).0 t)
   | inr f ↦ inr (not_from_Decides _ (view_tells v w) f)
 ]
 
--- one verdict holds
+-- some verdict holds
 pub there_is_one : (drivers : List DriverSpec) (entries : List Entry) (shown : ConfigView)
     → IsLegal drivers entries ⊎ ((n : ℕ) × IsFirstIllegal drivers entries n)
     → (v : Verdict) × IsVerdict drivers entries shown v
@@ -30,7 +30,7 @@ there_is_one drivers entries shown (inl legal) = elim (same_or_not shown (view d
 ]
 there_is_one drivers entries shown (inr first) = (Illegal first.0, first.1)
 
--- two that hold are the same
+-- two verdicts that hold are the same
 pub there_is_no_other : (drivers : List DriverSpec) (entries : List Entry) (shown : ConfigView)
     → ((n : ℕ) → IsLegal drivers entries → IsFirstIllegal drivers entries n → ⊥)
     → ((m n : ℕ) → IsFirstIllegal drivers entries m → IsFirstIllegal drivers entries n → m ≡ n)

@@ -1,4 +1,4 @@
--- The places that wait for one that is not full any more, and the marks that a change keeps.
+-- The places that wait for a place that is no longer full, and the marks that a change keeps.
 use Rattle.std.proofs.Common.{◌≡◌, ℕ, suc, ◌<◌, Bool, true, false, not, List, length, set, Some}
 use Rattle.std.proofs.Common.{sym, ap, ◌∙◌, subst, arith, inl, inr}
 use Rattle.std.specs.Prelude.{◌≢◌, ◌⊎◌}
@@ -22,13 +22,13 @@ use Rattle.smx_config.specs.declared.marks.Marks.{Marks}
 use Rattle.smx_config.proofs.NextMoveLemmas.{next_has_message, with_run}
 use Rattle.smx_config.proofs.PlaceNumberLemmas.{is_another, one_number}
 
--- what is both true and false gives anything
+-- a test that is both true and false proves anything
 never : {A : Type 0} (b : Bool) → b ≡ true → b ≡ false → A
 never b t f = absurd (false≢true (sym f ∙ t))
 
 -- ---- the waiters of one place
 
--- nothing has changed yet
+-- marks that have not changed are kept
 pub all_kept : (m : Marks) → IsListed m → AreKept m m
 all_kept m listed = record {
   kept = λ i h. h;
@@ -42,7 +42,7 @@ all_kept m listed = record {
 abbrev pub without_waiter : RingTable → ℕ → RingTable
 without_waiter t n = record t { owners = set t.owners n 0 }
 
--- one number waits no longer, and has a run mark
+-- marks are still kept if one number no longer waits and has a run mark instead
 pub one_taken : (old mid : Marks) (n : ℕ) (run : BitTable) → AreKept old mid → n < length mid.waits.owners
     → has_bit run n ≡ true → ((i : ℕ) → has_bit mid.run i ≡ true → has_bit run i ≡ true) → run.count ≡ mid.run.count
     → AreKept old (record { run = run; wanted = mid.wanted; waits = without_waiter mid.waits n })
@@ -80,7 +80,7 @@ one_taken old mid n run h below here kept same = record {
 abbrev pub with_wanted : Marks → BitTable → Marks
 with_wanted m wanted = record { run = m.run; wanted = wanted; waits = m.waits }
 
--- it is wanted no more
+-- a place is released if it is no longer wanted and the places that waited for it have run marks
 pub released_one : (drivers : List DriverSpec) (c : Configuration) (n : ℕ) (p : Place) (old mid : Marks)
     (wanted : BitTable) → IsAt drivers n p → AreWaitersMarked n old mid
     → ((k : ℕ) → has_bit wanted k ≡ has_bit_but mid.wanted n k) → wanted.count ≡ mid.wanted.count
@@ -99,7 +99,7 @@ released_one drivers c n p old mid wanted here h gone same = record {
       (subst (IsNotedFor mid i) (sym (one_number drivers n j p q here there f)) noted));
 }
 
--- nothing has to be released where the place is full or not wanted
+-- a place that is full or not wanted needs no release
 pub not_released : (drivers : List DriverSpec) (c : Configuration) (n : ℕ) (p : Place) (m : Marks) → IsAt drivers n p
     → IsListed m → (is_full c p ≡ true) ⊎ (has_bit m.wanted n ≡ false) → IsReleased drivers c (same_place p) m m
 not_released drivers c n p m here listed h = record {
@@ -111,7 +111,7 @@ not_released drivers c n p m here listed h = record {
   ];
 }
 
--- nor where the drivers don't have the place
+-- a place that the drivers don't have needs no release
 pub not_there : (drivers : List DriverSpec) (c : Configuration) (p : Place) (m : Marks) → IsListed m
     → ((n : ℕ) → IsAt drivers n p → ⊥) → IsReleased drivers c (same_place p) m m
 not_there drivers c p m listed none = record {
@@ -121,7 +121,7 @@ not_there drivers c p m listed none = record {
 
 -- ---- one place, and then another
 
--- what is kept first and then
+-- two changes one after the other keep marks, if each does
 pub kept_both : (old mid new : Marks) → AreKept old mid → AreKept mid new → AreKept old new
 kept_both old mid new a b = record {
   kept = λ i h. b.kept i (a.kept i h);
@@ -134,7 +134,7 @@ kept_both old mid new a b = record {
   over = λ count h. b.over count (a.over count h);
 }
 
--- of two places, one after the other
+-- two groups of places are released, if one is released after the other
 pub released_both : (drivers : List DriverSpec) (c : Configuration) (these those : Place → Bool) (old mid new : Marks)
     → IsReleased drivers c these old mid → IsReleased drivers c those mid new
     → IsReleased drivers c (either these those) old new
@@ -146,7 +146,7 @@ released_both drivers c these those old mid new a b = record {
   ];
 }
 
--- where no wanted place is left that is not full, all are released
+-- if each wanted place that is left is full, all places are released
 pub all_released : (drivers : List DriverSpec) (c : Configuration) (old new : Marks) → AreKept old new
     → ((n : ℕ) → has_bit new.wanted n ≡ true → IsFullAt drivers c n) → IsReleased drivers c everywhere old new
 all_released drivers c old new kept full =
@@ -154,7 +154,7 @@ all_released drivers c old new kept full =
 
 -- ---- and then the turned places
 
--- where what was freed is released, and what was turned gets a run mark then, all of it is woken
+-- if the freed places are released, and then the turned places get run marks, all of them are woken
 pub woken : (drivers : List DriverSpec) (c : Configuration) (turned freed : Place → Bool) (old mid : Marks)
     (run : BitTable) → IsReleased drivers c freed old mid → IsMarkedWhere drivers c.flow turned mid.run run
     → IsWoken drivers c turned freed old (with_run mid run)
@@ -178,7 +178,7 @@ woken drivers c turned freed old mid run a b = record {
 
 -- ---- what a change keeps
 
--- a place that a change didn't turn goes where it went before
+-- if a place was not turned, its first message has the same next place as before
 went_there : (drivers : List DriverSpec) (old new : Configuration) (turned : Place → Bool) (p q : Place)
     → TurnsOnly drivers old new turned → turned p ≡ false → next_of_first drivers new p ≡ Some q
     → next_of_first drivers old p ≡ Some q
@@ -187,14 +187,14 @@ went_there drivers old new turned p q only f e = elim (only p f) [
   | inr none ↦ absurd (none-some q (sym none ∙ e))
 ]
 
--- what a change turned and freed is among what was woken
+-- a change turns only places of the first group; it frees only places of the second, which are all in the third
 pub record IsAmong (drivers : List DriverSpec) (old new : Configuration)
     (turned freed freed_too : Place → Bool) : Type 0 where
   pub frees : (p : Place) → freed p ≡ true → freed_too p ≡ true
   pub turns_only : TurnsOnly drivers old new turned
   pub frees_only : FreesOnly old new freed
 
--- where all that a change may turn and free is woken, the marks are right
+-- the marks are right again if all places that a change may turn or free were woken
 pub marks_after : (drivers : List DriverSpec) (old new : Configuration) (turned freed freed_too : Place → Bool)
     (m n : Marks) → AreMarks drivers old m → IsAmong drivers old new turned freed freed_too
     → IsWoken drivers new turned freed_too m n → AreMarks drivers new n

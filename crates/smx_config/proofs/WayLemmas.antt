@@ -1,4 +1,4 @@
--- Commands and moves that keep where messages go next, and the hops after them.
+-- Commands and moves that leave the next places of messages as they are, and the hops after them.
 use Rattle.std.proofs.Common.{◌≡◌, ℕ, ◌<◌, Bool, true, false, ◌&&◌, ◌||◌, eqb, not, List, length, get_or, Option, None}
 use Rattle.std.proofs.Common.{Some, Result, Ok, Err, refl, sym, ap, ◌∙◌, subst, arith}
 use Rattle.std.specs.Prelude.{IfSome, IsSome, nat_le, nat_lt}
@@ -41,9 +41,9 @@ use Rattle.smx_config.specs.Moves.{IsNextOf}
 use Rattle.smx_config.specs.Ways.{AreHops, IsWay, KeepsWays, LeadsTo, hop_at, keeps_ways}
 use Rattle.smx_config.proofs.PlaceNumberLemmas.{at_number}
 
--- ---- what keeps where messages go next
+-- ---- changes that keep the next places of messages
 
--- a message that is sent to a place
+-- sending a message to a place
 pub send_keeps : (drivers : List DriverSpec) (c : Configuration) (p : Place) (addr : ℕ) (bytes : List ℕ)
     (x : Configuration × Reply) → send_outcome drivers c p addr bytes ≡ Ok x → KeepsWays c x.0
 send_keeps drivers c p addr bytes x e =
@@ -53,7 +53,7 @@ send_keeps drivers c p addr bytes x e =
     subst (λ (y : Configuration × Reply). KeepsWays c y.0) (accepted _ x room.2)
     (record { links = refl; routes = refl; binds = refl; hungs = refl })
 
--- a message that is taken from its place
+-- taking a message from its place
 pub receive_keeps : (drivers : List DriverSpec) (c : Configuration) (p : Place) (x : Configuration × Reply)
     → receive_outcome drivers c p ≡ Ok x → KeepsWays c x.0
 receive_keeps drivers c p x e =
@@ -61,7 +61,7 @@ receive_keeps drivers c p x e =
     subst (λ (y : Configuration × Reply). KeepsWays c y.0) (accepted _ x found.2)
     (record { links = refl; routes = refl; binds = refl; hungs = refl })
 
--- a read at a stream
+-- reading at a stream
 pub read_keeps : (drivers : List DriverSpec) (c : Configuration) (s : StreamId) (x : Configuration × Reply)
     → read_outcome drivers c s ≡ Ok x → KeepsWays c x.0
 read_keeps drivers c s x e = by (is_hung c.hungs s && not (is_some (first_message c.flow (read_side s)))) refl where
@@ -72,7 +72,7 @@ read_keeps drivers c s x e = by (is_hung c.hungs s && not (is_some (first_messag
   by false f = let k : receive_outcome drivers c (read_side s) ≡ Ok x = rw f at e in
       receive_keeps drivers c (read_side s) x k
 
--- messages that are dropped, where there is nothing to sweep
+-- dropping messages, if there is nothing to sweep
 pub drop_keeps : (drivers : List DriverSpec) (c : Configuration) (goes : Place → Bool) (x : Configuration × Reply)
     → IsSwept drivers c → done_outcome drivers c (without_queues_at c goes) ≡ Ok x → KeepsWays c x.0
 drop_keeps drivers c goes x h e =
@@ -103,7 +103,7 @@ ways_kept drivers c d process (command.Transmit name minor) r t h e =
 ways_kept drivers c d process command.CloseAll r t h e = absurd (false≢true t)
 ways_kept drivers c d process k r t h e = absurd (false≢true t)
 
--- a move
+-- moving a message
 pub move_keeps : (drivers : List DriverSpec) (c : Configuration) (p : Place) → KeepsWays c (after_move drivers c p)
 move_keeps drivers c p = by (next_open_place drivers c p) (first_message c.flow p) where
   by : (o : Option Place) (m : Option Message) → KeepsWays c (after_move_to drivers c p o m)
@@ -113,7 +113,7 @@ move_keeps drivers c p = by (next_open_place drivers c p) (first_message c.flow 
 
 -- ---- hops
 
--- where messages go next is kept
+-- such a change keeps the next place of each message
 pub same_way : (drivers : List DriverSpec) (c d : Configuration) (p : Place) (addr : ℕ) → KeepsWays c d
     → next_place drivers d p addr ≡ next_place drivers c p addr
 same_way drivers c d p addr k =
@@ -122,7 +122,7 @@ same_way drivers c d p addr k =
       by side.Write = rw (k.links, k.routes, k.hungs) refl
       by side.Read = rw (k.links, k.binds) refl
 
--- and so the hops are
+-- such a change keeps the hops right
 pub hops_kept : (drivers : List DriverSpec) (c d : Configuration) (h : Hops) → KeepsWays c d → AreHops drivers c h
     → AreHops drivers d h
 hops_kept drivers c d h k a = record {
@@ -137,7 +137,7 @@ hops_kept drivers c d h k a = record {
       };
 }
 
--- copies of hops are as the hops are
+-- copies of hops are right if the hops are
 pub hops_copied : (drivers : List DriverSpec) (c : Configuration) (old new : Hops) → new.hops.items ≡ old.hops.items
     → new.age ≡ old.age → AreHops drivers c old → AreHops drivers c new
 hops_copied drivers c old new same age a = record {
@@ -157,7 +157,7 @@ pub way_to : (drivers : List DriverSpec) (c : Configuration) (p q : Place) (addr
 way_to drivers c p q addr None next some found = absurd cc
 way_to drivers c p q addr (Some n) next some found = record { place = q; there = found; next = next }
 
--- where messages of the address of the first one go next, that one does
+-- the next place of messages with the address of the first message is the next place of the first message
 pub way_of_first : (drivers : List DriverSpec) (c : Configuration) (p : Place) (m : Message) (r : Option ℕ)
     → first_message c.flow p ≡ Some m → IsWay drivers c p m.addr r → IsNextOf drivers c p r
 way_of_first drivers c p m None first way = ap (next_of drivers c p) first ∙ way
@@ -172,7 +172,7 @@ next_number drivers c p (Some n) way = at_number drivers n way.place way.there
 
 -- ---- after a command
 
--- what holds of each accepted outcome holds where it was performed
+-- the hops are right after a command that was performed, if they are right after each accepted outcome
 pub performed : (old new : Machine) (process : ℕ) (k : Command) (answer : Result (Unit {0}) StepError) (r : Reply)
     (h : Hops) → is_ok answer ≡ true → Refines old new process k (answer_of answer r)
     → ((d : Configuration) → outcome old.drivers old.configuration process k ≡ Ok (d, r) → AreHops old.drivers d h)

@@ -57,7 +57,7 @@ use Rattle.smx_config.proofs.WakeLemmas.{marks_after}
 
 -- ---- bindings and routes change no link and no message
 
--- the links and the messages are what they were
+-- the links and the messages are as before
 abbrev KeepsBoth : Configuration → Configuration × Reply → Type 0
 KeepsBoth c x = (x.0.links ≡ c.links) × (x.0.flow ≡ c.flow)
 
@@ -117,11 +117,11 @@ arrived c d q p h = by (is_some (first_message c.flow q)) (and_parts (same_place
   by true k = absurd (false≢true k.1)
   by false k = k.0
 
--- it may be turned, or its first message goes nowhere next
+-- the place may be turned, or its first message has no next place
 abbrev IsTurnedOrStays : List DriverSpec → Configuration → Wakes → Place → Type 0
 IsTurnedOrStays drivers d w p = (turned_under d w p ≡ true) ⊎ (next_of_first drivers d p ≡ None)
 
--- each place that an accepted command turns is one that `wakes_of` says may be turned, or no message goes on from it
+-- if an accepted command turns a place, `wakes_of` says that it may be turned, or no message moves on from it
 turns : (drivers : List DriverSpec) (c : Configuration) (process : ℕ) (k : Command) (x : Configuration × Reply)
     → IsSwept drivers c → outcome drivers c process k ≡ Ok x → (p : Place) → turned_by drivers c process k p ≡ true
     → IsTurnedOrStays drivers x.0 (wakes_of drivers c process k) p
@@ -186,7 +186,7 @@ is_on_a_side s p h = by p.side refl where
   by side.Read e = rw (is, e, stream_self s) refl
   by side.Write e = rw (is, e, stream_self s) refl
 
--- each place that a command may free is one that `wakes_of` says may be freed, if the reply may name dropped messages
+-- if a command may free a place, and its reply may name dropped messages, `wakes_of` says that it may be freed
 frees : (drivers : List DriverSpec) (c new : Configuration) (process : ℕ) (k : Command) (x : Reply) (p : Place)
     → drops_none x ≡ false → freed_by drivers c process k new p ≡ true
     → freed_under x (wakes_of drivers c process k) p ≡ true
@@ -202,7 +202,7 @@ frees drivers c new process (command.Flush fd w) x p some t = freed_on x (live_s
     (λ s u. rw some (is_on_a_side s p (and_parts (same_stream p.stream s) _ u).0)) t
 frees drivers c new process k x p some t = absurd (false≢true t)
 
--- the reply that it is done, and no message was dropped
+-- a reply that passes `drops_none` is `Done` without serials
 undropped : (r : Reply) → drops_none r ≡ true → r ≡ reply.Done []
 undropped (reply.Done []) t = refl
 undropped (reply.Done (n ∷ ns)) t = absurd (false≢true t)
@@ -213,13 +213,13 @@ undropped (reply.Got serial addr bytes) t = absurd (false≢true t)
 undropped reply.Eof t = absurd (false≢true t)
 undropped (reply.Fault f) t = absurd (false≢true t)
 
--- some places, among these, are the only ones that a change freed
+-- a change freed only some of these places
 pub record FreesAmong (old new : Configuration) (freed_too : Place → Bool) : Type 0 where
   pub freed : Place → Bool
   pub among : (p : Place) → freed p ≡ true → freed_too p ≡ true
   pub only : FreesOnly old new freed
 
--- what an accepted command freed is among what `wakes_of` says may be freed, by its reply
+-- an accepted command freed only places that `wakes_of` says may be freed, given its reply
 pub frees_among : (drivers : List DriverSpec) (c : Configuration) (process : ℕ) (k : Command)
     (x : Configuration × Reply) → FreesOnly c x.0 (freed_by drivers c process k x.0)
     → (x.1 ≡ reply.Done [] → FreesOnly c x.0 nowhere)
@@ -239,7 +239,7 @@ frees_among drivers c process k x few none = elim (cases_Bool (drops_none x.1)) 
 
 -- ---- both ends of a move
 
--- each place that a move turns is the one that it takes from, or the one that it goes to, which had no message
+-- each place that a move turns is the place that the message leaves, or the place that it reaches, if that was empty
 pub turned_ends : (drivers : List DriverSpec) (c : Configuration) (from to p : Place)
     → next_open_place drivers c from ≡ Some to
     → first_message (after_leaving drivers c from).flow to ≡ first_message c.flow to
@@ -253,7 +253,7 @@ turned_ends drivers c from to p e stays t = by (same_place from p) refl
       by false k h = let parts = and_parts (same_place to p) _ h in
           inr (parts.0, not-true _ (subst (λ (o : Option Message). not (is_some o) ≡ true) stays parts.1))
 
--- what a move turns, by where it goes
+-- the places that a move turns, given the place that the message reaches
 pub turned_is : (drivers : List DriverSpec) (c new : Configuration) (from to : Place)
     → next_open_place drivers c from ≡ Some to
     → TurnsOnly drivers c new (either (same_place from) (is_first_at (after_leaving drivers c from) to))
@@ -264,20 +264,20 @@ turned_is drivers c new from to e h = subst
 
 -- ---- what holds of an accepted outcome
 
--- what follows from three properties of an accepted result holds of it, where all three do
+-- a property that follows from three others holds of an accepted result, if the three do
 pub of_three : {X : Type 0} {P Q S R : X → Type 0} (r : Result X Fault) → IfOk r P → IfOk r Q → IfOk r S
     → ((x : X) → r ≡ Ok x → P x → Q x → S x → R x) → IfOk r R
 of_three (Ok x) p q s f = f x refl p q s
 of_three (Err e) p q s f = tt
 
--- what holds of a result if it is accepted holds of an accepted one
+-- a property of a result, if it is accepted, is a property of this accepted result
 pub of_accepted : {X : Type 0} (P : X → Type 0) (r : Result X Fault) (x : X) → r ≡ Ok x → IfOk r P → P x
 of_accepted P (Ok y) x e h = subst P (accepted y x e) h
 of_accepted P (Err g) x e h = absurd cc
 
 -- ---- after a command that was performed
 
--- where all that an accepted command may turn and free was woken, the marks are right after it
+-- after an accepted command the marks are right, if all places that it may turn or free were woken
 enough : (drivers : List DriverSpec) (c : Configuration) (process : ℕ) (k : Command) (m n : Marks) → IsSound drivers c
     → HaveFullPlacesMessages c → AreMarks drivers c m → IfOk (outcome drivers c process k) (λ x.
     IsWoken drivers x.0 (turned_under x.0 (wakes_of drivers c process k))
@@ -295,7 +295,7 @@ enough drivers c process k m n sound filled marks = of_three (outcome drivers c 
       frees_only = f.only;
     }) woken)
 
--- the same, by the test that it was accepted, wherever its reply is written
+-- the same for a command that the test says was accepted; its reply may be written to any place
 pub woken_if : (old new : Machine) (process : ℕ) (k : Command) (answer : Result (Unit {0}) StepError) (r : Reply)
     (w : Wakes) (m n : Marks) → is_ok answer ≡ true → Refines old new process k (answer_of answer r)
     → w ≡ wakes_of old.drivers old.configuration process k → IsSound old.drivers old.configuration
@@ -315,7 +315,7 @@ woken_if old new process k (Ok u) r w m n is refines tells sound filled marks wo
 woken_if old new process k (Err e) r w m n is refines tells sound filled marks woken =
     absurd (false≢true is)
 
--- where it was not accepted, nothing has changed
+-- a command that was not accepted changes nothing
 pub unchanged : (old new : Machine) (process : ℕ) (k : Command) (result : Result Reply StepError)
     → is_ok result ≡ false → Refines old new process k result → new ≡ old
 unchanged old new process k (Ok r) not_ok refines = absurd (false≢true (sym not_ok))
@@ -329,7 +329,7 @@ same_drivers old new process k (Ok r) refines = refines.0
 same_drivers old new process k (Err (step_error.Refused f)) refines = ap (λ (m : Machine). m.drivers) refines.0
 same_drivers old new process k (Err step_error.NoMemory) refines = ap (λ (m : Machine). m.drivers) refines.0
 
--- where its reply is a fault, nothing has changed once messages have moved on
+-- if the reply is a fault, the configuration after settling is the one before the command
 pub fault_keeps : (old mid new : Machine) (process : ℕ) (k : Command) (result : Result Reply StepError) (r : Reply)
     (f : Fault) → result ≡ Ok r → Refines old mid process k result
     → new ≡ record mid { configuration = after_settling mid.drivers mid.configuration }
@@ -344,7 +344,7 @@ fault_keeps old mid new process k result r f is refines settled law fault =
       moved : List DriverSpec → Machine
       moved ds = record { drivers = ds; configuration = after_settling ds mid.configuration }
 
--- a command is accepted, wherever its reply is written
+-- whether a command is accepted doesn't depend on the place to which its reply is written
 pub is_ok_of : (answer : Result (Unit {0}) StepError) (r : Reply) → is_ok (answer_of answer r) ≡ is_ok answer
 is_ok_of (Ok u) r = refl
 is_ok_of (Err e) r = refl
