@@ -105,14 +105,15 @@ pub later_map : {X : Type 0} (R S : X → X → Type 0) (xs : List X) → ((x y 
 later_map R S [] f h = tt
 later_map R S (x ∷ xs) f h = (each_map (R x) (S x) xs (f x) h.0, later_map R S xs f h.1)
 
--- if each element is related to all later ones and to one more, so it is with that one at the end
+-- if each element is related to all later ones and to x, this is still so with x at the end
 pub later_push : {X : Type 0} (R : X → X → Type 0) (xs : List X) (x : X) → AllByRecursion (λ y. R y x) xs
     → AllLater R xs → AllLater R (xs ++ x ∷ [])
 later_push R [] x h r = (tt, tt)
 later_push R (y ∷ ys) x h r = (each_push (R y) ys x h.0 r.0, later_push R ys x h.1 r.1)
 
--- if each element is related to all later ones, so it is after one more is inserted: that one has to be related to
--- the element that it is put before and to all that this one is related to, and the elements before it to that one
+-- If each element is related to all later ones, this is still so after x is inserted, under three conditions. First, x
+-- is related to each element that x comes before. Second, x is related to all elements to which such an element is
+-- related. Third, each other element is related to x.
 pub later_placed : {X : Type 0} (R : X → X → Type 0) (before : X → X → Bool) (x : X)
     → ((y : X) → before x y ≡ true → R x y) → ((y z : X) → before x y ≡ true → R y z → R x z) → (xs : List X)
     → AllByRecursion (λ y. before x y ≡ false → R y x) xs → AllLater R xs → AllLater R (with_inserted before xs x)

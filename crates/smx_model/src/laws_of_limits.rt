@@ -7,8 +7,8 @@ ghost use Rattle.smx_types.specs.declared.driver.DriverSpec.{DriverSpec};
 ghost use Rattle.smx_types.specs.declared.limits.TheConstants.{MAX_DESCRIPTORS, MAX_LINKS, NUMBER_END};
 ghost use Rattle.smx_model.specs.Histories.{after};
 
-/// After any commands there are at most 1,024 links, each process has at most 16 descriptors with numbers below 16,
-/// and the next link's id and the next message's serial are at most 4,294,967,295.
+/// After any commands there are at most 1,024 links, and each process has at most 16 descriptors, with numbers below
+/// 16. The next link's id and the next message's serial are at most 4,294,967,295.
 pub fn limits_hold()
     ensures links { (drivers : List DriverSpec) (history : List Entry)
         → length (after drivers history).links ≤ MAX_LINKS }
