@@ -17,7 +17,8 @@ abbrev pub HasAnyBit : List ℕ → ℕ → Bool → Type 0
 HasAnyBit ws a true = (b : ℕ) × (has_bit ws a b ≡ true)
 HasAnyBit ws a false = (b : ℕ) → has_bit ws a b ≡ false
 
--- driver l, and all drivers that it reaches, are added to what u reaches and to what each driver that reaches u reaches
+-- driver l and all drivers that it reaches are added to those that u reaches, and to those of each driver that reaches
+-- u
 abbrev pub AreJoined : List ℕ → ℕ → ℕ → List ℕ → Type 0
 AreJoined old u l new = (a b : ℕ)
     → has_bit new a b ≡ (has_bit old a b || (((a == u) || has_bit old a u) && ((l == b) || has_bit old l b)))
