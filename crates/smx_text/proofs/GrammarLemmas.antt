@@ -173,13 +173,13 @@ module _ {V K : Type 0} (g : Grammar V K) (made : IsWellMade g) where
 
   -- ---- the place of a result
 
-  -- the results possible where these bytes are left: they have no whole line, or the next line has a result
+  -- the results that are possible if these bytes are left: they have no whole line, or the next line has a result
   abbrev pub Stops : List K → List ℕ → Result V TextFault → Type 0
   Stops lines rest r =
       (IsOneLine rest × (r ≡ Err (record { line = length lines + 2; cause = cause.Cut })))
       ⊎ ((text after : List ℕ) × IsOneLine text × (rest ≡ text ++ LINE_FEED ∷ after) × Answers lines text after r)
 
-  -- where these bytes are left, there is at most one result
+  -- if these bytes are left, there is at most one result
   one_stop : (lines : List K) (rest : List ℕ) (r s : Result V TextFault) → Stops lines rest r
       → Stops lines rest s → r ≡ s
   one_stop lines rest r s (inl (_, e)) (inl (_, k)) = e ∙ sym k

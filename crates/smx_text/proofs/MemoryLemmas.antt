@@ -28,7 +28,7 @@ module _ {V K : Type 0} (g : Grammar V K) (made : IsWellMade g) where
   at_answer lines text after (Ok v) (allowed, e, end, none) = omega (arith, ap (length {A = K}) e)
   at_answer lines text after (Err f) a = at_judgement lines text after f.line f.cause a
 
-  -- a result where bytes are left after these lines is at the next line, or at a later one
+  -- if bytes are left after these lines, a result is at the next line, or at a later one
   at_stop : (lines : List K) (rest : List ℕ) (r : Result V TextFault) → Stops g made lines rest r
       → length lines + 2 ≤ last_line g r
   at_stop lines rest r (inl (one, e)) = omega (arith, ap (last_line g) e)
@@ -58,7 +58,7 @@ module _ {V K : Type 0} (g : Grammar V K) (made : IsWellMade g) where
       absurd (differ (one_cut text (header g) after (texts g made lines ++ rest) one made.header_line (sym is ∙ e)).0)
   placed bytes lines rest r begun e (inr (inr h)) = behind bytes lines rest r begun e h
 
-  -- a line that some allowed value has there comes before the line where any reading except out of memory ends
+  -- a line that some allowed value has there comes before the last line of any reading except out of memory
   pub comes_before : (bytes : List ℕ) (n : ℕ) (r : Result V TextFault) → IsFault g bytes n cause.NoMemory
       → Reads g bytes r
       → IfErr r (λ f. f.cause ≢ cause.NoMemory) → n < last_line g r

@@ -49,32 +49,32 @@ behind : (xs bs vs ws : List TranscriptLine) (k : TranscriptLine) → ws ≡ vs 
     → xs ++ (bs ++ ws) ≡ (xs ++ (bs ++ vs)) ++ k ∷ []
 behind xs bs vs ws k e = rw e (simp append_assoc)
 
--- ---- where a line of a group may follow, the later groups are empty
+-- ---- if a line of a group may follow, the later groups are empty
 
 -- if a test holds together with the test that a list is empty, the test holds and the list is empty
 empty : {A : Type 0} (may : Bool) (xs : List A) → may && eqb (length xs) 0 ≡ true → (xs ≡ []) × (may ≡ true)
 empty may xs h = let p = and_parts may (eqb (length xs) 0) h in (nil_from_length xs (grind (arith, nat_tests)), p.0)
 
 module _ (t : Transcript) where
-  -- where a full place may follow, there is no hung-up stream
+  -- if a full place may follow, there is no hung-up stream
   no_hungs : takes_fulls (draft stage.View t) ≡ true → t.view.hungs ≡ []
   no_hungs h = (empty (takes_hungs (draft stage.View t)) t.view.hungs h).0
 
-  -- where a message may follow, there is no full place and no hung-up stream
+  -- if a message may follow, there is no full place and no hung-up stream
   no_fulls : takes_msgs (draft stage.View t) ≡ true → (t.view.fulls ≡ []) × (t.view.hungs ≡ [])
   no_fulls h = let p = empty (takes_fulls (draft stage.View t)) t.view.fulls h in (p.0, no_hungs p.1)
 
-  -- where a route may follow, there is no line of a later group
+  -- if a route may follow, there is no line of a later group
   no_msgs : takes_routes (draft stage.View t) ≡ true
       → (t.view.msgs ≡ []) × ((t.view.fulls ≡ []) × (t.view.hungs ≡ []))
   no_msgs h = let p = empty (takes_msgs (draft stage.View t)) t.view.msgs h in (p.0, no_fulls p.1)
 
-  -- where a binding may follow, there is no line of a later group
+  -- if a binding may follow, there is no line of a later group
   no_routes : takes_binds (draft stage.View t) ≡ true
       → (t.view.routes ≡ []) × ((t.view.msgs ≡ []) × ((t.view.fulls ≡ []) × (t.view.hungs ≡ [])))
   no_routes h = let p = empty (takes_routes (draft stage.View t)) t.view.routes h in (p.0, no_msgs p.1)
 
-  -- where a link may follow, there is no line of a later group
+  -- if a link may follow, there is no line of a later group
   no_binds : takes_links (draft stage.View t) ≡ true → (t.view.binds ≡ []) × ((t.view.routes ≡ [])
       × ((t.view.msgs ≡ []) × ((t.view.fulls ≡ []) × (t.view.hungs ≡ []))))
   no_binds h = let p = empty (takes_binds (draft stage.View t)) t.view.binds h in (p.0, no_routes p.1)
@@ -149,7 +149,7 @@ abbrev pub run : TranscriptDraft → List TranscriptLine → Option TranscriptDr
 run d [] = Some d
 run d (k ∷ ks) = cond (takes d k && is_line k) (run (with_line d k) ks) None
 
--- what follows a value that passed a test passes the same test
+-- applying a function after a test is the same as applying it under the test
 cond_then : {A B : Type 0} (b : Bool) (o : Option A) (f : A → Option B) → cond b o None >>= f ≡ cond b (o >>= f) None
 cond_then true o f = refl
 cond_then false o f = refl
