@@ -2,9 +2,9 @@
 use Rattle.std.specs.Prelude.{◌≡◌, ◌⊎◌, ℕ, suc, ◌+◌, ◌<◌, ◌^◌, ◌==◌, not, List, length, count_by}
 use Rattle.std.specs.Prelude.{slice_index_or, slice_set}
 
--- A count of numbers, and the owners of the nodes. The first nodes are the numbers. The owner is 0 if the number is in no
--- ring, and otherwise 1 more than the number whose ring it is in. After them comes one node for each ring, at which the
--- ring begins; it is in that ring.
+-- A count of numbers, and the owners of the nodes. The first nodes are the numbers. The owner of a number is 0 if it is
+-- in no ring, and otherwise 1 more than the number whose ring it is in. After them comes one node for each ring, at
+-- which the ring begins; it is in that ring.
 pub record RingTable : Type 0 where
   pub count : ℕ
   pub owners : List ℕ
