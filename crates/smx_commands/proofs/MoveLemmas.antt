@@ -30,7 +30,7 @@ pub drivers_moved : (t q : FlowLists) (from to : Place) → IsSome (first_messag
     → q.drivers ≡ t.drivers
 drivers_moved t q from to some moved = drivers_by t q from to (first_message t.flow from) refl some moved
 
--- where the table of queues is over these drivers, a move there is the model's
+-- if the table of queues is over these drivers, a move in it is the model's move
 same_move : (l : Lists) (ds : List DriverSpec) (p q : Place) (m : Message) → l.queues.drivers ≡ ds
     → configuration_of (record l { queues = after_arrival (after_leaving l.queues p) q m })
     ≡ model.after_arrival ds (model.after_leaving ds (configuration_of l) p) q m
@@ -38,7 +38,7 @@ same_move l ds p q m same = subst (λ (xs : List DriverSpec).
     configuration_of (record l { queues = after_arrival (after_leaving l.queues p) q m })
     ≡ model.after_arrival xs (model.after_leaving xs (configuration_of l) p) q m) same refl
 
--- after a move in the table of queues the first message is where it goes
+-- after a move in the table of queues, the first message is at the place to which it moved
 pub carried : (t : Inside) (m : Machine) (new : FlowLists) (p q : Place) → TablesInvariant t → machine_of t ≡ m
     → IsSome (first_message m.configuration.flow p) → IsMoved t.lists.queues new p q
     → machine_of (record t { lists = record t.lists { queues = new } })
