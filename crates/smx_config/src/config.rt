@@ -186,8 +186,9 @@ impl Config {
         }
     }
 
-    /// Returns the view of the configuration. Fails if an allocation fails. After any commands, the links form no cycle,
-    /// and no stream is below two links. Nothing is left of streams that don't exist, and no message can move on.
+    /// Returns the view of the configuration. Fails if an allocation fails. After any commands, the links form no
+    /// cycle, and no stream is below two links. Nothing is left of streams that don't exist, and no message can move
+    /// on.
     pub fn show(&self) -> Result<ConfigView, NoMemory>
         ensures view { IfOk result (λ v. v ≡ view self.now.drivers self.now.configuration) }
         ensures kept { IsKept self.now.drivers self.now.configuration }
