@@ -105,8 +105,8 @@ pub fn what_is_to_be_run()
     ensures not_elsewhere { IsFirstToRun (knows 1 0 9) → ⊥ }
 {}
 
-/// A process has ended if its seat belongs to the door, the entries that were made with the seat are those of the
-/// process in the history that it has seen, and the front is that of this history.
+/// A process has ended if three conditions hold. Its seat belongs to the door. The entries that were made with the seat
+/// are those of the process in the history that the seat has seen. The front is that of this history.
 pub fn what_has_ended()
     ensures ended { HasEndedOf 0 (knows 0 1 9) (front 1 0 false) }
     ensures ended_among_others { HasEndedOf 1 (knows 1 1 9) (front 1 0 false) }
