@@ -20,8 +20,9 @@ pub record ComesTo {X : Type 0} (rank : X → ℕ × ℕ) (ys xs rest : List X) 
   pub whole : ys ≡ passed ++ rest
   pub before : AllByRecursion (λ x. AreBefore rank x passed) xs
 
--- If `others` follow those of a rising list that come before x and before later elements, then `rest` follow those
--- that come before the later ones, and the text has grown by that of x, unless x is in the list.
+-- A step of the walk along a rising list. Before it, `others` is left of the list, after elements that come before x
+-- and before all later elements. After it, `rest` is left, after elements that come before the later elements. The text
+-- has grown by the text of x, unless x is in the list.
 abbrev pub StepsTo : {X : Type 0} → (X → ℕ × ℕ) → (X → X → Bool) → (X → List ℕ) → X → List X → List X → List ℕ
     → List ℕ → Type 0
 StepsTo {X} rank same text x others rest before after = (ys xs : List X) → IsRanked rank ys

@@ -41,7 +41,7 @@ waits_left drivers c hs = waits_text drivers (filter_map (wait_at drivers c) (pl
 abbrev pub queues_left : List DriverSpec → Configuration → List QueuedMessage → List ℕ
 queues_left drivers c hs = trace_lines_text drivers (queue_lines drivers c hs)
 
--- the text up to now, and the text of what is left, are that of all
+-- the text up to now and the text of the rest are together the whole text
 pub record IsLeft (drivers : List DriverSpec) (flow : List QueuedMessage) (text : List QueuedMessage → List ℕ)
     (start out : List ℕ) (rest : List MessageLine) : Type 0 where
   pub left : List QueuedMessage

@@ -7,7 +7,7 @@ use Rattle.smx_model.specs.DriverList.{IsDriverList}
 use Rattle.smx_model.specs.KeptConfigurations.{IsKept}
 use Rattle.smx_model.specs.Views.{view}
 
--- the view of some configuration over valid drivers that has the invariant, as each one that is reached has
+-- the view of some configuration over valid drivers that has the invariant; each configuration that is reached has it
 pub record IsShown (drivers : List DriverSpec) (v : ConfigView) : Type 0 where
   pub valid_drivers : IsDriverList drivers
   pub configuration : Configuration

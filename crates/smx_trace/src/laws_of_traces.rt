@@ -24,8 +24,8 @@ pub fn a_transcript_has_one_trace()
     a_transcript_has_one_replay();
 }
 
-/// Below each entry of a trace are the changes from the view after the entries before it to the view after it too, and
-/// the waits after it, if they are wanted there.
+/// Below each entry of a trace are the changes from the view before it to the view after it. Below these are the waits
+/// after it, if they are wanted there.
 pub fn changes_are_below_each_entry()
     ensures { (each : Bool) (drivers : List DriverSpec) (before : List Entry) (e : Entry) (more : List Entry)
         → entry_lines_from each drivers empty (before ++ e ∷ more)
