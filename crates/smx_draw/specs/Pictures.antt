@@ -30,8 +30,9 @@ EachIsDrawn element xs output = AllByRecursion (λ x. (at : Area) × HasPart out
 abbrev pub EachHasLine : {X : Type 0} → (Look → X → List ℕ) → List X → List ℕ → Type 0
 EachHasLine text xs output = AllByRecursion (λ x. HasPart output (text Line x)) xs
 
--- the text contains the frame and the row of each driver, the way of each link, the gauge of each queue with messages,
--- and the row of each part of the view; of the messages of a queue those up to the eighth and the number of the others
+-- The text contains the frame and the row of each driver, the way of each link, and the gauge of each queue with
+-- messages. It contains the row of each part of the view; of the messages of a queue, those up to the eighth and the
+-- number of the others.
 pub record HasEachInSvg (table : List DriverSpec) (v : ConfigView) (output : List ℕ) : Type 0 where
   pub frames : EachIsDrawn frame_element table output
   pub ways : EachIsDrawn way_element v.links output
