@@ -180,8 +180,8 @@ IsFixed version choice word values next = IsRow (rows_in version choice) word va
 abbrev pub IsLoneCommand : Version → List ℕ → List Value → Choice → Type 0
 IsLoneCommand version word values next = IsFixed version Command word values Equals × (next ≡ End)
 
--- The word is of another kind: a line of programs may be a command, a line of a transcript may begin with the process
--- of an entry, a line of a session may be a process and a command, and another serial may follow a serial.
+-- The word is of another kind. A line of programs may be a command. A line of a transcript may begin with the process
+-- of an entry. A line of a session may be a process and a command. Another serial may follow a serial.
 abbrev pub IsOther : Version → Choice → List ℕ → List Value → Choice → Type 0
 IsOther version ProgramsLine word values next = IsLoneCommand version word values next
 IsOther version TranscriptLine word values next = IsValue Process word × (values ≡ []) × (next ≡ Command)

@@ -59,8 +59,8 @@ pub fn a_legal_transcript_needs_none()
     replays_are_the_legal_transcripts();
 }
 
-/// Below the verdict that an entry is the first illegal one, the explanation shows its line, by its number in the
-/// text, and the same entry with the reply that the model gives its command after the entries before it.
+/// If an entry is the first illegal one, the explanation shows its line, with the number of the line in the text. It
+/// also shows the same entry with the reply that the model gives its command after the entries before it.
 pub fn an_illegal_entry_is_reported()
     ensures { (t : Transcript) (output : List ℕ) → IsAllowed t.version t → IsExplanation t output
         → (number : ℕ) (first : IsFirstIllegal t.drivers t.entries number)

@@ -1,5 +1,5 @@
-//! Explains a verdict, by the first line in which a transcript and its replay differ, and the fault of a malformed
-//! text, by the column in which its line becomes invalid.
+//! Explains verdicts by the first line in which a transcript and its replay differ, and malformed texts by the column
+//! in which a line becomes invalid.
 #![tactic(auto)]
 
 mod column_words;
