@@ -20,9 +20,9 @@ const MOST_PIECE: usize = 1_048_576;
 const SHARE: usize = 16;
 
 /// Reads all bytes up to the end of the feed, which a read of 0 bytes shows. Fails with `TooLong` exactly if more
-/// than `MAX_INPUT` bytes were read, with `ReadFailed` exactly if a read failed, and else because it is out of memory
-/// before the end was seen. Requests memory for at most `MAX_INPUT` bytes and one. Each read except the last adds at
-/// least one byte, so there are at most `MAX_INPUT` and one of them.
+/// than `MAX_INPUT` bytes were read, and with `ReadFailed` exactly if a read failed. Otherwise fails only if it is out
+/// of memory before the end was seen. Requests memory for at most `MAX_INPUT + 1` bytes. Each read except the last adds
+/// at least one byte, so there are at most `MAX_INPUT + 1` reads.
 pub fn read_all<F: Feed>(alloc: Global, feed: &mut F) -> Result<Vec<u8>, MainFault>
     requires before_the_end { F.ended feed.old ≡ false }
     requires fine_so_far { F.failures feed.old ≡ 0 }

@@ -32,8 +32,8 @@ use smx_trace::laws_of_replays::a_transcript_has_one_replay;
 use smx_trace::laws_of_traces::a_transcript_has_one_trace;
 
 /// A check, with or without an explanation, a replay, a trace, and a run on one worker each have only one answer to an
-/// input, and only one output, unless memory runs out: what succeeds is not refused, and what is refused is refused for
-/// only one fault.
+/// input, and only one output, unless memory runs out. So no input both succeeds and is refused, and a refused input
+/// has only one fault.
 pub fn an_input_has_one_answer()
     ensures checked { (input : List ℕ) (one other : Result (Verdict × List ℕ) MainFault)
         → Answers checking input one → Answers checking input other
