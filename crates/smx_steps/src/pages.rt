@@ -28,10 +28,10 @@ pub const MAX_STEPS: usize = 1_000;
 pub const MAX_PAGE: usize = 33_554_432;
 
 /// Performs the commands of a transcript, each for its process, in order, starting with the empty configuration, and
-/// ignores its replies. Returns a page in HTML: a step for the beginning, and a step for each entry, with its line, the
-/// reply that it gets, its changes, all waits, and a picture of the configuration after it. Keeps two views at a time;
-/// the time for each entry grows with the size of its views. Fails if the page is over a limit, if the drivers are not
-/// valid, or if it is out of memory.
+/// ignores its replies. Returns a page in HTML: a step for the beginning, and a step for each entry. The step of an
+/// entry has its line with the reply that it gets, its changes, all waits, and a picture of the configuration after it.
+/// Keeps two views at a time; the time for each entry grows with the size of its views. Fails if the page is over a
+/// limit, if the drivers are not valid, or if it is out of memory.
 pub fn page(alloc: Global, transcript: Transcript) -> Result<Vec<u8>, PageFault>
     ensures written { IfOk result (λ text. IsPageOf transcript text.items) }
     ensures few { OnOk result (length transcript.entries ≤ MAX_STEPS) }
