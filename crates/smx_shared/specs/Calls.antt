@@ -61,7 +61,7 @@ pub record Meets (old other new : Seated) : Type 0 where
   -- It has seen all that they had seen, and what they knew of their processes is true.
   pub known : AreMetBy (seen_by new.known) new.met
 
--- the call read one word, which is the front of the history that has now been seen; nothing was added
+-- the call read one word: it is this front, which is that of the history that has now been seen; nothing was added
 pub record LooksOnce (old new : Seated) (front : Front) : Type 0 where
   pub looks : new.looks ≡ old.looks + 1
   pub last : new.last ≡ word_of front
@@ -77,7 +77,7 @@ RefusesTry old new try.NoMemory = Refuses old.known new.known apply.NoMemory
 pub record GoesOnFrom (shared : SharedAs) (s : Recorded) : Type 0 where
   pub drivers : s.drivers ≡ shared.start.drivers
   pub limit : s.limit ≡ shared.start.limit
-  -- Each later entry is of a process among which the system was shared.
+  -- Each later entry is of one of the processes among which the system was shared.
   pub history : GoesOnNamed shared.processes shared.start.history s.history
 
 -- the system that is returned to a caller who knew this and had met these seats, whatever other callers did with it
