@@ -132,8 +132,7 @@ impl<K: EntrySink> Shared<K> {
         self.turns.apply(&mut seat.token, seat.process, command)
     }
 
-    /// Gives the first seat everything that the other one has seen, and gives the other one up. Doesn't wait, and takes
-    /// no memory.
+    /// Gives `seat` everything that `other` has seen, and gives `other` up. Doesn't wait, and takes no memory.
     pub fn meet(&self, seat: &mut Seat<K>, other: Seat<K>)
         requires { (seat.old.shared ≡ self.now.name) × (other.shared ≡ self.now.name) }
         ensures rests { Rests seat.old seat.new }
