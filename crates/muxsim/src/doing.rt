@@ -129,8 +129,8 @@ fn explained_check<R: Eprint, F: Feed, S: Sink>(
     }
 }
 
-// Returns the status for what was made of a text of this kind. If that failed, prints the reason on standard error, and
-// if `explain`, also what is wrong with a text that is refused.
+// Returns the status for the outcome of a job whose input is a text of this kind. If the job failed, prints the reason
+// on standard error, and if `explain`, also what is wrong with a text that is refused.
 fn written<R: Eprint>(
     rt: &R,
     kind: TextKind,

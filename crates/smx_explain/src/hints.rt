@@ -36,7 +36,7 @@ impl fmt::Display for Hint {
     }
 }
 
-/// Returns the hint on a word in a column in which another is expected, if there is one. Takes no memory.
+/// Returns the hint on a word, if it has one; `wanted` says what is expected in its column. Takes no memory.
 pub fn hint_of(version: Version, wanted: Wanted, word: &[u8]) -> Option<Hint>
     ensures { IsHintOn version wanted word.now result }
 {

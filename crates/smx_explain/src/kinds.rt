@@ -48,7 +48,7 @@ pub enum Choice {
     Command,
     /// The first word of a session's command.
     SessionCommand,
-    /// Whether a session begins or ends to trace entries.
+    /// Whether a session switches tracing on or off.
     Switch,
     /// The sign between a command and its reply.
     Equals,

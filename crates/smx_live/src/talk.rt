@@ -1,10 +1,9 @@
-//! A live session: its configuration, its progress, and the texts that it answers.
+//! A live session: its configuration, its progress, and the texts of its answers.
 
 ghost use Rattle.std.specs.Prelude.{◌≡◌, ◌+◌, ◌++◌, ◌<◌, ◌⊎◌, [], Some, None, IfOk, IfSome, MatchBool, OnErr, OnOk};
 ghost use Rattle.std.specs.Prelude.{codes};
 ghost use Rattle.smx_live.specs.LiveTurns.{IsAsked};
-ghost use Rattle.smx_live.specs.Turns.{AsksForNeither, IsPerformed, IsTracedView, IsViewOfKept, changes_since};
-ghost use Rattle.smx_live.specs.Turns.{switched};
+ghost use Rattle.smx_live.specs.Turns.{AsksForNeither, IsPerformed, IsTracedView, IsViewOfKept, changes_since, switched};
 ghost use Rattle.smx_live.specs.declared.turn_fault.TurnFault.TheVariants as fault;
 ghost use Rattle.smx_model.specs.Views.{view};
 ghost use Rattle.smx_session.specs.Sessions.{Performs};
@@ -21,7 +20,7 @@ use smx_types::{ConfigView, MAX_COMMANDS, MAX_MESSAGE, NoMemory, Version};
 use smx_words::call_of_line;
 use std::alloc::Global;
 
-/// The progress of a session.
+/// How far a session is.
 #[derive(Clone, Copy, Debug, PartialEq, Eq)]
 pub struct Progress {
     /// The number of its entries.
@@ -36,7 +35,7 @@ const REPLY: usize = 2 * MAX_MESSAGE as usize + 64;
 // Room for the digits of a serial and the space before them.
 const SERIAL: usize = 11;
 
-/// A session, its progress, and a buffer for texts.
+/// A session, how far it is, and a buffer for texts.
 #[derive(Drop)]
 pub struct Talk {
     pub session: Session,
@@ -47,7 +46,7 @@ pub struct Talk {
 /// The kinds of requests that a line can make.
 #[derive(Clone, Copy, Debug, PartialEq, Eq)]
 pub enum Asked {
-    /// Show the configuration, and perhaps begin or end to trace entries.
+    /// Show the configuration; the line may also switch tracing on or off.
     Show,
     /// Write the rest of the transcript.
     End,
@@ -67,7 +66,7 @@ pub fn asked_by(line: &[u8]) -> Asked
     }
 }
 
-// Returns whether a line begins or ends to trace entries.
+// Returns whether a line switches tracing on or off.
 fn is_switch(line: &[u8]) -> bool
     ensures { MatchBool result ((line.now ≡ codes "trace on") ⊎ (line.now ≡ codes "trace off"))
         ((line.now ≡ codes "trace on") ⊎ (line.now ≡ codes "trace off") → ⊥) }
@@ -108,8 +107,8 @@ fn fault_without_room(alloc: Global, version: Version, line: &[u8]) -> TurnFault
 impl Talk {
     /// Reserves room for the line of an entry, performs the command of a line, and makes the line of its entry, with
     /// its changes below it if entries are traced. If the line is refused, returns the reason, and nothing has changed.
-    /// Fails if the reserved room was too small, or if there is no memory for the changes; in that case the command has
-    /// already been performed.
+    /// Fails if the reserved room was too small, or if there is no memory for the changes; in both cases the command
+    /// has already been performed.
     pub fn perform(&mut self, alloc: Global, line: &[u8]) -> Result<Option<TurnFault>, NoMemory>
         requires { AsksForNeither line.now }
         ensures answered { IfOk result (λ o. IsPerformed self.old.session self.old.progress line.now o

@@ -12,8 +12,8 @@ use std::marker::Model;
 #[derive(Debug, Drop)]
 pub struct Rings {
     count: usize,
-    // With n numbers, node i is number i, and the ring of number i begins at node n + i. The entry of a node is 0 if it
-    // is in no ring, and otherwise 1 more than the number of its ring.
+    // For i below `count`, node i stands for number i, and the ring of number i begins at node `count` + i. `owners`
+    // has 0 for a node that is in no ring, and otherwise 1 more than the number of the node's ring.
     owners: Vec<usize>,
     // The node after each node, and the one before it.
     next: Vec<usize>,

@@ -1,9 +1,10 @@
--- The transcripts with which a history agrees.
+-- The transcripts with which a history agrees. Here the transcript of a process is the list of entries that its caller
+-- has kept.
 use Rattle.std.specs.Prelude.{◌≡◌, ◌≢◌, ℕ, ◌<◌, ◌≤◌, List, [], ◌++◌, length, take, Option, Some, None, slice_index_or}
 use Rattle.smx_types.specs.declared.command.Entry.{Entry}
 pub use Rattle.smx_shared.specs.Seats.{entries_of}
 
--- the entries of the process are its transcript; a process past the list has the empty transcript
+-- the entries of the process are its transcript, which is empty if the process is not below the number of transcripts
 abbrev pub IsBorneOut : List Entry → List (List Entry) → ℕ → Type 0
 IsBorneOut history transcripts process = entries_of process history ≡ slice_index_or transcripts process []
 

@@ -1,4 +1,5 @@
-//! Makes a report of a system, if its history agrees with the transcripts of its callers.
+//! Makes a report of a system, if its history agrees with the transcripts of its callers. Here the transcript of a
+//! process is not a text: it is the list of entries that the caller of this process has kept.
 
 ghost use Rattle.std.specs.Prelude.{◌≡◌, ◌≤◌, ◌<◌, ◌↔◌, ℕ, List, [], ◌∷◌, ◌++◌, All, length, replicate};
 ghost use Rattle.std.specs.Prelude.{slice_index_or, IsTrue, IfOk, IfSome, IfNone, Err, None, Some};
@@ -19,9 +20,10 @@ use std::alloc::Global;
 
 const PROCESSES: usize = MAX_PROCESSES as usize;
 
-/// Makes a report of a system, if the transcript of each process has exactly the entries of that process in the
-/// history. A process past the list has the empty transcript. Fails with `Strange` for the lowest process whose
-/// transcript differs, or else because it is out of memory.
+/// Makes a report of a system, if the transcript of each process (the list of entries that its caller has kept) has
+/// exactly the entries of that process in the history. If the number of a process is not below `transcripts.len()`, its
+/// transcript is empty. Fails with `Strange` for the lowest process whose transcript differs, or else because it is out
+/// of memory.
 pub fn gather(alloc: Global, system: System, transcripts: &[Entries]) -> Result<Report, GatherFault>
     requires { length transcripts.now ≤ MAX_PROCESSES }
     ensures report { IfOk result (Reports system) }
@@ -113,7 +115,7 @@ fn is_whole(met: Option<usize>, transcript: &[Entry]) -> bool
     }
 }
 
-// Returns the transcript of a process, or the empty one past the list.
+// Returns the transcript of a process; it is empty if `number` is not below `transcripts.len()`.
 fn transcript_at(transcripts: &[Entries], number: usize) -> &[Entry]
     ensures { result.now ≡ slice_index_or transcripts.now number [] }
 {

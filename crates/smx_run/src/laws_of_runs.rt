@@ -132,8 +132,8 @@ pub fn a_full_history_of_an_example()
     ensures not_full { KnowsItFull (knows 0 1 2) → ⊥ }
 {}
 
-/// A process is strange if its entries are not its transcript, even if it is past the list. Only the lowest strange
-/// process is reported.
+/// A process is strange if its entries are not its transcript, even if the list has no transcript for it. Only the
+/// lowest strange process is reported.
 pub fn strange_processes_of_an_example()
     ensures strange { IsLeastStrange (opened ∷ exited ∷ copied ∷ []) ((opened ∷ copied ∷ []) ∷ []) 1 }
     ensures not_borne_out { IsLeastStrange (opened ∷ exited ∷ copied ∷ [])

@@ -29,7 +29,7 @@ pub enum RunFault {
     LongPage(usize),
 }
 
-/// Why no report was made of a system and the transcripts of its callers.
+/// Why no report was made of a system and the transcripts of its callers (the entries that each has kept).
 #[derive(Clone, Copy, Debug, PartialEq, Eq)]
 pub enum GatherFault {
     /// The entries of this process in the history are not its transcript.

@@ -14,7 +14,8 @@ use smx_types::{Descriptor, MAX_DESCRIPTORS, MAX_PROCESSES, NoMemory, Process, S
 use std::alloc::Global;
 use std::marker::Model;
 
-/// Descriptors by process and number. Contracts see the list, and the number of cells of each process.
+/// Descriptors by process and number. A process has no cells, or one cell for each descriptor number. Contracts see the
+/// list, and how many cells each process has.
 #[derive(Debug, Drop)]
 pub struct Descriptors {
     processes: Vec<DescriptorRow>,
@@ -126,7 +127,7 @@ impl Descriptors {
         Ok(())
     }
 
-    /// Adds a descriptor, which has a cell.
+    /// Adds a descriptor. Its number is free, and the process has a cell for this number.
     pub fn put(&mut self, process: Process, fd: u32, stream: StreamId)
         requires room { fd < slice_index self.old.rooms process }
         requires free { list_any (is_fd process fd) self.old.fds ≡ false }
@@ -147,7 +148,8 @@ impl Descriptors {
         Some(stream)
     }
 
-    /// Returns the first descriptor from this process and number on. Looks at each cell before it.
+    /// Returns the first descriptor from this process and number on. Looks at each cell from there up to the descriptor
+    /// that it returns.
     pub fn next(&self, process: Process, fd: u32) -> Option<Descriptor>
         ensures { IsNext self.now.fds process fd result }
     {

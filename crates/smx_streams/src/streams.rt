@@ -33,7 +33,8 @@ pub struct Streams {
 }
 
 impl Drop for Streams {
-    // Written by hand, so that each exit of a body drops a table with one call, instead of one for each part.
+    // Written by hand, so that a function that owns a table drops it with one call at each of its returns, instead of
+    // one call for each part.
     fn drop(self) {
         let Streams {
             alloc: _,

@@ -20,8 +20,8 @@ pub struct Lists {
 }
 
 impl Drop for Lists {
-    // Written by hand, so that each exit of a body drops the tables with one call, instead of one for each field of
-    // each table.
+    // Written by hand, so that a function that owns the tables drops them with one call at each of its returns, instead
+    // of one call for each field of each table.
     fn drop(self) {
         let Lists {
             streams: _streams,

@@ -109,7 +109,8 @@ pub struct ConfigView {
 }
 
 impl Drop for ConfigView {
-    // Written by hand, so that each exit of a body drops a view with one call, instead of one for each list.
+    // Written by hand, so that a function that owns a view drops it with one call at each of its returns, instead of
+    // one call for each list.
     fn drop(self) {
         let ConfigView {
             next_id: _,

@@ -24,8 +24,8 @@ ghost use Rattle.smx_words.specs.Spelling.{next_words, descriptor_words, link_wo
 ghost use Rattle.smx_words.specs.Spelling.{message_words, full_words, hung_words};
 ghost use Rattle.smx_words.specs.WorkedWords.{a_or_a_b};
 
-/// Any line has a correct reading: a value that can be spelled and has this line, or `None`. `driver_of` and the
-/// other readers return such a reading.
+/// Any line has a correct reading: a value that can be spelled and whose words are this line, or `None` if there is no
+/// such value. `driver_of` and the other readers return such a reading.
 pub fn each_line_has_a_reading()
     ensures driver { (line : List ℕ) → (o : Option DriverSpec) × IsReadAs FitsDriver driver_words line o }
     ensures process { (line : List ℕ) → (o : Option ℕ) × IsReadAs FitsNumber process_words line o }
@@ -62,8 +62,9 @@ pub fn what_is_found_in_bytes()
     ensures too_large_to_be_spelled { IsSpelled FitsNumber decimal (codes "4294967296") → ⊥ }
 {}
 
-/// If bytes start with the word of a value that fits, and a space follows, the reading returns the value and all bytes
-/// after that space. It may not return a value if the bytes can be split in this way at two different spaces.
+/// If bytes start with the word of a value that fits, and a space follows, the reading is the value and all bytes after
+/// that space. But if the bytes can be split in this way at two different spaces, no reading is right: neither a value
+/// nor `None`.
 pub fn what_begins_bytes()
     ensures begins { (rest : Bor (List ℕ)) → rest.now ≡ codes "x y"
         → BeginsWith FitsNumber decimal (codes "7 x y") (Some (7, rest)) }
