@@ -3,14 +3,17 @@
 
 ghost use Rattle.std.specs.Prelude.{◌≡◌, ℕ, Bool, true, false, List, [], Option, Result, Some, Err};
 ghost use Rattle.smx_types.specs.ProgramLists.{ProgramLists};
+ghost use Rattle.smx_types.specs.declared.transcript.Transcript.{Transcript};
 ghost use Rattle.smx_config.specs.declared.verdict.Verdict.{Verdict};
 ghost use Rattle.smx_draw.specs.declared.form.Form.{Form};
+ghost use Rattle.smx_run.specs.declared.run_fault.RunFault.TheVariants.{LongPage};
+ghost use Rattle.smx_steps.specs.Pages.{IsOver};
 ghost use Rattle.smx_filters.specs.CheckText.{ChecksText, checking};
 ghost use Rattle.smx_filters.specs.DrawText.{DrawsText, drawing};
 ghost use Rattle.smx_filters.specs.InMemory.{EndsInMemory, IsCutShort};
 ghost use Rattle.smx_filters.specs.ReplayText.{ReplaysText, replaying};
 ghost use Rattle.smx_filters.specs.RunText.{IsWrittenFor, RunsText, running};
-ghost use Rattle.smx_filters.specs.StepsText.{StepsText, stepping};
+ghost use Rattle.smx_filters.specs.StepsText.{RefusesSteps, StepsText, stepping};
 ghost use Rattle.smx_filters.specs.TraceText.{TracesText, tracing};
 ghost use Rattle.smx_filters.specs.declared.main_fault.MainFault.{MainFault};
 ghost use Rattle.smx_filters.specs.declared.main_fault.MainFault.TheVariants.{ReadFailed};
@@ -114,4 +117,9 @@ pub fn pages_end_in_memory()
         (answer : Result (Unit {0}) MainFault)
         → StepsText (Some input) (Some left) ended 0 (Some []) (Some output) flushed 1 answer
         → IsCutShort stepping input output answer }
+{}
+
+/// A page is refused as too long from some number of entries on only if a page of that many is over a limit.
+pub fn a_page_refused_as_long_is_over_a_limit()
+    ensures { (t : Transcript) (count : ℕ) → RefusesSteps t (LongPage count) → IsOver t count }
 {}

@@ -12,4 +12,5 @@ pub mod OverTableLemmas
 pub mod WorkedLiveLemmas
 pub mod RefusedDriverLemmas
 pub mod RefusedLineLemmas
+pub mod ExplainedLineLemmas
 pub mod TableFaultLemmas

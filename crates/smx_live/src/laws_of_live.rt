@@ -5,6 +5,7 @@ ghost use Rattle.std.specs.Prelude.{◌≡◌, ◌≢◌, ℕ, ◌<◌, ◌≤�
 ghost use Rattle.smx_types.specs.declared.command.Entry.{Entry};
 ghost use Rattle.smx_types.specs.declared.driver.SpecFault.TheVariants.{BadMinors};
 ghost use Rattle.smx_types.specs.declared.limits.TheConstants.{MAX_COMMANDS};
+ghost use Rattle.smx_types.specs.declared.version.Version.{Version as AnyVersion};
 ghost use Rattle.smx_types.specs.declared.version.Version.TheVariants.{V1, V2};
 ghost use Rattle.smx_types.specs.declared.view.ConfigView.{ConfigView};
 ghost use Rattle.smx_model.specs.Worked.Common.{Fd, OpenClone, ◌does◌gets◌, eth};
@@ -232,6 +233,14 @@ pub fn why_lines_are_refused()
     ensures a_command_of_version_2 { IsRefusedFor V2 0 (codes "0 hangup ip 0") NoCommand → ⊥ }
 {
     which_lines_are_calls();
+}
+
+/// The explanation of a line that is refused because it is not a command is never empty.
+pub fn an_unknown_line_is_explained()
+    ensures { (version : AnyVersion) (count : ℕ) (line : List ℕ) → IsRefusedFor version count line NoCommand
+        → IsExplanationOf version line [] → ⊥ }
+{
+    a_line_has_one_explanation();
 }
 
 /// If a text spells programs whose drivers are not valid, the drivers are refused, for their fault. If the drivers are

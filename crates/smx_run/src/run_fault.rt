@@ -11,8 +11,9 @@ use std::fmt;
 pub enum RunFault {
     /// An allocation failed.
     NoMemory,
-    /// A worker's thread could not be started. Prints as `NoMemory` does. No contract knows whether a thread starts, so
-    /// only tests show that a run fails with this then, and not with `NoMemory`.
+    /// A worker's thread could not be started, or there was no memory for what it is given. Prints as `NoMemory` does.
+    /// No contract knows whether a thread starts, so only tests show that a run fails with this then, and not with
+    /// `NoMemory`.
     NoThread,
     /// The entries of the process with this number in the history are not those that its calls returned. By the law
     /// `refusals_have_few_causes`, no run is refused for this.

@@ -16,14 +16,19 @@ use Rattle.smx_steps.specs.declared.page_fault.PageFault.{PageFault}
 use Rattle.smx_steps.specs.declared.page_fault.PageFault.TheVariants.{Refused, TooLong}
 use Rattle.smx_steps.specs.declared.pages.TheConstants.{MAX_PAGE, MAX_STEPS}
 
--- The page of a transcript: a head; the step of the beginning, with the header and the lines of the drivers, and a
--- picture of the empty configuration; a step for each entry of its replay; a foot; and nothing else.
+-- the step of the beginning: its lines are the header and the lines of the drivers, and its picture is that of the empty
+-- configuration
+abbrev pub AddsBeginning : Transcript → List ℕ → List ℕ → Type 0
+AddsBeginning t before after = AddsStep t.drivers (view t.drivers empty) (codes "beginning")
+    (opening_text t.version t.drivers) before after
+
+-- The page of a transcript: a head; the step of the beginning; a step for each entry of its replay; a foot; and nothing
+-- else.
 pub record IsPageOf (t : Transcript) (output : List ℕ) : Type 0 where
   pub replay : Transcript
   pub replays : IsReplayOf t replay
   pub begun : List ℕ
-  pub beginning : AddsStep t.drivers (view t.drivers empty) (codes "beginning") (opening_text t.version t.drivers)
-      HEAD.now begun
+  pub beginning : AddsBeginning t HEAD.now begun
   pub stepped : List ℕ
   pub steps : AddsSteps t.drivers empty 0 replay.entries begun stepped
   pub ends : output ≡ stepped ++ FOOT.now

@@ -23,12 +23,15 @@ pub record AddsStep (drivers : List DriverSpec) (v : ConfigView) (name lines bef
   pub drawn : IsSvgOf drivers v picture
   pub written : after ≡ before ++ step_text name lines picture
 
--- The same for an entry that is performed in this configuration. Its name is its number. Its lines are those of a
--- trace: the entry, its changes and all waits. The picture is that of the view after it.
+-- the lines of an entry that is performed in this configuration: those of a trace with all waits below each entry
+abbrev pub lines_of_step : List DriverSpec → Configuration → Entry → List ℕ
+lines_of_step drivers c e = trace_lines_text drivers (lines_of_entry true drivers c e)
+
+-- The step of such an entry. Its name is its number. The picture is that of the view after it.
 abbrev pub AddsEntry : List DriverSpec → Configuration → ℕ → Entry → List ℕ → List ℕ → Type 0
 AddsEntry drivers c number e before after =
     AddsStep drivers (view drivers (step drivers c e.process e.command).0) (decimal number)
-    (trace_lines_text drivers (lines_of_entry true drivers c e)) before after
+    (lines_of_step drivers c e) before after
 
 -- a step for each of these entries, in order, and nothing else; this number of entries come before them
 abbrev pub AddsSteps : List DriverSpec → Configuration → ℕ → List Entry → List ℕ → List ℕ → Type 0
