@@ -31,8 +31,9 @@ pub enum QueueItem {
     Bytes(u32, u32, u32),
 }
 
-/// Returns the rows of the queues of messages that are sorted by place: each message up to the eighth of its queue, and
-/// for each queue the number of the others and the bytes of all. Fails only if it is out of memory.
+/// Returns the rows of the queues. The messages are given sorted by place. A queue has a row for each of its first
+/// eight messages, one for the number of its other messages, if there are any, and one for the bytes of all. Fails only
+/// if it is out of memory.
 pub fn queue_rows(
     alloc: Global,
     drivers: &[DriverSpec],
@@ -100,7 +101,7 @@ fn row(message: &MessageLine, item: QueueItem) -> QueueRow
     }
 }
 
-// Returns whether the first of these is in the queue of the message.
+// Returns whether the first of `others` is in the same queue as `message`.
 fn goes_on(message: &MessageLine, others: &[MessageLine]) -> bool
     ensures { result ≡ goes_on message.now others.now }
 {

@@ -23,7 +23,8 @@ abbrev pub are_exchanged : List ℕ → List ℕ → Bool
 are_exchanged (a ∷ b ∷ word) (c ∷ d ∷ verb) = nat_eq a d && (nat_eq b c && bytes_eq word verb)
 are_exchanged word verb = false
 
--- One edit at most makes the verb of the word: a byte is replaced, added or left out, or two neighbours are exchanged.
+-- At most one edit turns the word into the verb: a byte is replaced, added or left out, or two neighbours are
+-- exchanged.
 abbrev pub is_near : List ℕ → List ℕ → Bool
 is_near [] [] = true
 is_near [] (v ∷ verb) = bytes_eq [] verb

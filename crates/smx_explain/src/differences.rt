@@ -18,8 +18,8 @@ pub struct Difference<'a> {
     pub has: &'a [u8],
 }
 
-/// Finds the first line in which two texts differ. Returns `None` if the whole lines of both are equal, one by one, up
-/// to the point where one of them has no more. Takes no memory.
+/// Finds the first line in which two texts differ. Returns `None` if no line differs before one of the texts has no
+/// further whole line, that is, none with a line feed. Takes no memory.
 pub fn first_difference<'a>(one: &'a [u8], other: &'a [u8]) -> Option<Difference<'a>>
     ensures { MatchOption result (AreAlike one.now other.now)
         (λ d. IsFirstDifference one.now other.now d.number d.told.now d.has.now) }

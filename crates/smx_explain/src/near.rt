@@ -9,9 +9,9 @@ use crate::kinds::{Choice, Value};
 use crate::rows::{later_rows, rows};
 use smx_types::Version;
 
-/// Returns the first fixed word of a choice that one edit makes of this word: a byte is replaced, added or left out, or
-/// two neighbours are exchanged. A line of programs may also begin with a command, and so may what follows a process in
-/// a session. Returns `None` for an empty word.
+/// Returns the first fixed word of a choice into which at most one edit turns this word: a byte is replaced, added or
+/// left out, or two neighbours are exchanged. At the beginning of a line of programs, and after a process in a session,
+/// the words of the commands are tried too. Returns `None` for an empty word.
 #[tactic(auto, using(crate::proofs::NearLemmas::first_found, crate::proofs::NearLemmas::first_missed))]
 pub fn near_word(version: Version, choice: Choice, word: &[u8]) -> Option<&'static str>
     ensures { MatchOption result (meant version choice word.now ≡ None)
@@ -67,7 +67,7 @@ fn near_row(
     None
 }
 
-// Returns whether one edit at most makes the verb of the word.
+// Returns whether at most one edit turns the word into the verb.
 fn is_near(word: &[u8], verb: &[u8]) -> bool
     ensures { result ≡ is_near word.now verb.now }
 {

@@ -1,4 +1,4 @@
-//! Explains a line of a session that is not a request.
+//! Explains a line that a session can't read.
 
 ghost use Rattle.std.specs.Prelude.{◌≡◌, IfOk, string_bytes};
 ghost use Rattle.smx_explain.specs.ColumnWords.{IsExplanationOf, explanation_text};

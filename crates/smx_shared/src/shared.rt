@@ -143,8 +143,8 @@ impl<K: EntrySink> Shared<K> {
     }
 
     /// Returns the system with its whole history, once its callers have ended. Fails only if a turn was never given
-    /// back, as the front shows; the system is then dropped. Never fails for a seat that has met the seats of all other
-    /// processes. Takes no memory.
+    /// back, as the front in the fault shows; the system is then dropped. Never fails for a seat that has met the seats
+    /// of all other processes. Takes no memory.
     pub fn close(self, seat: Seat<K>) -> Result<System<K>, CloseFault>
         requires { seat.shared ≡ self.name }
         ensures ends { IfOk result (EndsAs seat.known seat.met) }

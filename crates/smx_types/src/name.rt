@@ -100,8 +100,8 @@ fn is_name_byte(byte: u8) -> bool
     byte.is_ascii_lowercase() || byte.is_ascii_digit()
 }
 
-// Returns the number with these bytes, the lowest first, if all of them are allowed in a name. A name is then stored as
-// one number, without a call that copies its few bytes.
+// Returns the number with these bytes, the lowest first, if all of them are allowed in a name. As one number the bytes
+// are stored in one step, without a call that copies them.
 #[inline(always)]
 fn word_of(bytes: &[u8]) -> Option<u64>
     requires { length bytes.now ≤ 8 }
