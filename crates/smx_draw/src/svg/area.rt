@@ -11,3 +11,14 @@ pub struct Area {
     pub bend: u32,
     pub lane: u32,
 }
+
+impl Area {
+    /// Returns the order in which the links of a layer turn, from the lowest to the uppermost.
+    pub fn turn_order(&self) -> u32 {
+        if self.left < self.lane {
+            self.left
+        } else {
+            u32::MAX - self.left
+        }
+    }
+}

@@ -8,7 +8,8 @@ use std::num::Saturating;
 
 impl Plan {
     /// Gives each link its way, after all blocks are placed. Links that begin below a column do so in the order of
-    /// their ends, and the longest one of a layer is uppermost, so few of them cross.
+    /// their ends. Of the links of a layer that go to the right, the rightmost turns uppermost; of those that go to the
+    /// left, the leftmost. So few of them cross.
     pub fn route(&mut self) {
         for at in 0..self.ways.len() {
             self.end_way(at);
@@ -23,7 +24,7 @@ impl Plan {
             .sort_unstable_by_key(|way| (way.upper, way.area.left, way.number));
         self.part_starts();
         self.ways
-            .sort_unstable_by_key(|way| (way.area.left.abs_diff(way.area.lane), way.number));
+            .sort_unstable_by_key(|way| (way.area.turn_order(), way.number));
         for at in 0..self.ways.len() {
             self.bend_way(at);
         }
