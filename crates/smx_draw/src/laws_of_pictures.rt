@@ -8,9 +8,10 @@ ghost use Rattle.smx_draw.specs.Pictures.{HasEachInDot, HasEachInSvg, IsPictureO
 ghost use Rattle.smx_draw.specs.WorkedMissing.{EachIsMissed, NothingIsMissed};
 ghost use Rattle.smx_draw.specs.declared.form.Form.TheVariants.{Dot, Svg};
 
-/// A picture contains an element for each driver and each part of what the transcript shows: for a link its id, its
-/// kind and its controlling stream; for a message its serial, its address and its length. An SVG also contains the id
-/// of the next link and the serial of the next message.
+/// A picture contains an element for each driver and each part of what the transcript shows. The element of a link has
+/// its id, its kind and its controlling stream. Each of the first eight messages of a queue has an element with its
+/// serial, its address and its length, and one element has the number of the others, if there are any. An SVG also
+/// contains the id of the next link and the serial of the next message.
 pub fn each_part_has_its_element()
     ensures svg { (t : Transcript) (output : List ℕ) → IsPictureOf Svg t output → HasEachInSvg t.drivers t.view output }
     ensures next { (t : Transcript) (output : List ℕ) → IsPictureOf Svg t output
@@ -23,7 +24,8 @@ pub fn a_transcript_has_one_text_for_graphviz()
     ensures { (t : Transcript) (one other : List ℕ) → IsPictureOf Dot t one → IsPictureOf Dot t other → one ≡ other }
 {}
 
-/// Containing an element is not a trivial condition: the empty text contains none of a driver or of any kind of line.
+/// It is not a trivial condition that a text contains every part. The empty text doesn't satisfy it for the example
+/// drivers, nor for the example lines of any one kind. If there is no driver and no line, the empty text satisfies it.
 pub fn what_is_not_there_is_missed()
     ensures each { EachIsMissed }
     ensures nothing { NothingIsMissed }

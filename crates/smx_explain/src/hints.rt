@@ -17,7 +17,7 @@ pub enum Hint {
     LaterVersion,
     /// Bytes are expected, and the word consists of hex digits, some of them with capital letters.
     SmallLetters,
-    /// The fixed word into which at most one edit turns it.
+    /// The fixed word into which one edit turns the wrong word.
     Meant(&'static str),
 }
 

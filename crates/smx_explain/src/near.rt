@@ -10,8 +10,9 @@ use crate::rows::{later_rows, rows};
 use smx_types::Version;
 
 /// Returns the first fixed word of a choice into which at most one edit turns this word: a byte is replaced, added or
-/// left out, or two neighbours are exchanged. At the beginning of a line of programs, and after a process in a session,
-/// the words of the commands are tried too. Returns `None` for an empty word.
+/// left out, or two neighbours are exchanged. (A fixed word of the choice needs no edit.) At the beginning of a line of
+/// programs, and after a process in a session, the words of the commands are tried too. Returns `None` for an empty
+/// word.
 #[tactic(auto, using(crate::proofs::NearLemmas::first_found, crate::proofs::NearLemmas::first_missed))]
 pub fn near_word(version: Version, choice: Choice, word: &[u8]) -> Option<&'static str>
     ensures { MatchOption result (meant version choice word.now ≡ None)

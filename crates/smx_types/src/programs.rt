@@ -75,9 +75,8 @@ impl Model for Programs {
 }
 
 impl Programs {
-    /// Makes programs of these drivers and programs, in the earliest version that can express them. Fails
-    /// exactly if there are over 128 drivers, 64 programs or 100,000 commands; `Many` then returns both lists.
-    /// Does not allocate.
+    /// Makes a `Programs` of these two lists, in the earliest version that can express them. Fails exactly if there
+    /// are over 128 drivers, 64 programs or 100,000 commands; `Many` then returns both lists. Does not allocate.
     pub fn new(drivers: Drivers, programs: ProgramList) -> Result<Programs, Many>
         ensures taken { IfOk result (λ p. p ≡ program_lists drivers programs) }
         ensures given_back { IfErr result (λ m. m ≡ record { drivers = drivers; programs = programs }) }

@@ -63,8 +63,8 @@ pub fn what_is_found_in_bytes()
 {}
 
 /// If bytes start with the word of a value that fits, and a space follows, the reading is the value and all bytes after
-/// that space. But if the bytes can be split in this way at two different spaces, no reading is right: neither a value
-/// nor `None`.
+/// that space. But if a spelling may itself contain a space (as in `a_or_a_b`, which spells values as `a` and `a b`),
+/// and the bytes can be split in this way at two different spaces, no reading is right: neither a value nor `None`.
 pub fn what_begins_bytes()
     ensures begins { (rest : Bor (List ℕ)) → rest.now ≡ codes "x y"
         → BeginsWith FitsNumber decimal (codes "7 x y") (Some (7, rest)) }

@@ -30,7 +30,8 @@ pub trait Spell {
     fn write_line(&self, out: &mut Vec<u8>) -> Result<(), NoMemory>
         ensures written { OnOk result (out.new.items
             ≡ out.old.items ++ line_of (words self.now) ++ LINE_FEED ∷ []) }
-        // The type guarantees this, so that the line can be read back.
+        // Each type that implements `Spell` can hold only values that fit, so this needs no test. The clause says that
+        // the line can be read back.
         ensures fits { OnOk result (Fits self.now) };
 }
 

@@ -8,8 +8,8 @@ use std::num::Saturating;
 
 impl Plan {
     /// Gives each link its way, after all blocks are placed. Links that begin below a column do so in the order of
-    /// their ends. Of the links of a layer that go to the right, the rightmost turns uppermost; of those that go to the
-    /// left, the leftmost. So few of them cross.
+    /// their ends. Among the links of a layer that go to the right, the rightmost turns uppermost; among those that go
+    /// to the left, the leftmost does. So few links cross.
     pub fn route(&mut self) {
         for at in 0..self.ways.len() {
             self.end_way(at);
