@@ -1,4 +1,4 @@
-//! Marks for the places that a change wakes.
+//! Sets and clears the run marks and wanted marks (see `marks.rt`) when a change wakes places.
 
 ghost use Rattle.std.specs.Prelude.{◌≡◌, ℕ, ◌<◌, false, true, length, IfSome, IfNone, List};
 ghost use Rattle.smx_types.specs.declared.driver.DriverSpec.{DriverSpec};
@@ -163,7 +163,7 @@ fn release_freed(tables: &Tables, marks: &mut Marks, wakes: Wakes, reply: &Reply
     }
 }
 
-// Marks the number of the place, if the drivers have it.
+// Sets the run mark of the place, if the drivers have the place.
 fn mark_place(tables: &Tables, run: &mut Bits, place: Place)
     requires { run.old.count ≡ length (places_of tables.now.drivers) }
     ensures { IsMarkedWhere tables.now.drivers tables.now.configuration.flow (same_place place) run.old run.new }
@@ -186,7 +186,8 @@ fn mark_turned(tables: &Tables, run: &mut Bits, wakes: Wakes)
     }
 }
 
-// Marks the places that a command with this reply woke, and clears the wanted marks of the places that it freed.
+// Sets the run marks of the places that a command with this reply woke. Clears the wanted marks of the places that it
+// freed.
 pub fn wake(tables: &Tables, marks: &mut Marks, wakes: Wakes, reply: &Reply)
     requires over { AreOver tables.now.drivers marks.old }
     requires listed { IsListed marks.old }

@@ -29,8 +29,9 @@ use std::sync::Wait;
 use std::thread::Threads;
 
 /// Judges the transcript in `feed` as `check_text` does. Writes to `sink` what that writes and, below it, the first
-/// line in which the transcript and its replay differ. Keeps the text if it or its drivers have a fault. Checks for
-/// faults in the order of `check_text`; those of explaining come with those of judging.
+/// line in which the transcript and its replay differ. Keeps the text if it or its drivers have a fault. Reports
+/// faults in the order of `check_text`. A fault of the explaining has the same place in this order as a fault of the
+/// judging.
 pub fn check_explained<F: Feed, S: Sink>(
     alloc: Global,
     feed: &mut F,

@@ -105,10 +105,10 @@ fn fault_without_room(alloc: Global, version: Version, line: &[u8]) -> TurnFault
 }
 
 impl Talk {
-    /// Reserves room for the line of an entry, performs the command of a line, and makes the line of its entry, with
-    /// its changes below it if entries are traced. If the line is refused, returns the reason, and nothing has changed.
-    /// Fails if the reserved room was too small, or if there is no memory for the changes; in both cases the command
-    /// has already been performed.
+    /// Performs the command in `line`. Puts into `text` the line of the new entry and, if entries are traced, the
+    /// entry's changes below it. If `line` is refused, returns the reason, and the session and the progress have not
+    /// changed. Room for the entry's line is reserved before the command is performed. Fails if this room was too
+    /// small, or if there is no memory for the changes; in both cases the command has already been performed.
     pub fn perform(&mut self, alloc: Global, line: &[u8]) -> Result<Option<TurnFault>, NoMemory>
         requires { AsksForNeither line.now }
         ensures answered { IfOk result (λ o. IsPerformed self.old.session self.old.progress line.now o

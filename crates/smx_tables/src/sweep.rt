@@ -53,7 +53,8 @@ fn drop_if_dead(lists: &mut Lists, stream: StreamId, dropped: &mut Vec<u32>)
     }
 }
 
-// Removes the bindings, messages and full marks of streams that don't exist. All such streams are in `seen`.
+// Removes the bindings, messages and full marks of streams that don't exist. Requires that each stream that doesn't
+// exist, but to which something still belongs, is in `seen`.
 #[inline(always)]
 fn drop_dead(lists: &mut Lists, seen: &[StreamId], dropped: &mut Vec<u32>)
     requires kept { KeepsHolds lists.old }

@@ -16,7 +16,7 @@ pub enum Cause {
     Form,
     /// The line is well-formed, but the limit for lines of its kind is reached.
     Many,
-    /// No line feed follows before the input ends, or the input ends before the line `end`.
+    /// The line has no line feed: the input ends within the line, or at its start, before the line `end`.
     Cut,
     /// A byte follows the line `end`.
     Trailing,
