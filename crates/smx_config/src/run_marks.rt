@@ -10,7 +10,7 @@ use smx_commands::Tables;
 use smx_queues::Bits;
 use smx_types::{Place, Side, StreamId};
 
-// Marks the number of the place, if its first message has this address.
+// Sets the run mark of the place, if its first message has this address.
 fn mark_if_asked(tables: &Tables, run: &mut Bits, place: Place, addr: u32)
     requires { run.old.count ≡ length (places_of tables.now.drivers) }
     ensures { IsMarkedIf tables.now.drivers tables.now.configuration addr place run.old run.new }
@@ -22,7 +22,7 @@ fn mark_if_asked(tables: &Tables, run: &mut Bits, place: Place, addr: u32)
     }
 }
 
-// Marks those places on one side of the driver's streams whose first message has this address.
+// Sets the run marks of those places on one side of the driver's streams whose first message has this address.
 fn mark_side(tables: &Tables, run: &mut Bits, driver: u8, side: Side, addr: u32)
     requires { run.old.count ≡ length (places_of tables.now.drivers) }
     ensures { IsMarkedWhere tables.now.drivers tables.now.configuration.flow
@@ -34,7 +34,7 @@ fn mark_side(tables: &Tables, run: &mut Bits, driver: u8, side: Side, addr: u32)
     }
 }
 
-// Marks the write sides of the driver's streams whose first message has this address.
+// Sets the run marks of those write sides of the driver's streams whose first message has this address.
 pub fn mark_writes(tables: &Tables, run: &mut Bits, driver: u8, addr: u32)
     requires { run.old.count ≡ length (places_of tables.now.drivers) }
     ensures { IsMarkedWhere tables.now.drivers tables.now.configuration.flow
@@ -45,8 +45,8 @@ pub fn mark_writes(tables: &Tables, run: &mut Bits, driver: u8, addr: u32)
     }
 }
 
-// Marks the read sides of those streams of the lower driver that are below the upper driver, and whose first message
-// has this address. Looks at no stream if no path leads from the upper driver to the lower one.
+// If a path leads from the upper driver to the lower one, sets the run marks of those read sides of the lower driver's
+// streams whose first message has this address. Otherwise looks at no stream: none is below the upper driver.
 fn mark_reads_of(tables: &Tables, run: &mut Bits, driver: u8, addr: u32, lower: u8)
     requires { run.old.count ≡ length (places_of tables.now.drivers) }
     ensures { IsMarkedWhere tables.now.drivers tables.now.configuration.flow
