@@ -1,8 +1,7 @@
 -- Messages keep their serial, address and bytes from acceptance to delivery.
 use Rattle.std.proofs.Common.{◌≡◌, ◌⊎◌, ℕ, Bool, List, [], ◌∷◌, ◌++◌, Some, Ok, Err, refl}
-use Rattle.std.proofs.Common.{rules, ap, sym, ◌∙◌, subst, inl, inr, arith}
+use Rattle.std.proofs.Common.{rules, ap, sym, ◌∙◌, subst, inl, inr}
 use Rattle.std.specs.List.{All}
-use Rattle.std.specs.List.Sorted.{IsPermutation}
 use Rattle.std.proofs.lemmas.Bool.{cases_Bool}
 use Rattle.smx_types.specs.declared.command.Command.{Command}
 use Rattle.smx_types.specs.declared.command.Command.TheVariants as command
@@ -18,12 +17,9 @@ use Rattle.smx_model.specs.Histories.{after, after_from, IsLegal, IsLegalFrom}
 use Rattle.smx_model.specs.Ordered.{without_first}
 use Rattle.smx_model.specs.Outcomes.{Outcome}
 use Rattle.smx_model.specs.Queues.{first_message, after_leaving}
-use Rattle.smx_model.specs.LawfulHistories.{delivered_by, dropped_by, taken_by, IsTakenIn, Sends}
-use Rattle.smx_model.specs.Removal.{serials}
+use Rattle.smx_model.specs.LawfulHistories.{delivered_by, IsTakenIn, Sends}
 use Rattle.smx_model.specs.Settling.{after_settling}
 use Rattle.smx_model.proofs.SettledLemmas.{MovesKeep, moved_by, settled_by}
-use Rattle.smx_model.proofs.ConservationLemmas.{Goes, goes_step, IsNumbered, numbered_empty, numbered_goes}
-use Rattle.smx_model.proofs.CountLemmas.{permuted, times_append}
 use Rattle.smx_model.proofs.EachLemmas.{each_filter, each_map, each_placed}
 use Rattle.smx_model.proofs.MemberLemmas.{is_first, is_later}
 use Rattle.smx_model.proofs.AcceptedLemmas.{of_rows, taken}
@@ -209,35 +205,3 @@ pub stay_whole : (drivers : List DriverSpec) (history : List Entry) → IsLegal 
 stay_whole drivers history legal = All-from_recursion (λ h. IsTakenIn history h.message) (after drivers history).flow
     (each_map (λ h. ⊥ ⊎ IsTakenIn history h.message) (λ h. IsTakenIn history h.message) (after drivers history).flow
     (λ h k. elim k [ inl none ↦ absurd none | inr t ↦ t ]) (queued_from (λ m. ⊥) drivers empty history tt legal))
-
--- a command keeps, delivers or drops each queued message
-
--- after any entries queued messages have different serials, if they had before
-numbered_from : (drivers : List DriverSpec) (c : Configuration) (es : List Entry) → IsNumbered c
-    → IsNumbered (after_from drivers c es)
-numbered_from drivers c [] h = h
-numbered_from drivers c (e ∷ es) h = numbered_from drivers (step drivers c e.process e.command).0 es
-    (numbered_goes c _ _ h (goes_step drivers c e.process e.command h))
-
--- if no message is lost or duplicated, the accepted and the queued messages are a permutation of those that are then
--- delivered, dropped or queued
-balanced : (c d : Configuration) (r : Reply) → Goes c d r
-    → IsPermutation (taken_by r ++ serials c.flow) (delivered_by r ++ (dropped_by r ++ serials d.flow))
-balanced c d r g =
-    permuted (taken_by r ++ serials c.flow) (delivered_by r ++ (dropped_by r ++ serials d.flow)) (λ n. omega (
-      arith,
-      g.balance n,
-      times_append n (taken_by r) (serials c.flow),
-      times_append n (delivered_by r) (dropped_by r ++ serials d.flow),
-      times_append n (dropped_by r) (serials d.flow),
-    ))
-
--- the queued and the accepted messages are a permutation of those that are then delivered, dropped or queued
-pub go_by_name : (drivers : List DriverSpec) (history : List Entry) (process : ℕ) (k : Command)
-    → IsPermutation (taken_by (step drivers (after drivers history) process k).1
-    ++ serials (after drivers history).flow)
-    (delivered_by (step drivers (after drivers history) process k).1
-    ++ (dropped_by (step drivers (after drivers history) process k).1
-    ++ serials (step drivers (after drivers history) process k).0.flow))
-go_by_name drivers history process k = balanced _ _ _
-    (goes_step drivers (after drivers history) process k (numbered_from drivers empty history numbered_empty))

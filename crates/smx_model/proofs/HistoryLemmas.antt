@@ -1,6 +1,5 @@
 -- Legal histories: their prefixes, their replies are determined, and they are lawful.
 use Rattle.std.proofs.Common.{◌≡◌, ◌≢◌, ℕ, List, [], ◌∷◌, ◌++◌, length, map, refl, sym, ap, ◌∙◌, subst, arith}
-use Rattle.std.proofs.Common.{append-nil, append_assoc}
 use Rattle.std.specs.List.{AllPairs, range_with_len}
 use Rattle.std.proofs.lemmas.List.FromFn.{get_or-range_with_len, length-range_with_len}
 use Rattle.smx_types.specs.declared.command.Command.{Command}
@@ -110,14 +109,3 @@ pub lawful_throughout : (drivers : List DriverSpec) (history : List Entry) → I
     → IsLawfulThroughout drivers history
 lawful_throughout drivers history legal xs ys e =
     lawful drivers xs (prefix_legal drivers xs ys (subst (IsLegal drivers) e legal))
-
--- a history that is lawful throughout is lawful as a whole
-pub whole_lawful : (drivers : List DriverSpec) (history : List Entry) → IsLawfulThroughout drivers history
-    → IsLawful drivers history
-whole_lawful drivers history h = h history [] (sym (append-nil history))
-
--- each prefix of a history that is lawful throughout is lawful throughout
-pub prefix_lawful : (drivers : List DriverSpec) (early late : List Entry) → IsLawfulThroughout drivers (early ++ late)
-    → IsLawfulThroughout drivers early
-prefix_lawful drivers early late h xs ys e =
-    h xs (ys ++ late) (ap (λ (es : List Entry). es ++ late) e ∙ append_assoc xs ys late)

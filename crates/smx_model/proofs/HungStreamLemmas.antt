@@ -1,9 +1,9 @@
 -- The hung-up streams after a command.
 use Rattle.std.proofs.Common.{◌≡◌, ℕ, true, false, List, [], filter, Option, Some, None, Result, Ok, Err, refl}
-use Rattle.std.proofs.Common.{rules, sym, ap, ◌∙◌, subst, inl, inr, ◌*◌, length}
+use Rattle.std.proofs.Common.{rules, sym, ap, ◌∙◌, inl, inr, ◌*◌, length}
 use mathlib.Core.Logic.{◌⊎◌}
 use Rattle.std.specs.Option.{is_some}
-use Rattle.std.proofs.lemmas.Bool.{cases_Bool, both_ways, false_from_ne_true, false≢true, or_cases}
+use Rattle.std.proofs.lemmas.Bool.{false≢true}
 use Rattle.smx_types.specs.Versions.{is_hangup}
 use Rattle.smx_types.specs.declared.command.Command.{Command}
 use Rattle.smx_types.specs.declared.command.Command.TheVariants as command
@@ -13,7 +13,7 @@ use Rattle.smx_types.specs.declared.reply.Reply.TheVariants as reply
 use Rattle.smx_types.specs.declared.stream.Place.{Place}
 use Rattle.smx_types.specs.declared.stream.StreamId.{StreamId}
 use Rattle.smx_model.specs.Commands.{outcome, step, after_outcome, done_outcome}
-use Rattle.smx_model.specs.Configuration.{Configuration, same_stream}
+use Rattle.smx_model.specs.Configuration.{Configuration}
 use Rattle.smx_model.specs.Hangups.{is_hung, with_hung}
 use Rattle.smx_model.specs.KeptConfigurations.{IsKept}
 use Rattle.smx_model.specs.Lookups.{leaf_stream}
@@ -25,17 +25,13 @@ use Rattle.smx_model.specs.Standing.{exists}
 use Rattle.smx_model.specs.Swept.{IsSwept}
 use Rattle.smx_model.proofs.DropLemmas.{done_idle, hung_swept}
 use Rattle.smx_model.proofs.AcceptedLemmas.{of_rows, at_none}
-use Rattle.smx_model.proofs.HungListLemmas.{hung_kept_by, hung_with}
 use Rattle.smx_model.proofs.OutcomeLemmas.{IfAccepted}
 use Rattle.smx_model.proofs.SettledLemmas.{settled_alone}
 use Rattle.smx_model.proofs.LeastMarkedLemmas.{none_is_least, settling_stays}
 use Rattle.smx_model.proofs.SweptLemmas.{leaf_exists, swept_accepted}
-use Rattle.smx_model.proofs.TestLemmas.{any_found, keep_all}
-use Rattle.smx_model.proofs.TurningCommandLemmas.{more_hung_turn_none, hung_more}
-use Rattle.smx_model.proofs.TurningLemmas.{same_stream_is}
+use Rattle.smx_model.proofs.TestLemmas.{keep_all}
+use Rattle.smx_model.proofs.TurningCommandLemmas.{more_hung_turn_none}
 use Rattle.smx_model.proofs.WaitingLemmas.{if_open, movable_by}
-use Rattle.smx_model.proofs.EachLemmas.{each_of_list_all}
-use Rattle.smx_model.proofs.MemberLemmas.{any_filtered}
 use Rattle.smx_types.specs.declared.reply.Reply.{Reply}
 
 -- each command other than a hangup keeps the hung-up streams that exist
@@ -129,96 +125,3 @@ pub hangup_again : (drivers : List DriverSpec) (c : Configuration) (process : �
     → step drivers c process (command.Hangup name minor) ≡ (c, reply.Done [])
 hangup_again drivers c process name minor s h e again = hangup_is drivers c process name minor s h e
     ∙ ap (λ (d : Configuration). (d, reply.Done [])) (hung_kept drivers c s again)
-
--- the command is a hangup of a driver's minor
-record IsHangup (k : Command) : Type 0 where
-  name : List ℕ
-  minor : ℕ
-  is : k ≡ command.Hangup name minor
-
--- a command that is a hangup names a driver and a minor
-hangup_of : (k : Command) → is_hangup k ≡ true → IsHangup k
-hangup_of (command.Hangup name minor) h = record { name = name; minor = minor; is = refl }
-hangup_of k h = absurd (false≢true h)
-
--- afterwards the same streams have hung up, or also one that existed before
-record HangsUp (drivers : List DriverSpec) (c d : Configuration) : Type 0 where
-  either : (d.hungs ≡ c.hungs) ⊎ ((s : StreamId) × (exists drivers c s ≡ true) × (d.hungs ≡ with_hung s c.hungs))
-
--- after a hangup the same streams have hung up as before, or also one that exists
-hangup_leaves : (drivers : List DriverSpec) (c : Configuration) (process : ℕ) (name : List ℕ) (minor : ℕ)
-    → IsKept drivers c → HangsUp drivers c (step drivers c process (command.Hangup name minor)).0
-hangup_leaves drivers c process name minor h = by (leaf_stream drivers c name minor) refl where
-  by : (r : Result StreamId Fault) → leaf_stream drivers c name minor ≡ r
-      → HangsUp drivers c (step drivers c process (command.Hangup name minor)).0
-  by (Ok s) e =
-      record {
-        either = inr (
-          s,
-          leaf_exists drivers c name minor s e,
-          ap (λ (x : Configuration × Reply). x.0.hungs) (hangup_is drivers c process name minor s h e),
-        );
-      }
-  by (Err f) e =
-      record {
-        either = inl
-            (ap (λ (r : Result StreamId Fault).
-            (after_outcome drivers c
-            (r >>= (λ s. done_outcome drivers c (record c { hungs = with_hung s c.hungs })))).0.hungs) e);
-      }
-
--- a hung-up stream that exists after a command is still hung up after it
-pub hung_stays : (drivers : List DriverSpec) (c : Configuration) (process : ℕ) (k : Command) (s : StreamId)
-    → IsKept drivers c → is_hung c.hungs s ≡ true → exists drivers (step drivers c process k).0 s ≡ true
-    → is_hung (step drivers c process k).0.hungs s ≡ true
-hung_stays drivers c process k s h was there = elim (cases_Bool (is_hangup k)) [
-  | inr other ↦ ap (λ (hs : List StreamId). is_hung hs s) (others_leave_hungs drivers c process k h.sound.swept other)
-      ∙ (hung_kept_by (λ t. exists drivers (step drivers c process k).0 t) s c.hungs ∙ rw there was)
-  | inl hangs_up ↦ let w = hangup_of k hangs_up in
-      subst (λ (x : Command). is_hung (step drivers c process x).0.hungs s ≡ true) (sym w.is) (more w.name w.minor)
-] where
-  by : (d : Configuration) → (d.hungs ≡ c.hungs)
-      ⊎ ((t : StreamId) × (exists drivers c t ≡ true) × (d.hungs ≡ with_hung t c.hungs)) → is_hung d.hungs s ≡ true
-  by d (inl e) = rw e was
-  by d (inr (t, x, e)) = rw e (hung_more t s c.hungs was)
-
-  more : (name : List ℕ) (minor : ℕ) → is_hung (step drivers c process (command.Hangup name minor)).0.hungs s ≡ true
-  more name minor =
-      by (step drivers c process (command.Hangup name minor)).0 (hangup_leaves drivers c process name minor h).either
-
--- in a swept configuration each stream that has hung up exists
-hung_exists : (drivers : List DriverSpec) (c : Configuration) (s : StreamId) → IsSwept drivers c
-    → is_hung c.hungs s ≡ true → exists drivers c s ≡ true
-hung_exists drivers c s h e =
-    let f = any_found (λ t. same_stream t s) (λ t. exists drivers c t ≡ true) c.hungs
-    (each_of_list_all (λ t. exists drivers c t) (λ t. exists drivers c t ≡ true) c.hungs (λ t p. p) h.hungs) e in
-    subst (λ (x : StreamId). exists drivers c x ≡ true) (same_stream_is f.one s f.passes) f.has
-
--- a stream that didn't exist before a command is not hung up after it
-pub hung_anew : (drivers : List DriverSpec) (c : Configuration) (process : ℕ) (k : Command) (s : StreamId)
-    → IsKept drivers c → exists drivers c s ≡ false → is_hung (step drivers c process k).0.hungs s ≡ false
-hung_anew drivers c process k s h gone =
-    false_from_ne_true _ (λ now. both_ways (exists drivers c s) gone (elim (cases_Bool (is_hangup k)) [
-      | inr other ↦ hung_exists drivers c s h.sound.swept
-          (any_filtered (λ t. same_stream t s) (λ t. exists drivers (step drivers c process k).0 t) c.hungs
-          (sym (ap (λ (hs : List StreamId). is_hung hs s) (others_leave_hungs drivers c process k h.sound.swept other))
-          ∙ now))
-      | inl hangs_up ↦ let w = hangup_of k hangs_up in
-          there w.name w.minor (subst (λ (x : Command). is_hung (step drivers c process x).0.hungs s ≡ true) w.is now)
-    ])) where
-      by : (d : Configuration) → (d.hungs ≡ c.hungs)
-          ⊎ ((t : StreamId) × (exists drivers c t ≡ true) × (d.hungs ≡ with_hung t c.hungs)) → is_hung d.hungs s ≡ true
-          → exists drivers c s ≡ true
-      by d (inl e) now = hung_exists drivers c s h.sound.swept (rw e at now)
-      by d (inr (t, x, e)) now =
-          elim (or_cases (same_stream t s) (is_hung c.hungs s) (sym (hung_with t s c.hungs) ∙ rw e at now)) [
-            | inl same ↦ subst (λ (y : StreamId). exists drivers c y ≡ true) (same_stream_is t s same) x
-            | inr was ↦ hung_exists drivers c s h.sound.swept was
-          ]
-
-      there : (name : List ℕ) (minor : ℕ) → is_hung (step drivers c process (command.Hangup name minor)).0.hungs s
-          ≡ true
-          → exists drivers c s ≡ true
-      there name minor now =
-          by (step drivers c process (command.Hangup name minor)).0
-          (hangup_leaves drivers c process name minor h).either now

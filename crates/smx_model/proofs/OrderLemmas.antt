@@ -53,14 +53,6 @@ same_self p = grind (arith, nat_tests)
 pub same_not_before : (p : Place) → place_before p p ≡ false
 same_not_before p = grind (arith, nat_tests)
 
--- a message, queued at a place
-abbrev queued_at : Place → Message → QueuedMessage
-queued_at p m = record { place = p; message = m }
-
--- a list with a first message is not empty
-not_empty : (m : Message) (ms : List Message) → m ∷ ms ≡ [] → ⊥
-not_empty m ms e = cc
-
 -- order is kept
 
 -- a flow in order stays in order after a message is inserted by its place
@@ -103,48 +95,6 @@ queue_elsewhere (k ∷ hs) h q apart_ = elim (cases_Bool (queued_before h k)) [
     | inr not_q ↦ rw (f, not_q) (queue_elsewhere hs h q apart_)
   ]
 ]
-
--- one flow for given queues
-
--- if two lists of messages are equal, they are equal without their first messages
-same_tails : (m n : Message) (xs ys : List Message) → m ∷ xs ≡ n ∷ ys → xs ≡ ys
-same_tails m n xs ys e = cc
-
--- two queued messages with the same place and the same message are equal
-queued_is : (h k : QueuedMessage) → h.place ≡ k.place → h.message ≡ k.message → h ≡ k
-queued_is h k e f = ap (λ (p : Place). queued_at p h.message) e ∙ ap (queued_at k.place) f
-
--- two flows in order with the same queue at each place are equal
-pub one_flow : (xs ys : List QueuedMessage) → IsInOrder xs → IsInOrder ys → ((p : Place) → queue xs p ≡ queue ys p)
-    → xs ≡ ys
-one_flow [] [] o u same = refl
-one_flow [] (k ∷ ys) o u same =
-    let e = same k.place in let f : [] ≡ k.message ∷ queue ys k.place = rw (same_self k.place) at e in cc
-one_flow (h ∷ xs) [] o u same =
-    let e = same h.place in let f : h.message ∷ queue xs h.place ≡ [] = rw (same_self h.place) at e in cc
-one_flow (h ∷ xs) (k ∷ ys) o u same = elim (cases_Bool (same_place h.place k.place)) [
-  | inl t ↦
-      let place : h.place ≡ k.place = same_place_is h.place k.place t in
-      let e = same k.place in
-      let f : h.message ∷ queue xs k.place ≡ k.message ∷ queue ys k.place = rw (t, same_self k.place) at e in
-      let message : h.message ≡ k.message = cc in
-      let head : h ≡ k = queued_is h k place message in
-      ap (λ (x : QueuedMessage). x ∷ xs) head ∙ ap (λ (zs : List QueuedMessage). k ∷ zs)
-      (one_flow xs ys o.1 u.1 (rest head))
-  | inr not_same ↦ elim (cases_Bool (place_before h.place k.place)) [
-    | inl t ↦ let e = same h.place in let g = none_queued h (k ∷ ys) k t (same_not_before k.place, u.0) in
-        let f : h.message ∷ queue xs h.place ≡ queue (k ∷ ys) h.place = rw (same_self h.place) at e in
-        absurd (not_empty h.message (queue xs h.place) (f ∙ g))
-    | inr w ↦ let t = place_either h.place k.place not_same w in let e = same k.place in
-        let g = none_queued k (h ∷ xs) h t (same_not_before h.place, o.0) in
-        let f : queue (h ∷ xs) k.place ≡ k.message ∷ queue ys k.place = rw (same_self k.place) at e in
-        absurd (not_empty k.message (queue ys k.place) (sym f ∙ g))
-  ]
-] where
-  rest : h ≡ k → (p : Place) → queue xs p ≡ queue ys p
-  rest head p = let s = subst (λ (x : QueuedMessage). queue (x ∷ xs) p ≡ queue (k ∷ ys) p) head (same p) in
-      elim (cases_Bool (is_at p k))
-      [ inl t ↦ same_tails k.message k.message (queue xs p) (queue ys p) (rw t at s) | inr f ↦ rw f at s ]
 
 -- a move keeps the flow in order of places
 pub order_moved : (drivers : List DriverSpec) (c : Configuration) (p : Place) → IsInOrder c.flow

@@ -1,5 +1,5 @@
 -- No accepted outcome has a fault as its reply.
-use Rattle.std.proofs.Common.{◌≡◌, ◌↔◌, ℕ, Bool, true, false, List, Ok, Err, refl, rules, sym, ap, ◌∙◌}
+use Rattle.std.proofs.Common.{◌≡◌, ℕ, Bool, true, false, List, Ok, Err, refl, rules, sym, ap, ◌∙◌}
 use Rattle.std.proofs.lemmas.Bool.{false≢true}
 use Rattle.smx_types.specs.declared.command.Command.{Command}
 use Rattle.smx_types.specs.declared.driver.DriverSpec.{DriverSpec}
@@ -44,14 +44,3 @@ refused_same drivers c process k f e = by (outcome drivers c process k) (answers
   by : (o : Outcome) → IsAnswered o → (after_outcome drivers c o).1 ≡ reply.Fault f → (after_outcome drivers c o).0 ≡ c
   by (Ok x) h e = absurd (false≢true (sym h.holds ∙ ap is_fault e))
   by (Err g) h e = refl
-
--- the reply to a command is a fault exactly if the command is refused with the same fault
-pub fault_is_refusal : (drivers : List DriverSpec) (c : Configuration) (process : ℕ) (k : Command) (f : Fault)
-    → ((step drivers c process k).1 ≡ reply.Fault f ↔ outcome drivers c process k ≡ Err f)
-fault_is_refusal drivers c process k f = by (outcome drivers c process k) (answers_accepted drivers c process k) where
-  same_fault : {g : Fault} → reply.Fault g ≡ reply.Fault f → g ≡ f
-  same_fault e = cc
-
-  by : (o : Outcome) → IsAnswered o → ((after_outcome drivers c o).1 ≡ reply.Fault f ↔ o ≡ Err f)
-  by (Ok x) h = (λ e. absurd (false≢true (sym h.holds ∙ ap is_fault e)), λ e. absurd cc)
-  by (Err g) h = (λ e. ap Err (same_fault e), λ e. cc)

@@ -1,17 +1,15 @@
 -- Properties that moves and settling preserve, and parts that they don't change.
 use Rattle.std.proofs.Common.{◌≡◌, ℕ, zero, suc, List, [], ◌∷◌, Option, Some, None, Ok, Err, refl, ◌∙◌}
-use Rattle.std.proofs.Common.{Bool, true, false, Result, subst, sym}
 use Rattle.smx_types.specs.declared.command.Command.{Command}
 use Rattle.smx_types.specs.declared.command.Entry.{Entry}
 use Rattle.smx_types.specs.declared.driver.DriverSpec.{DriverSpec}
-use Rattle.smx_types.specs.declared.reply.Fault.{Fault}
 use Rattle.smx_types.specs.declared.message.Message.{Message}
 use Rattle.smx_types.specs.declared.stream.Place.{Place}
 use Rattle.smx_model.specs.Configuration.{Configuration}
 use Rattle.smx_model.specs.Queues.{after_arrival, after_leaving, first_message}
 use Rattle.smx_model.specs.Commands.{after_outcome, outcome, step}
 use Rattle.smx_model.specs.Histories.{after_from}
-use Rattle.smx_model.specs.Outcomes.{Outcome, ◌>>=◌, refuse}
+use Rattle.smx_model.specs.Outcomes.{Outcome}
 use Rattle.smx_model.specs.Settling.{after_move, after_move_to, after_settling_within, least_movable, next_open_place}
 use Rattle.smx_model.proofs.OutcomeLemmas.{IfAccepted}
 
@@ -50,20 +48,6 @@ after_by P drivers c (e ∷ es) k f h = after_by P drivers (step drivers c e.pro
       by : (o : Outcome) → IfAccepted (λ d r. P d) o → P (after_outcome drivers c o).0
       by (Ok x) m = settled_by P drivers _ x.0 k m.holds
       by (Err g) m = h
-
--- P holds after a look-up that finds a value, if it holds after the steps with that value
-pub after_found : {A : Type 0} (P : Configuration → Type 0) (drivers : List DriverSpec) (c : Configuration)
-    (r : Result A Fault) (x : A) (f : A → Outcome) → r ≡ Ok x → P (after_outcome drivers c (f x)).0
-    → P (after_outcome drivers c (r >>= f)).0
-after_found {A} P drivers c r x f e h =
-    subst (λ (r : Result A Fault). P (after_outcome drivers c (r >>= f)).0) (sym e) h
-
--- P holds after a refusal by a test, if it holds before it when the test passes, and after it when the test fails
-pub after_refusal : (P : Configuration → Type 0) (drivers : List DriverSpec) (c : Configuration) (g : Fault) (b : Bool)
-    (f : Unit {0} → Outcome) → (b ≡ true → P c) → (b ≡ false → P (after_outcome drivers c (f tt)).0)
-    → P (after_outcome drivers c (refuse g b >>= f)).0
-after_refusal P drivers c g true f h k = h refl
-after_refusal P drivers c g false f h k = k refl
 
 -- only messages and full marks change
 pub record ChangesQueuesAlone (c d : Configuration) : Type 0 where

@@ -15,7 +15,6 @@ pub mod LeastMovable
 pub mod Waits
 pub mod RunMarks
 pub mod Removal
-pub mod MeantLinks
 pub mod Outcomes
 pub mod Lookups
 pub mod TurnedPlaces

@@ -4,10 +4,8 @@ ghost use Rattle.std.specs.Prelude.{◌≡◌, ◌++◌, List, [], ◌∷◌, ma
 ghost use Rattle.smx_types.specs.declared.command.Entry.{Entry};
 ghost use Rattle.smx_types.specs.declared.driver.DriverSpec.{DriverSpec};
 ghost use Rattle.smx_model.specs.Commands.{step};
-ghost use Rattle.smx_model.specs.Configuration.{fd_before};
 ghost use Rattle.smx_model.specs.Histories.{after, call_of, IsLegal};
-ghost use Rattle.smx_model.specs.LawfulHistories.{IsLawful, IsLawfulThroughout};
-ghost use Rattle.smx_model.specs.Ordered.{IsRising};
+ghost use Rattle.smx_model.specs.LawfulHistories.{IsLawfulThroughout};
 
 /// A prefix of a legal history is legal.
 #[tactic(auto, using(crate::proofs::HistoryLemmas::prefix_legal))]
@@ -33,28 +31,9 @@ pub fn histories_are_determined()
         → map call_of one ≡ map call_of other → one ≡ other }
 {}
 
-/// A legal history is lawful. At its end there is no cycle, and no stream is below two links. Each message that was
-/// accepted was delivered, was dropped or is queued, exactly one of these, once.
-pub fn legal_histories_are_lawful()
-    ensures { (drivers : List DriverSpec) (history : List Entry) → IsLegal drivers history → IsLawful drivers history }
-{}
-
-/// Each prefix of a legal history is lawful too, so the history is lawful after each entry.
+/// A legal history is lawful after each entry. Then there is no cycle, and no stream is below two links. Each message
+/// that was accepted was delivered, was dropped or is queued, exactly one of these, once.
 pub fn lawful_after_each_entry()
     ensures { (drivers : List DriverSpec) (history : List Entry) → IsLegal drivers history
         → IsLawfulThroughout drivers history }
-{}
-
-/// If a history is lawful after each entry, it is lawful as a whole, and each of its prefixes is lawful
-/// after each entry.
-pub fn prefixes_are_lawful()
-    ensures whole { (drivers : List DriverSpec) (history : List Entry) → IsLawfulThroughout drivers history
-        → IsLawful drivers history }
-    ensures prefixes { (drivers : List DriverSpec) (early late : List Entry)
-        → IsLawfulThroughout drivers (early ++ late) → IsLawfulThroughout drivers early }
-{}
-
-/// After any commands the open descriptors are in the order in which they are shown, so there are no duplicates.
-pub fn descriptors_rise()
-    ensures { (drivers : List DriverSpec) (history : List Entry) → IsRising fd_before (after drivers history).fds }
 {}

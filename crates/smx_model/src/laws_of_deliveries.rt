@@ -2,15 +2,11 @@
 
 ghost use Rattle.std.specs.Prelude.{◌≡◌, ℕ, List, [], ◌∷◌, ◌++◌};
 ghost use Rattle.std.specs.List.{All};
-ghost use Rattle.std.specs.List.Sorted.{IsPermutation};
-ghost use Rattle.smx_types.specs.declared.command.Command.{Command};
 ghost use Rattle.smx_types.specs.declared.command.Entry.{Entry};
 ghost use Rattle.smx_types.specs.declared.driver.DriverSpec.{DriverSpec};
 ghost use Rattle.smx_types.specs.declared.reply.Reply.TheVariants as reply;
-ghost use Rattle.smx_model.specs.Commands.{step};
 ghost use Rattle.smx_model.specs.Histories.{after, IsLegal};
-ghost use Rattle.smx_model.specs.LawfulHistories.{delivered_by, dropped_by, taken_by, IsTakenIn};
-ghost use Rattle.smx_model.specs.Removal.{serials};
+ghost use Rattle.smx_model.specs.LawfulHistories.{IsTakenIn};
 ghost use Rattle.smx_model.specs.Worked.Unlawful.{opened, wrote};
 
 /// A message arrives whole: a delivered message has the serial, the address and the bytes of an earlier entry. The
@@ -32,17 +28,4 @@ pub fn others_were_not_taken_in()
     ensures other_address { IsTakenIn (opened ∷ wrote ∷ []) (record { serial = 1; addr = 6; bytes = 170 ∷ [] }) → ⊥ }
     ensures other_bytes { IsTakenIn (opened ∷ wrote ∷ []) (record { serial = 1; addr = 5; bytes = 187 ∷ [] }) → ⊥ }
     ensures no_entry { IsTakenIn (opened ∷ []) (record { serial = 1; addr = 5; bytes = 170 ∷ [] }) → ⊥ }
-{}
-
-/// A message leaves only by a reply that names it. After any commands, take the messages that are queued, and the one
-/// that the next command accepts, if any. Either the reply to that command delivers or drops such a message, or the
-/// message is queued afterwards; exactly one of these, once.
-#[tactic(auto, using(crate::proofs::DeliveryLemmas::go_by_name))]
-pub fn messages_go_by_name()
-    ensures { (drivers : List DriverSpec) (history : List Entry) (process : ℕ) (k : Command)
-        → IsPermutation
-        (taken_by (step drivers (after drivers history) process k).1 ++ serials (after drivers history).flow)
-        (delivered_by (step drivers (after drivers history) process k).1
-        ++ (dropped_by (step drivers (after drivers history) process k).1
-        ++ serials (step drivers (after drivers history) process k).0.flow)) }
 {}

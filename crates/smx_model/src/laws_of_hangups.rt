@@ -1,6 +1,6 @@
 //! Laws of devices that hang up, each the contract of a function that does nothing.
 
-ghost use Rattle.std.specs.Prelude.{◌≡◌, ℕ, Bool, true, false, ◌&&◌, ◌||◌, List, [], filter, Ok};
+ghost use Rattle.std.specs.Prelude.{◌≡◌, ℕ, true, false, List, [], filter, Ok};
 ghost use Rattle.std.specs.List.{list_any};
 ghost use Rattle.smx_types.specs.ProgramLists.{ProgramLists};
 ghost use Rattle.smx_types.specs.Versions.{is_hangup, is_of_hangup, least_of_programs, least_of_transcript};
@@ -13,13 +13,12 @@ ghost use Rattle.smx_types.specs.declared.stream.StreamId.{StreamId};
 ghost use Rattle.smx_types.specs.declared.transcript.Transcript.{Transcript};
 ghost use Rattle.smx_types.specs.declared.version.Version.TheVariants.{V1};
 ghost use Rattle.smx_model.specs.Commands.{step};
-ghost use Rattle.smx_model.specs.Configuration.{Configuration, same_stream, stream_before};
+ghost use Rattle.smx_model.specs.Configuration.{Configuration};
 ghost use Rattle.smx_model.specs.Hangups.{is_hung, with_hung};
 ghost use Rattle.smx_model.specs.Headline.{IsReportOf};
 ghost use Rattle.smx_model.specs.Histories.{after, IsLegal};
 ghost use Rattle.smx_model.specs.KeptConfigurations.{IsKept};
 ghost use Rattle.smx_model.specs.Lookups.{leaf_stream};
-ghost use Rattle.smx_model.specs.Ordered.{IsRising};
 ghost use Rattle.smx_model.specs.Standing.{exists};
 
 /// A hangup drops and moves nothing: afterwards its stream is hung up, and everything else is unchanged. A second
@@ -42,18 +41,6 @@ pub fn hung_up_streams_go_with_their_end()
         ≡ filter (λ s. exists drivers (step drivers c process k).0 s) c.hungs }
 {}
 
-/// So a hung-up stream stays hung up as long as it exists, whatever the command. A stream that did not exist before a
-/// command, such as one that is opened anew, is not hung up.
-#[tactic(auto, using(crate::proofs::HungStreamLemmas::hung_stays, crate::proofs::HungStreamLemmas::hung_anew))]
-pub fn hung_up_streams_stay_so()
-    ensures stays { (drivers : List DriverSpec) (c : Configuration) (process : ℕ) (k : Command) (s : StreamId)
-        → IsKept drivers c → is_hung c.hungs s ≡ true → exists drivers (step drivers c process k).0 s ≡ true
-        → is_hung (step drivers c process k).0.hungs s ≡ true }
-    ensures anew { (drivers : List DriverSpec) (c : Configuration) (process : ℕ) (k : Command) (s : StreamId)
-        → IsKept drivers c → exists drivers c s ≡ false
-        → is_hung (step drivers c process k).0.hungs s ≡ false }
-{}
-
 /// A history without a hangup has no end of file, and no refusal because of a hangup. At its end no stream is hung up.
 pub fn without_a_hangup_none_is_reported()
     ensures replies { (drivers : List DriverSpec) (history : List Entry) → IsLegal drivers history
@@ -67,19 +54,4 @@ pub fn without_a_hangup_none_is_reported()
 pub fn reports_need_no_later_version()
     ensures { (programs : ProgramLists) (report : Transcript) → IsReportOf programs report
         → least_of_programs programs.drivers programs.programs ≡ V1 → least_of_transcript report ≡ V1 }
-{}
-
-/// Two ordered lists of hung-up streams are equal if they contain the same streams. A list stays in order if a stream
-/// is added or the list is filtered. It then has exactly the streams that are expected.
-pub fn hung_up_streams_make_the_list()
-    ensures same { (xs ys : List StreamId) → IsRising stream_before xs → IsRising stream_before ys
-        → ((s : StreamId) → is_hung xs s ≡ is_hung ys s) → xs ≡ ys }
-    ensures more { (s : StreamId) (hungs : List StreamId) → IsRising stream_before hungs
-        → IsRising stream_before (with_hung s hungs) }
-    ensures fewer { (keep : StreamId → Bool) (hungs : List StreamId) → IsRising stream_before hungs
-        → IsRising stream_before (filter keep hungs) }
-    ensures each_of_more { (s t : StreamId) (hungs : List StreamId)
-        → is_hung (with_hung s hungs) t ≡ (same_stream s t || is_hung hungs t) }
-    ensures each_of_fewer { (keep : StreamId → Bool) (s : StreamId) (hungs : List StreamId)
-        → is_hung (filter keep hungs) s ≡ (keep s && is_hung hungs s) }
 {}

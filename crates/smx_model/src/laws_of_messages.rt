@@ -4,7 +4,6 @@ ghost use Rattle.std.specs.Prelude.{◌≡◌, List, length};
 ghost use Rattle.std.specs.List.{range_with_len};
 ghost use Rattle.smx_types.specs.declared.command.Entry.{Entry};
 ghost use Rattle.smx_types.specs.declared.driver.DriverSpec.{DriverSpec};
-ghost use Rattle.smx_model.specs.FlowOrder.{IsInOrder};
 ghost use Rattle.smx_model.specs.Histories.{after, IsLegal};
 ghost use Rattle.smx_model.specs.LawfulHistories.{taken_serials, AreDropsAllowed};
 ghost use Rattle.smx_model.specs.Settling.{IsSettled};
@@ -25,9 +24,4 @@ pub fn few_commands_drop()
 /// After any commands no message can move: the moves of settling suffice.
 pub fn settling_ends()
     ensures { (drivers : List DriverSpec) (history : List Entry) → IsSettled drivers (after drivers history) }
-{}
-
-/// After any commands the flow is in order of places.
-pub fn flow_is_in_order()
-    ensures { (drivers : List DriverSpec) (history : List Entry) → IsInOrder (after drivers history).flow }
 {}

@@ -1,22 +1,18 @@
 //! Laws of single commands, each the contract of a function that does nothing.
 
-ghost use Rattle.std.specs.Prelude.{◌≡◌, ◌≢◌, ◌↔◌, ◌⊎◌, ℕ, ◌≤◌, List, [], length, Ok, Err, IfOk, IsTrue};
+ghost use Rattle.std.specs.Prelude.{◌≡◌, ◌≢◌, ℕ, List, [], Ok, IfOk, IsTrue};
 ghost use Rattle.smx_types.specs.declared.command.Command.{Command};
 ghost use Rattle.smx_types.specs.declared.command.Entry.{Entry};
 ghost use Rattle.smx_types.specs.declared.driver.DriverSpec.{DriverSpec};
-ghost use Rattle.smx_types.specs.declared.limits.TheConstants.{MAX_LINKS, NUMBER_END};
-ghost use Rattle.smx_types.specs.declared.link.LinkKind.{LinkKind};
 ghost use Rattle.smx_types.specs.declared.reply.Fault.{Fault};
-ghost use Rattle.smx_types.specs.declared.reply.Fault.TheVariants.{TooManyLinks};
 ghost use Rattle.smx_types.specs.declared.reply.Reply.TheVariants as reply;
-ghost use Rattle.smx_types.specs.declared.stream.Place.{Place};
-ghost use Rattle.smx_model.specs.Commands.{done_outcome, link_outcome, outcome, step};
+ghost use Rattle.smx_model.specs.Commands.{done_outcome, outcome, step};
 ghost use Rattle.smx_model.specs.Configuration.{Configuration, empty};
 ghost use Rattle.smx_model.specs.Histories.{after};
 ghost use Rattle.smx_model.specs.KeptConfigurations.{IsKept, IsSound};
 ghost use Rattle.smx_model.specs.LawfulHistories.{dropped_by, may_drop};
 ghost use Rattle.smx_model.specs.Removal.{after_sweep};
-ghost use Rattle.smx_model.specs.Settling.{after_move, after_settling};
+ghost use Rattle.smx_model.specs.Settling.{after_settling};
 ghost use Rattle.smx_model.specs.Swept.{IsSwept};
 
 /// The outcome of an accepted command is sound before settling.
@@ -32,26 +28,11 @@ pub fn outcomes_are_swept()
         → IfOk (outcome drivers c process command) (λ x. after_sweep drivers x.0 ≡ x.0) }
 {}
 
-/// Only refused commands have a fault as their reply, and it is the fault of the refusal.
-#[tactic(auto, using(crate::proofs::RefusalLemmas::fault_is_refusal))]
-pub fn faults_are_refusals()
-    ensures { (drivers : List DriverSpec) (c : Configuration) (process : ℕ) (command : Command) (f : Fault)
-        → ((step drivers c process command).1 ≡ reply.Fault f ↔ outcome drivers c process command ≡ Err f) }
-{}
-
 /// Refused commands leave the configuration unchanged.
 #[tactic(auto, using(crate::proofs::RefusalLemmas::refused_same))]
 pub fn refusals_change_nothing()
     ensures { (drivers : List DriverSpec) (c : Configuration) (process : ℕ) (command : Command) (f : Fault)
         → (step drivers c process command).1 ≡ reply.Fault f → (step drivers c process command).0 ≡ c }
-{}
-
-/// `EAGAIN links` is the last refusal of a link: there are 1,024 links, or all ids are used up.
-#[tactic(auto, using(crate::proofs::LastRefusalLemmas::links_room))]
-pub fn links_have_room()
-    ensures { (drivers : List DriverSpec) (c : Configuration) (process fd arg : ℕ) (k : LinkKind)
-        → link_outcome drivers c process fd arg k ≡ Err TooManyLinks
-        → (MAX_LINKS ≤ length c.links) ⊎ (NUMBER_END ≤ c.next_id) }
 {}
 
 /// If nothing belongs to streams that don't exist, only the commands that may drop messages name dropped ones.
@@ -66,13 +47,6 @@ pub fn other_commands_drop_none()
 pub fn idle_changes_drop_none()
     ensures { (drivers : List DriverSpec) (c new : Configuration) → IsSwept drivers new → new.flow ≡ c.flow
         → done_outcome drivers c new ≡ Ok (new, reply.Done []) }
-{}
-
-/// A move keeps a configuration sound.
-#[tactic(auto, using(crate::proofs::KeptLemmas::moved_sound))]
-pub fn moves_keep_soundness()
-    ensures { (drivers : List DriverSpec) (c : Configuration) (p : Place) → IsSound drivers c
-        → IsSound drivers (after_move drivers c p) }
 {}
 
 /// Settling ends: after as many moves as there are messages times drivers no message can move.

@@ -6,7 +6,7 @@ ghost use Rattle.smx_types.specs.declared.driver.DriverSpec.{DriverSpec};
 ghost use Rattle.smx_types.specs.declared.stream.StreamId.{StreamId};
 ghost use Rattle.smx_model.specs.Configuration.{Configuration};
 ghost use Rattle.smx_model.specs.Histories.{after};
-ghost use Rattle.smx_model.specs.KnownStreams.{AreControllingKnown, AreStreamsKnown};
+ghost use Rattle.smx_model.specs.KnownStreams.{AreControllingKnown};
 ghost use Rattle.smx_model.specs.Removal.{after_sweep};
 ghost use Rattle.smx_model.specs.SoundLinks.{AreLinksSound};
 ghost use Rattle.smx_model.specs.Standing.{exists, Stands};
@@ -28,24 +28,8 @@ pub fn climbs_always_suffice()
         → (IsTrue (exists drivers (after drivers history) s) ↔ Stands (after drivers history) s) }
 {}
 
-/// After any commands each part of the configuration names a stream that its drivers have.
-pub fn streams_are_known()
-    ensures { (drivers : List DriverSpec) (history : List Entry) → AreStreamsKnown drivers (after drivers history) }
-{}
-
-/// After a sweep the configuration is swept.
-#[tactic(auto, using(crate::proofs::StandingLemmas::swept_is))]
-pub fn sweeping_is_enough()
-    ensures { (drivers : List DriverSpec) (c : Configuration) → IsSwept drivers (after_sweep drivers c) }
-{}
-
 /// Sweeping a swept configuration changes nothing.
 #[tactic(auto, using(crate::proofs::IdleSweepLemmas::swept_idle))]
 pub fn sweeping_again_changes_nothing()
     ensures { (drivers : List DriverSpec) (c : Configuration) → IsSwept drivers c → after_sweep drivers c ≡ c }
-{}
-
-/// After any commands nothing belongs to streams that don't exist.
-pub fn nothing_is_left()
-    ensures { (drivers : List DriverSpec) (history : List Entry) → IsSwept drivers (after drivers history) }
 {}

@@ -11,8 +11,6 @@ pub mod laws_of_limits;
 pub mod laws_of_links;
 pub mod laws_of_marks;
 pub mod laws_of_messages;
-pub mod laws_of_queues;
-pub mod laws_of_removals;
 pub mod laws_of_reports;
 pub mod laws_of_steps;
 pub mod laws_of_streams;

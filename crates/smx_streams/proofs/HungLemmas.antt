@@ -10,7 +10,10 @@ use Rattle.smx_model.specs.Configuration.{same_stream, is_fd, stream_before}
 use Rattle.smx_model.specs.Hangups.{is_hung, with_hung}
 use Rattle.smx_model.specs.Ordered.{IsRising}
 use Rattle.smx_model.specs.Standing.{is_named}
-use Rattle.smx_streams.specs.HungRows.{MakeTheList, flag_at, hungs_from}
+use Rattle.smx_model.proofs.EachLemmas.{later_filter}
+use Rattle.smx_model.proofs.HungListLemmas.{hung_kept_by, hung_with, one_list}
+use Rattle.smx_model.proofs.RisingLemmas.{rising_with_hung}
+use Rattle.smx_streams.specs.HungRows.{flag_at, hungs_from}
 use Rattle.smx_streams.specs.RecordGrids.{Uses, AreSet}
 use Rattle.smx_streams.specs.StreamTables.{StreamTable, AreHungsSound, HasHolds, HasOneLess, LeavesHungs}
 use Rattle.smx_streams.specs.StreamTables.{exists, number_at}
@@ -53,10 +56,10 @@ used_stays u x used =
     and_true _ (flag_at u.hungs x) (λ t. lt-ltb 0 (number_at u.opens x + number_at u.holds x) (used x t))
 
 -- the remaining hung-up streams as a list
-made : MakeTheList → (old new : StreamTable) → IsRising stream_before new.hungs → IsRising stream_before old.hungs
+made : (old new : StreamTable) → IsRising stream_before new.hungs → IsRising stream_before old.hungs
     → ((x : StreamId) → is_hung new.hungs x ≡ (exists new x && is_hung old.hungs x)) → LeavesHungs old new
-made law old new rise was each = law.same new.hungs (filter (exists new) old.hungs) rise
-    (law.fewer (exists new) old.hungs was) (λ x. each x ∙ sym (law.each_of_fewer (exists new) x old.hungs))
+made old new rise was each = one_list new.hungs (filter (exists new) old.hungs) rise
+    (later_filter _ (exists new) old.hungs was) (λ x. each x ∙ sym (hung_kept_by (exists new) x old.hungs))
 
 -- if the numbers of one stream change, the streams that remain hung up are those that exist
 each_left : (u v : Uses) (old new : StreamTable) (s : StreamId) (o h : ℕ)
@@ -84,22 +87,22 @@ each_left u v old new s o h set used names holds now was x =
       both a b c d e f = cc
 
 -- if the numbers of one stream change, the list of hung-up streams keeps those that exist
-pub left : MakeTheList → (u v : Uses) (old new : StreamTable) (s : StreamId) (o h : ℕ)
+pub left : (u v : Uses) (old new : StreamTable) (s : StreamId) (o h : ℕ)
     → AreSet u s o h (nat_lt 0 (o + h) && flag_at u.hungs s) v → AreUsed u → AreNames v new → new.holds ≡ v.holds
     → new.hungs ≡ hungs_from 0 v.hungs → old.hungs ≡ hungs_from 0 u.hungs → LeavesHungs old new
-left law u v old new s o h set used names holds now was = made law old new (rw now (hungs_rise 0 v.hungs))
+left u v old new s o h set used names holds now was = made old new (rw now (hungs_rise 0 v.hungs))
     (rw was (hungs_rise 0 u.hungs)) (each_left u v old new s o h set used names holds now was)
 
 -- the same if only the holds of one stream change
-pub holds_changed : MakeTheList → (t : Inside) (v : Uses) (s : StreamId) (h : ℕ)
+pub holds_changed : (t : Inside) (v : Uses) (s : StreamId) (h : ℕ)
     → AreSet t.records s (number_at t.records.opens s) h
     (nat_lt 0 (number_at t.records.opens s + h) && flag_at t.records.hungs s) v
     → AreUsed t.records → IsWhole t → HasHolds (table_of t) s h (table_of (record t { records = v }))
-holds_changed law t v s h set used whole = record {
+holds_changed t v s h set used whole = record {
   minors = set.minors;
   fds = refl;
   holds = set.holds_now;
-  hungs = left law t.records v (table_of t) (table_of (record t { records = v })) s _ _ set used
+  hungs = left t.records v (table_of t) (table_of (record t { records = v })) s _ _ set used
       (λ x. set.opens_now x ∙ same_number t.records.opens x s _ refl ∙ whole x) refl refl refl;
 }
 
@@ -116,9 +119,9 @@ each_kept u old new used names holds now was x =
       both a b c d e f = cc
 
 -- if no numbers change and the same streams have hung up, all of them exist and remain
-pub kept : MakeTheList → (u : Uses) (old new : StreamTable) → AreUsed u → AreNames u new → new.holds ≡ u.holds
+pub kept : (u : Uses) (old new : StreamTable) → AreUsed u → AreNames u new → new.holds ≡ u.holds
     → new.hungs ≡ hungs_from 0 u.hungs → old.hungs ≡ new.hungs → LeavesHungs old new
-kept law u old new used names holds now was = made law old new (rw now (hungs_rise 0 u.hungs))
+kept u old new used names holds now was = made old new (rw now (hungs_rise 0 u.hungs))
     (rw (was, now) (hungs_rise 0 u.hungs)) (each_kept u old new used names holds now was)
 
 -- if the flag of one stream stays, all flags stay
@@ -132,15 +135,15 @@ each_same u v s o h set x = flag_tells v.hungs x ∙ set.hungs_now x
     ] ∙ sym (flag_tells u.hungs x)
 
 -- if the numbers of one stream change but not its flag, the same streams have hung up
-pub hung_same : MakeTheList → (u v : Uses) (s : StreamId) (o h : ℕ) → AreSet u s o h (flag_at u.hungs s) v
+pub hung_same : (u v : Uses) (s : StreamId) (o h : ℕ) → AreSet u s o h (flag_at u.hungs s) v
     → hungs_from 0 v.hungs ≡ hungs_from 0 u.hungs
-hung_same law u v s o h set = law.same (hungs_from 0 v.hungs) (hungs_from 0 u.hungs) (hungs_rise 0 v.hungs)
+hung_same u v s o h set = one_list (hungs_from 0 v.hungs) (hungs_from 0 u.hungs) (hungs_rise 0 v.hungs)
     (hungs_rise 0 u.hungs) (each_same u v s o h set)
 
 -- if a stream gets one more hold, the same streams have hung up
-pub hung_still : MakeTheList → (u v : Uses) (s : StreamId) (o h : ℕ)
+pub hung_still : (u v : Uses) (s : StreamId) (o h : ℕ)
     → AreSet u s o (h + 1) (nat_lt 0 (o + (h + 1)) && flag_at u.hungs s) v → hungs_from 0 v.hungs ≡ hungs_from 0 u.hungs
-hung_still law u v s o h set = hung_same law u v s o (h + 1)
+hung_still u v s o h set = hung_same u v s o (h + 1)
     (subst (λ (b : Bool). AreSet u s o (h + 1) b v) (counted (flag_at u.hungs s)) set) where
       counted : (f : Bool) → (nat_lt 0 (o + (h + 1)) && f) ≡ f
       counted f = rw (lt-ltb 0 (o + (h + 1)) (omega arith)) refl
@@ -152,12 +155,12 @@ each_now u v s o h set x = flag_tells v.hungs x ∙ set.hungs_now x
     ∙ elim (cases_Bool (same_stream x s)) [ inl t ↦ rw t refl | inr f ↦ rw f (sym (flag_tells u.hungs x)) ]
 
 -- if the flag of one stream is set, the same streams have hung up, and that one
-pub hung_now : MakeTheList → (u v : Uses) (s : StreamId) (o h : ℕ) → AreSet u s o h true v
+pub hung_now : (u v : Uses) (s : StreamId) (o h : ℕ) → AreSet u s o h true v
     → hungs_from 0 v.hungs ≡ with_hung s (hungs_from 0 u.hungs)
-hung_now law u v s o h set = law.same (hungs_from 0 v.hungs) (with_hung s (hungs_from 0 u.hungs)) (hungs_rise 0 v.hungs)
-    (law.more s (hungs_from 0 u.hungs) (hungs_rise 0 u.hungs))
+hung_now u v s o h set = one_list (hungs_from 0 v.hungs) (with_hung s (hungs_from 0 u.hungs)) (hungs_rise 0 v.hungs)
+    (rising_with_hung s (hungs_from 0 u.hungs) (hungs_rise 0 u.hungs))
     (λ x. each_now u v s o h set x ∙ ap (λ (b : Bool). b || is_hung (hungs_from 0 u.hungs) x) (turned x s)
-    ∙ sym (law.each_of_more s x (hungs_from 0 u.hungs))) where
+    ∙ sym (hung_with s x (hungs_from 0 u.hungs))) where
       turned : (x y : StreamId) → same_stream x y ≡ same_stream y x
       turned x y = grind (arith, nat_tests)
 

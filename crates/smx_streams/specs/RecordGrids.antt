@@ -56,10 +56,6 @@ uses_of grid records = record {
   hungs = map (map (λ key. hung_of (record_of_key records key))) grid;
 }
 
--- if the flag for all streams is false, no stream is hung up
-abbrev pub CountsForHung : Bool → Uses → Type 0
-CountsForHung some_hung u = some_hung ≡ false → (s : StreamId) → flag_at u.hungs s ≡ false
-
 -- one stream has these numbers and this flag, and no other stream has changed
 pub record AreSet (old : Uses) (s : StreamId) (opens holds : ℕ) (hung : Bool) (new : Uses) : Type 0 where
   pub minors : new.minors ≡ old.minors

@@ -1,7 +1,6 @@
 //! The table of streams: the descriptors of each process, and a record of each stream that is open or held.
 #![tactic(auto)]
 
-mod closed;
 mod descriptor_row;
 mod descriptors;
 mod hung_streams;
@@ -10,7 +9,6 @@ mod records;
 mod stream_fault;
 mod streams;
 
-pub use closed::Closed;
 pub use hung_streams::HungStreams;
 pub use stream_fault::StreamFault;
-pub use streams::Streams;
+pub use streams::{Closed, Streams};

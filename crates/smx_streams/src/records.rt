@@ -33,19 +33,16 @@ pub struct Record {
 pub struct Records {
     drivers: Vec<Keys>,
     records: Slab<Record>,
-    // False only if no stream is hung up: then `is_hung` looks at no record.
-    some_hung: bool,
 }
 
 impl Model for Records {
-    ghost use Rattle.smx_streams.specs.RecordGrids.{Uses, uses_of, AreRecords, CountsForHung};
+    ghost use Rattle.smx_streams.specs.RecordGrids.{Uses, uses_of, AreRecords};
 
     ghost Value = { Uses };
 
     ghost view = { λ r. uses_of r.drivers.items r.records };
 
-    ghost invariant = { λ r. AreRecords r.drivers.items r.records
-        × CountsForHung r.some_hung (uses_of r.drivers.items r.records) };
+    ghost invariant = { λ r. AreRecords r.drivers.items r.records };
 }
 
 // Returns the key of the stream's record.
@@ -152,7 +149,6 @@ impl Records {
         Ok(Records {
             drivers: new_keys(alloc, minors)?,
             records: Slab::new(alloc),
-            some_hung: false,
         })
     }
 
@@ -195,9 +191,6 @@ impl Records {
     pub fn is_hung(&self, stream: StreamId) -> bool
         ensures { result ≡ flag_at self.now.hungs stream }
     {
-        if !self.some_hung {
-            return false;
-        }
         match self.record_of(stream) {
             Some(record) => record.hung,
             None => false,
@@ -221,26 +214,20 @@ impl Records {
         ensures err { OnErr result (self.new ≡ self.old) }
         ensures in_place { 0 < number_at self.old.opens stream → IsOk result }
     {
-        match self.record_of(stream) {
-            Some(record) => {
-                self.change(Record {
-                    stream,
-                    opens: record.opens + 1,
-                    holds: record.holds,
-                    hung: record.hung,
-                });
-                Ok(())
-            }
-            None => {
-                self.add(Record {
-                    stream,
-                    opens: 1,
-                    holds: 0,
-                    hung: false,
-                })?;
-                Ok(())
-            }
+        if let Some(record) = self.record_of(stream) {
+            self.change(Record {
+                stream,
+                opens: record.opens + 1,
+                ..record
+            });
+            return Ok(());
         }
+        self.add(Record {
+            stream,
+            opens: 1,
+            holds: 0,
+            hung: false,
+        })
     }
 
     // Adds the record of a stream that has none.
@@ -253,7 +240,6 @@ impl Records {
         ensures rows { HasRows self.new }
     {
         put(&mut self.drivers, &mut self.records, record)?;
-        self.some_hung = self.some_hung || record.hung;
         Ok(())
     }
 
@@ -265,12 +251,10 @@ impl Records {
             && flag_at self.old.hungs stream) self.new }
     {
         if let Some(record) = self.record_of(stream) {
-            let hung = record.hung;
             self.change(Record {
                 stream,
                 opens: record.opens - 1,
-                holds: record.holds,
-                hung,
+                ..record
             });
         }
     }
@@ -286,9 +270,8 @@ impl Records {
         if let Some(record) = self.record_of(stream) {
             self.change(Record {
                 stream,
-                opens: record.opens,
                 holds: record.holds + 1,
-                hung: record.hung,
+                ..record
             });
         }
     }
@@ -303,9 +286,8 @@ impl Records {
         if let Some(record) = self.record_of(stream) {
             self.change(Record {
                 stream,
-                opens: record.opens,
                 holds: record.holds - 1,
-                hung: record.hung,
+                ..record
             });
         }
     }
@@ -316,26 +298,18 @@ impl Records {
         ensures { AreSet self.old stream (number_at self.old.opens stream) (number_at self.old.holds stream) true
             self.new }
     {
-        let Some(record) = self.record_of(stream) else {
-            return;
-        };
-        self.some_hung = true;
-        let changed = Record {
-            stream,
-            opens: record.opens,
-            holds: record.holds,
-            hung: true,
-        };
-        if let Some(key) = key_of(&self.drivers, stream) {
-            put_back(&mut self.drivers, &mut self.records, key, changed);
+        if let Some(record) = self.record_of(stream) {
+            self.change(Record {
+                stream,
+                hung: true,
+                ..record
+            });
         }
     }
 
-    // Replaces a stream's record, which also says whether the stream is hung up. Removes the record if it counts
-    // nothing.
+    // Replaces a stream's record. Removes the record if it counts nothing.
     fn change(&mut self, changed: Record)
-        requires there { 0 < number_at self.old.opens changed.stream + number_at self.old.holds changed.stream }
-        requires hung { changed.hung ≡ true → flag_at self.old.hungs changed.stream ≡ true }
+        requires { 0 < number_at self.old.opens changed.stream + number_at self.old.holds changed.stream }
         ensures { AreSet self.old changed.stream changed.opens changed.holds (is_used_and_hung changed) self.new }
     {
         if let Some(key) = key_of(&self.drivers, changed.stream) {
@@ -365,12 +339,7 @@ impl Records {
         ensures { OnOk result (IsCopyBefore others.now stream.driver (stream.minor + 1) self.new) }
     {
         if let Some(record) = others.record_of(stream) {
-            self.add(Record {
-                stream,
-                opens: record.opens,
-                holds: record.holds,
-                hung: record.hung,
-            })?;
+            self.add(Record { stream, ..record })?;
         }
         Ok(())
     }

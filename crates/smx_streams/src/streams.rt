@@ -6,42 +6,36 @@ ghost use Rattle.smx_types.specs.declared.limits.TheConstants.{MAX_DESCRIPTORS, 
 ghost use Rattle.smx_types.specs.declared.stream.StreamId.{StreamId};
 ghost use Rattle.std.specs.Option.{option_map};
 ghost use Rattle.smx_streams.specs.DescriptorRows.{IsListed};
-ghost use Rattle.smx_streams.specs.HungRows.{MakeTheList};
 ghost use Rattle.smx_streams.specs.StreamTables.{number_at, is_in_range, exists, stream_at, is_last, least_fd};
 ghost use Rattle.smx_streams.specs.StreamTables.{least_minor, numbered, clone_answer, minor_answer, dup_answer};
 ghost use Rattle.smx_streams.specs.StreamTables.{IsNext, IsRefused};
 ghost use Rattle.smx_model.specs.Hangups.{is_hung};
 ghost use Rattle.smx_streams.specs.StreamTables.{HasOneMore, HasOneLess, HasNoneOf, HasHolds, HasHungUp, AreHungsSound};
 
-use crate::closed::Closed;
 use crate::descriptors::Descriptors;
 use crate::hung_streams::HungStreams;
 use crate::records::Records;
 use crate::stream_fault::StreamFault;
-use smx_model::laws_of_hangups::hung_up_streams_make_the_list;
 use smx_types::{Descriptor, MAX_DESCRIPTORS, NoMemory, Process, StreamId};
 use std::alloc::Global;
 use std::marker::Model;
 
+/// The result of closing a descriptor.
+#[derive(Clone, Copy, Debug, PartialEq, Eq)]
+pub struct Closed {
+    /// The stream that the descriptor named.
+    pub stream: StreamId,
+    /// The stream has no descriptor and no hold left.
+    pub last: bool,
+}
+
 /// The descriptors of all processes, the number of holds of each stream, and the hung-up streams. Contracts see the
 /// number of minors of each driver, the list of descriptors, the holds, and the list of hung-up streams.
-#[derive(Debug)]
+#[derive(Debug, Drop)]
 pub struct Streams {
     alloc: Global,
     descriptors: Descriptors,
     records: Records,
-}
-
-impl Drop for Streams {
-    // Written by hand, so that a function that owns a table drops it with one call at each of its returns, instead of
-    // one call for each part.
-    fn drop(self) {
-        let Streams {
-            alloc: _,
-            descriptors: _descriptors,
-            records: _records,
-        } = self;
-    }
 }
 
 impl Model for Streams {
@@ -54,13 +48,6 @@ impl Model for Streams {
     ghost view = { table_of };
 
     ghost invariant = { IsWhole };
-}
-
-// Gives the caller all clauses of `hung_up_streams_make_the_list` as the single fact `MakeTheList`.
-fn law_of_lists()
-    ensures { MakeTheList }
-{
-    hung_up_streams_make_the_list();
 }
 
 impl Streams {
@@ -148,7 +135,6 @@ impl Streams {
         ensures err { OnErr result (self.new ≡ self.old) }
         ensures in_place { (n : ℕ) → stream_at self.old.fds process n ≡ Some stream → IsOk result }
     {
-        law_of_lists();
         self.descriptors.is_sound();
         self.descriptors.make_room(self.alloc, process)?;
         self.records.open(stream)?;
@@ -257,7 +243,6 @@ impl Streams {
             → stream_at self.old.fds process fd ≡ Some s }
         ensures unchanged { IfNone result (self.new ≡ self.old) }
     {
-        law_of_lists();
         self.descriptors.is_sound();
         self.records.is_sound();
         let stream = self.descriptors.take(process, fd)?;
@@ -311,7 +296,6 @@ impl Streams {
         ensures rest { HasHolds self.old stream (number_at self.old.holds stream + 1) self.new }
         ensures hungs { self.new.hungs ≡ self.old.hungs }
     {
-        law_of_lists();
         self.records.is_sound();
         self.records.hold(stream);
     }
@@ -324,7 +308,6 @@ impl Streams {
         ensures answer { result ≡ not (exists self.new stream) }
         ensures rest { HasHolds self.old stream (number_at self.old.holds stream - 1) self.new }
     {
-        law_of_lists();
         self.records.is_sound();
         self.records.release(stream);
         !self.exists(stream)
@@ -335,7 +318,6 @@ impl Streams {
         requires { exists self.old stream ≡ true }
         ensures { HasHungUp self.old stream self.new }
     {
-        law_of_lists();
         self.records.hang(stream);
     }
 

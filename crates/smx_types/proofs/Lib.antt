@@ -1,2 +1,1 @@
-pub mod VersionLemmas
 pub mod NameLemmas

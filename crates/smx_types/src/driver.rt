@@ -73,10 +73,6 @@ impl Copied for DriverSpec {
     fn copied(&self, _alloc: Global) -> Result<DriverSpec, NoMemory> {
         Ok(*self)
     }
-
-    fn copies(alloc: Global, items: &[DriverSpec]) -> Result<Vec<DriverSpec>, NoMemory> {
-        Ok(Vec::from_slice(alloc, items)?)
-    }
 }
 
 impl fmt::Display for SpecFault {

@@ -4,7 +4,6 @@
 mod command;
 mod driver;
 mod items;
-pub mod laws;
 mod limits;
 mod link;
 mod memory;

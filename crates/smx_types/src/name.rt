@@ -1,7 +1,6 @@
 //! The name of a driver.
 
 ghost use Rattle.std.specs.Prelude.{◌≡◌, ◌≤◌, ◌↔◌, length, nat_eq, IsSome, IfSome, IsTrue};
-ghost use Rattle.std.specs.Int.{to_le_bytes, w64};
 ghost use Rattle.std.specs.Cmp.Lexicographic.{pointwise};
 ghost use Rattle.std.specs.List.{list_all};
 ghost use Rattle.smx_types.specs.Names.{is_name_byte, is_name, padded};
@@ -78,10 +77,9 @@ impl Name {
         if bytes.is_empty() || !bytes[0].is_ascii_lowercase() || bytes.len() > 8 {
             return None;
         }
-        let word = word_of(bytes)?;
         Some(Name {
             len: bytes.len() as u8,
-            bytes: word.to_le_bytes(),
+            bytes: padded(bytes)?,
         })
     }
 
@@ -100,23 +98,19 @@ fn is_name_byte(byte: u8) -> bool
     byte.is_ascii_lowercase() || byte.is_ascii_digit()
 }
 
-// Returns the number with these bytes, the lowest first, if all of them are allowed in a name. As one number the bytes
-// are stored in one step, without a call that copies them.
-#[inline(always)]
-fn word_of(bytes: &[u8]) -> Option<u64>
+// Returns the bytes, followed by zeros, if all of them are allowed in a name.
+fn padded(bytes: &[u8]) -> Option<[u8; 8]>
     requires { length bytes.now ≤ 8 }
     ensures valid { IsSome result ↔ IsTrue (list_all is_name_byte bytes.now) }
-    ensures value { IfSome result (λ word. to_le_bytes w64 word ≡ padded bytes.now) }
+    ensures value { IfSome result (λ all. all ≡ padded bytes.now) }
 {
-    let mut word = 0u64;
-    let mut left = bytes.len();
-    'bytes: while left > 0 {
-        left -= 1;
-        let byte = bytes[left];
+    let mut all = [0; 8];
+    'bytes: for i in 0..bytes.len() {
+        let byte = bytes[i];
         if !is_name_byte(byte) {
             return None;
         }
-        word = 256 * word + byte as u64;
+        all[i] = byte;
     }
-    Some(word)
+    Some(all)
 }

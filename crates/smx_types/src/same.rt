@@ -1,20 +1,14 @@
-//! The law of `==`: it decides whether two values of this crate are equal.
+//! The law of `==`: it decides whether two values are equal.
 
 ghost use Rattle.std.proofs.Common.{rules};
 
-use crate::command::{Command, Entry, Sides, Which};
-use crate::driver::{DriverKind, DriverSpec, SpecFault};
+use crate::command::{Command, Entry};
+use crate::driver::DriverSpec;
 use crate::items::Items;
-use crate::link::{Binding, Link, LinkKind, Route};
-use crate::memory::NoMemory;
 use crate::message::Message;
-use crate::name::Name;
-use crate::process::Process;
 use crate::programs::{Many, Programs};
-use crate::reply::{Fault, Reply};
-use crate::stream::{Descriptor, Place, Side, StreamId};
+use crate::reply::Reply;
 use crate::transcript::Transcript;
-use crate::version::Version;
 use crate::view::{
     BindingLine, ConfigView, DescriptorLine, FullLine, HungLine, LinkLine, MessageLine, RouteLine,
 };
@@ -47,71 +41,7 @@ impl Same for u32 {
     ghost tells = { Prim.search rules };
 }
 
-impl Same for Name {
-    ghost tells = { Prim.search rules };
-}
-
-impl Same for Process {
-    ghost tells = { Prim.search rules };
-}
-
-impl Same for NoMemory {
-    ghost tells = { Prim.search rules };
-}
-
-impl Same for Which {
-    ghost tells = { Prim.search rules };
-}
-
-impl Same for Sides {
-    ghost tells = { Prim.search rules };
-}
-
-impl Same for DriverKind {
-    ghost tells = { Prim.search rules };
-}
-
 impl Same for DriverSpec {
-    ghost tells = { Prim.search rules };
-}
-
-impl Same for SpecFault {
-    ghost tells = { Prim.search rules };
-}
-
-impl Same for LinkKind {
-    ghost tells = { Prim.search rules };
-}
-
-impl Same for Link {
-    ghost tells = { Prim.search rules };
-}
-
-impl Same for Binding {
-    ghost tells = { Prim.search rules };
-}
-
-impl Same for Route {
-    ghost tells = { Prim.search rules };
-}
-
-impl Same for StreamId {
-    ghost tells = { Prim.search rules };
-}
-
-impl Same for Side {
-    ghost tells = { Prim.search rules };
-}
-
-impl Same for Place {
-    ghost tells = { Prim.search rules };
-}
-
-impl Same for Descriptor {
-    ghost tells = { Prim.search rules };
-}
-
-impl Same for Fault {
     ghost tells = { Prim.search rules };
 }
 
@@ -132,10 +62,6 @@ impl Same for RouteLine {
 }
 
 impl Same for HungLine {
-    ghost tells = { Prim.search rules };
-}
-
-impl Same for Version {
     ghost tells = { Prim.search rules };
 }
 

@@ -93,7 +93,7 @@ pub type FullLines = Items<FullLine>;
 pub type HungLines = Items<HungLine>;
 
 /// The view of a configuration.
-#[derive(Debug, PartialEq)]
+#[derive(Debug, Drop, PartialEq)]
 pub struct ConfigView {
     /// The id that the next link gets. Ids start from 1.
     pub next_id: u32,
@@ -106,24 +106,6 @@ pub struct ConfigView {
     pub msgs: MessageLines,
     pub fulls: FullLines,
     pub hungs: HungLines,
-}
-
-impl Drop for ConfigView {
-    // Written by hand, so that a function that owns a view drops it with one call at each of its returns, instead of
-    // one call for each list.
-    fn drop(self) {
-        let ConfigView {
-            next_id: _,
-            next_serial: _,
-            fds: _fds,
-            links: _links,
-            binds: _binds,
-            routes: _routes,
-            msgs: _msgs,
-            fulls: _fulls,
-            hungs: _hungs,
-        } = self;
-    }
 }
 
 impl MessageLine {
@@ -171,19 +153,11 @@ impl Copied for DescriptorLine {
     fn copied(&self, _alloc: Global) -> Result<DescriptorLine, NoMemory> {
         Ok(*self)
     }
-
-    fn copies(alloc: Global, items: &[DescriptorLine]) -> Result<Vec<DescriptorLine>, NoMemory> {
-        Ok(Vec::from_slice(alloc, items)?)
-    }
 }
 
 impl Copied for LinkLine {
     fn copied(&self, _alloc: Global) -> Result<LinkLine, NoMemory> {
         Ok(*self)
-    }
-
-    fn copies(alloc: Global, items: &[LinkLine]) -> Result<Vec<LinkLine>, NoMemory> {
-        Ok(Vec::from_slice(alloc, items)?)
     }
 }
 
@@ -191,19 +165,11 @@ impl Copied for BindingLine {
     fn copied(&self, _alloc: Global) -> Result<BindingLine, NoMemory> {
         Ok(*self)
     }
-
-    fn copies(alloc: Global, items: &[BindingLine]) -> Result<Vec<BindingLine>, NoMemory> {
-        Ok(Vec::from_slice(alloc, items)?)
-    }
 }
 
 impl Copied for RouteLine {
     fn copied(&self, _alloc: Global) -> Result<RouteLine, NoMemory> {
         Ok(*self)
-    }
-
-    fn copies(alloc: Global, items: &[RouteLine]) -> Result<Vec<RouteLine>, NoMemory> {
-        Ok(Vec::from_slice(alloc, items)?)
     }
 }
 
@@ -217,18 +183,10 @@ impl Copied for FullLine {
     fn copied(&self, _alloc: Global) -> Result<FullLine, NoMemory> {
         Ok(*self)
     }
-
-    fn copies(alloc: Global, items: &[FullLine]) -> Result<Vec<FullLine>, NoMemory> {
-        Ok(Vec::from_slice(alloc, items)?)
-    }
 }
 
 impl Copied for HungLine {
     fn copied(&self, _alloc: Global) -> Result<HungLine, NoMemory> {
         Ok(*self)
-    }
-
-    fn copies(alloc: Global, items: &[HungLine]) -> Result<Vec<HungLine>, NoMemory> {
-        Ok(Vec::from_slice(alloc, items)?)
     }
 }

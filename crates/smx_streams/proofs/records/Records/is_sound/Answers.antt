@@ -14,7 +14,7 @@ returns-clause-range c = subst (λ (u : Uses). (s : StreamId) → 0 < number_at 
 
 pub returns-clause-few : goal.returns-clause-few
 returns-clause-few c = subst (λ (u : Uses). length u.minors ≤ MAX_DRIVERS) c.self.view_is
-    (few_minors c.self.inside.drivers.items c.self.inside.records c.self.invariant.0)
+    (few_minors c.self.inside.drivers.items c.self.inside.records c.self.invariant)
 
 pub returns-clause-flagged : goal.returns-clause-flagged
 returns-clause-flagged c = subst (λ (u : Uses). (s : StreamId) → flag_at u.hungs s ≡ true
@@ -24,4 +24,4 @@ returns-clause-flagged c = subst (λ (u : Uses). (s : StreamId) → flag_at u.hu
 pub returns-clause-hung : goal.returns-clause-hung
 returns-clause-hung c = subst (λ (u : Uses). (s : StreamId) → flag_at u.hungs s ≡ true
     → 0 < number_at u.opens s + number_at u.holds s) c.self.view_is
-    (λ s h. hung_is_used c.self.inside.drivers.items c.self.inside.records s c.self.invariant.0 h)
+    (λ s h. hung_is_used c.self.inside.drivers.items c.self.inside.records s c.self.invariant h)

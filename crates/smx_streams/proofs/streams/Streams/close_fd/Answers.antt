@@ -32,7 +32,7 @@ less c =
       minors = c.close.ensures.minors;
       fds = c.in_ok-stream.ensures.rest;
       holds = λ x. c.close.ensures.holds_now x ∙ same_number c.self.inside.records.holds x c.in_ok-stream.stream _ refl;
-      hungs = left c.law_of_lists.ensures c.self.inside.records c.close.new.self (table_of c.self.inside) new
+      hungs = left c.self.inside.records c.close.new.self (table_of c.self.inside) new
           c.in_ok-stream.stream _ _ c.close.ensures c.is_sound-2.ensures.hung (whole c) refl refl refl;
     })
 
@@ -43,7 +43,7 @@ returns-in_err-stream-clause-rest c =
       minors = refl;
       fds = c.in_err-stream.ensures.rest;
       holds = λ x. refl;
-      hungs = kept c.law_of_lists.ensures c.self.inside.records (table_of c.self.inside) new
+      hungs = kept c.self.inside.records (table_of c.self.inside) new
           c.is_sound-2.ensures.hung (λ x. rw c.in_err-stream.ensures.unchanged (c.self.invariant x)) refl refl refl;
     })
 

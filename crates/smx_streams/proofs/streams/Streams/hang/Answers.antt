@@ -20,5 +20,5 @@ returns c = subst
       minors = c.hang.ensures.minors;
       fds = refl;
       holds = λ x. c.hang.ensures.holds_now x ∙ same_number c.self.inside.records.holds x c.args.stream _ refl;
-      hungs = hung_now c.law_of_lists.ensures c.self.inside.records c.hang.new.self c.args.stream _ _ c.hang.ensures;
+      hungs = hung_now c.self.inside.records c.hang.new.self c.args.stream _ _ c.hang.ensures;
     })

@@ -16,10 +16,10 @@ pub returns-clause-rest : goal.returns-clause-rest
 returns-clause-rest c = subst
     (λ (t : StreamTable). HasHolds t c.args.stream (number_at t.holds c.args.stream + 1)
     (table_of (record c.self.inside { records = c.hold.new.self }))) c.self.view_is
-    (holds_changed c.law_of_lists.ensures c.self.inside c.hold.new.self c.args.stream _ c.hold.ensures
+    (holds_changed c.self.inside c.hold.new.self c.args.stream _ c.hold.ensures
     c.is_sound.ensures.hung c.self.invariant)
 
 pub returns-clause-hungs : goal.returns-clause-hungs
 returns-clause-hungs c =
-    hung_still c.law_of_lists.ensures c.self.inside.records c.hold.new.self c.args.stream _ _ c.hold.ensures
+    hung_still c.self.inside.records c.hold.new.self c.args.stream _ _ c.hold.ensures
     ∙ ap (λ (t : StreamTable). t.hungs) c.self.view_is

@@ -42,6 +42,6 @@ returns-clause-ok c = subst
       minors = c.in_ok-open.ensures.ok.minors;
       fds = rw (c.put.ensures, c.in_ok-make_room.ensures.fds) refl;
       holds = λ x. c.in_ok-open.ensures.ok.holds_now x ∙ same_number c.self.inside.records.holds x c.args.stream _ refl;
-      hungs = hung_same c.law_of_lists.ensures c.self.inside.records c.open.new.self c.args.stream _ _
+      hungs = hung_same c.self.inside.records c.open.new.self c.args.stream _ _
           c.in_ok-open.ensures.ok;
     })

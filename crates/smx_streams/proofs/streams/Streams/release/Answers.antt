@@ -8,5 +8,5 @@ pub returns-clause-rest : goal.returns-clause-rest
 returns-clause-rest c = subst
     (λ (t : StreamTable). HasHolds t c.args.stream (number_at t.holds c.args.stream - 1)
     (table_of (record c.self.inside { records = c.release.new.self }))) c.self.view_is
-    (holds_changed c.law_of_lists.ensures c.self.inside c.release.new.self c.args.stream _ c.release.ensures
+    (holds_changed c.self.inside c.release.new.self c.args.stream _ c.release.ensures
     c.is_sound.ensures.hung c.self.invariant)
