@@ -30,4 +30,3 @@ pub mod WrongCommandLemmas
 pub mod WrongProgramLemmas
 pub mod WrongTranscriptLemmas
 pub mod WrongCountLemmas
-pub mod WorkedLineLemmas

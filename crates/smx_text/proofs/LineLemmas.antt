@@ -3,6 +3,7 @@ use Rattle.std.proofs.Common.{◌≡◌, ℕ, Bool, true, false, eqb, List, [], 
 use Rattle.std.specs.Prelude.{◌⊎◌}
 use Rattle.std.proofs.lemmas.Bool.Decides.{nat_tests}
 use Rattle.smx_words.specs.Words.{LINE_FEED}
+use Rattle.smx_words.proofs.CutLemmas.{apart}
 use Rattle.smx_text.specs.Grammar.{IsOneLine}
 
 -- bytes that contain a line feed are not one line
@@ -13,14 +14,7 @@ not_one (x ∷ xs) after h = not_one xs after h.1
 -- bytes have one first line, and one rest after it
 pub one_cut : (xs ys cs ds : List ℕ) → IsOneLine xs → IsOneLine ys
     → xs ++ LINE_FEED ∷ cs ≡ ys ++ LINE_FEED ∷ ds → (xs ≡ ys) × (cs ≡ ds)
-one_cut [] [] cs ds h k e = (refl, cc)
-one_cut [] (y ∷ ys) cs ds h k e = let first : LINE_FEED ≡ y = cc in absurd (k.0 (sym first))
-one_cut (x ∷ xs) [] cs ds h k e = let first : x ≡ LINE_FEED = cc in absurd (h.0 first)
-one_cut (x ∷ xs) (y ∷ ys) cs ds h k e =
-    let first : x ≡ y = cc in
-    let rest : xs ++ LINE_FEED ∷ cs ≡ ys ++ LINE_FEED ∷ ds = cc in
-    let t = one_cut xs ys cs ds h.1 k.1 rest in
-    (ap (λ (z : ℕ). z ∷ xs) first ∙ ap (λ (zs : List ℕ). y ∷ zs) t.0, t.1)
+one_cut = apart LINE_FEED
 
 -- any bytes are one line without a line feed, or start with a whole line
 pub first_line : (xs : List ℕ) → IsOneLine xs

@@ -1,32 +1,30 @@
 -- Every text after the lines of some programs is decided.
-use Rattle.std.proofs.Common.{◌≡◌, ◌≢◌, ℕ, List, [], Option, refl, sym}
+use Rattle.std.proofs.Common.{◌≡◌, ◌≢◌, ℕ, List, [], refl, sym}
 use Rattle.std.proofs.Common.{subst, arith, rules, inl, inr}
 use Rattle.std.specs.List.{sum_by}
 use Rattle.std.proofs.lemmas.List.{append-nil}
 use Rattle.std.specs.Prelude.{◌⊎◌, length}
 use Rattle.smx_types.specs.ProgramLists.{ProgramLists}
-use Rattle.smx_types.specs.declared.command.Command.{Command}
 use Rattle.smx_types.specs.declared.limits.TheConstants.{MAX_PROCESSES, MAX_COMMANDS}
-use Rattle.smx_words.specs.LineReading.{IsReadAs}
 use Rattle.smx_words.specs.Spelling.{command_words, driver_words, process_words}
-use Rattle.smx_words.specs.Spellable.{FitsCommandIn}
 use Rattle.smx_text.specs.declared.text_fault.Cause.TheVariants as cause
 use Rattle.smx_text.specs.Grammar.{IsBegun, line_text}
 use Rattle.smx_text.specs.ProgramLines.{Line}
 use Rattle.smx_text.specs.ProgramLines as line
 use Rattle.smx_text.specs.ProgramsText.{FitsLine, body, IsAllowed, programs_grammar}
 use Rattle.std.proofs.lemmas.Bool.{cases_eq, cases_lt}
-use Rattle.smx_words.proofs.DecidedLemmas.{same_or_not}
+use Rattle.smx_words.proofs.DecidedLemmas.{reading, same_or_not}
 use Rattle.smx_text.proofs.HasReadingLemmas.{Decision, HasReading, by_reading, has_reading}
 use Rattle.smx_text.proofs.ProgramsGrammarLemmas.{refused_line, well_made, no_line}
 use Rattle.smx_text.proofs.ProgramsFollowLemmas.{MayStand, AreMany}
 use Rattle.smx_text.proofs.ProgramsLemmas.{HasRoom, misplaced, too_many, longer_begun}
 use Rattle.smx_text.proofs.ProgramsValueLemmas.{begun_is_body}
-use Rattle.smx_words.proofs.DecidedCommandLemmas.{command_reading}
-use Rattle.smx_words.proofs.DecidedLineLemmas.{driver_reading, process_reading}
+use Rattle.smx_words.proofs.DecidedCommandLemmas.{command_has_words}
+use Rattle.smx_words.proofs.DecidedLineLemmas.{driver_has_words, process_has_words}
 use Rattle.smx_types.specs.declared.version.Version.{Version}
-use Rattle.smx_types.specs.Versions.{most_drivers}
-use Rattle.smx_words.proofs.InVersionLemmas.{command_in}
+use Rattle.smx_types.specs.Versions.{is_hangup, most_drivers}
+use Rattle.smx_words.proofs.InVersionLemmas.{reading_in}
+use Rattle.smx_words.proofs.PlainLemmas.{some_command}
 
 -- a line may follow the lines of some programs, or it may not
 stands_or_not : (v : ProgramLists) (k : Line) → MayStand v k ⊎ (MayStand v k → ⊥)
@@ -38,11 +36,6 @@ stands_or_not v (line.Command c) =
       | inr none ↦ inr (λ some. omega (arith, some, none))
     ]
 stands_or_not v line.End = inl tt
-
--- any bytes read as a command that this version can express, or as none
-command_reading_in : (version : Version) (text : List ℕ)
-    → (o : Option Command) × IsReadAs (FitsCommandIn version) command_words text o
-command_reading_in version text = let c = command_reading text in command_in version text c.0 c.1
 
 -- programs have room for a line other than the end, or the limit for its kind is reached
 room_or_many : (version : Version) → (v : ProgramLists) (k : Line) → k ≢ line.End
@@ -79,9 +72,12 @@ behind version v allowed text =
     elim (same_or_not text (line_text (programs_grammar version) line.End)) [
       | inl end ↦ inr (inr (inr (end, v, allowed, refl)))
       | inr other ↦
-          by_reading command_words (command_reading_in version text) (λ c. read (line.Command c) (λ e. cc)) (λ commands.
-          by_reading driver_words (driver_reading text) (λ d. read (line.Driver d) (λ e. cc)) (λ drivers.
-          by_reading process_words (process_reading text) (λ n. read (line.Process n) (λ e. cc)) (λ processes.
+          by_reading command_words (reading_in command_has_words is_hangup version text some_command)
+          (λ c. read (line.Command c) (λ e. cc)) (λ commands.
+          by_reading driver_words (reading driver_has_words (λ x. omega arith) text)
+          (λ d. read (line.Driver d) (λ e. cc)) (λ drivers.
+          by_reading process_words (reading process_has_words (λ x. omega arith) text)
+          (λ n. read (line.Process n) (λ e. cc)) (λ processes.
           inr (inl (no_line version (body v) text commands drivers processes other)))))
     ]
 

@@ -1,5 +1,5 @@
 -- In a programs text, a line's text determines the line.
-use Rattle.std.proofs.Common.{◌≡◌, ◌≢◌, ℕ, Result, Bool, true, false, ◌||◌, List, refl, sym, ap, ◌∙◌, rules}
+use Rattle.std.proofs.Common.{◌≡◌, ◌≢◌, ℕ, Result, Bool, true, false, ◌||◌, List, refl, sym, ap, ◌∙◌, arith, rules}
 use Rattle.std.specs.Prelude.{codes}
 use Rattle.std.specs.Str.{bytes_eq}
 use Rattle.smx_types.specs.declared.command.Command.{Command}
@@ -19,8 +19,10 @@ use Rattle.smx_text.proofs.GrammarLemmas.{IsWellMade}
 use Rattle.smx_text.proofs.ProgramsOrderLemmas.{end_is_last}
 use Rattle.smx_text.proofs.ProgramsValueLemmas.{one_value}
 use Rattle.smx_words.specs.Words.{AreWords}
-use Rattle.smx_words.proofs.LawLemmas.{command_spelled, driver_spelled, process_spelled, one_command}
-use Rattle.smx_words.proofs.LawLemmas.{one_driver, one_process}
+use Rattle.smx_words.proofs.DecidedCommandLemmas.{command_has_words}
+use Rattle.smx_words.proofs.DecidedLemmas.{one_line}
+use Rattle.smx_words.proofs.DecidedLineLemmas.{driver_has_words, process_has_words}
+use Rattle.smx_words.proofs.PlainLemmas.{some_command}
 use Rattle.smx_text.proofs.VersionLemmas.{AreVersions}
 use Rattle.smx_text.proofs.LineWordLemmas.{one_spelling, first_word, end_spelled, one_line_of, differ}
 use Rattle.smx_types.specs.declared.version.Version.{Version}
@@ -54,20 +56,20 @@ not_verb c ws e h = let t = verb_first c in
 
 -- a line that fits has at least one word, and all words are printable bytes
 spelling : (version : Version) (k : Line) → FitsLine version k → AreWords (line_words k)
-spelling version (line.Driver d) fits = driver_spelled d fits
-spelling version (line.Process n) fits = process_spelled n fits
-spelling version (line.Command c) fits = command_spelled c fits.0
+spelling version (line.Driver d) fits = (driver_has_words.are_words d fits, omega arith)
+spelling version (line.Process n) fits = (process_has_words.are_words n fits, omega arith)
+spelling version (line.Command c) fits = (command_has_words.are_words c fits.0, some_command c)
 spelling version line.End fits = end_spelled
 
 -- two lines of programs that fit a version and have the same words are equal
 words_apart : (version : Version) (k l : Line) → FitsLine version k → FitsLine version l → line_words k ≡ line_words l
     → line_text (programs_grammar version) k ≡ line_text (programs_grammar version) l → k ≡ l
 words_apart version (line.Driver d) (line.Driver e) fits also ws same =
-    ap (λ x. line.Driver x) (one_driver d e fits also same)
+    ap (λ x. line.Driver x) (one_line driver_has_words d e fits also same)
 words_apart version (line.Process n) (line.Process m) fits also ws same =
-    ap (λ x. line.Process x) (one_process n m fits also same)
+    ap (λ x. line.Process x) (one_line process_has_words n m fits also same)
 words_apart version (line.Command c) (line.Command d) fits also ws same =
-    ap (λ x. line.Command x) (one_command c d fits.0 also.0 same)
+    ap (λ x. line.Command x) (one_line command_has_words c d fits.0 also.0 same)
 words_apart version line.End line.End fits also ws same = refl
 words_apart version (line.Command c) l fits also ws same = absurd (not_verb c _ ws refl)
 words_apart version k (line.Command c) fits also ws same = absurd (not_verb c _ (sym ws) refl)

@@ -1,19 +1,14 @@
 -- Every text after the lines of a transcript that is being read is decided.
-use Rattle.std.proofs.Common.{◌≡◌, ◌≢◌, ℕ, Bool, true, false, List, Option, Some, None, refl}
-use Rattle.std.proofs.Common.{sym, subst, inl, inr}
-use Rattle.smx_types.specs.declared.command.Entry.{Entry}
+use Rattle.std.proofs.Common.{◌≡◌, ◌≢◌, ℕ, Bool, true, false, List, refl, sym, subst, arith, inl, inr}
+use Rattle.smx_types.specs.Versions.{is_of_hangup}
 use Rattle.smx_types.specs.declared.version.Version.{Version}
-use Rattle.smx_types.specs.declared.version.Version.TheVariants.{V1, V2}
-use Rattle.smx_types.specs.declared.view.HungLine.{HungLine}
-use Rattle.smx_words.specs.LineReading.{IsReadAs}
 use Rattle.smx_words.specs.Spelling.{driver_words, entry_words, descriptor_words, link_words, bind_words}
 use Rattle.smx_words.specs.Spelling.{route_words, message_words, full_words, hung_words, next_words}
-use Rattle.smx_words.specs.Spellable.{FitsEntryIn}
-use Rattle.smx_words.proofs.DecidedCommandLemmas.{entry_reading}
-use Rattle.smx_words.proofs.DecidedLineLemmas.{driver_reading, next_reading, descriptor_reading}
-use Rattle.smx_words.proofs.DecidedLineLemmas.{link_reading, bind_reading, route_reading, message_reading}
-use Rattle.smx_words.proofs.DecidedLineLemmas.{full_reading, hung_reading}
-use Rattle.smx_words.proofs.InVersionLemmas.{entry_in}
+use Rattle.smx_words.proofs.DecidedCommandLemmas.{entry_has_words}
+use Rattle.smx_words.proofs.DecidedLineLemmas.{bind_has_words, descriptor_has_words, driver_has_words, full_has_words}
+use Rattle.smx_words.proofs.DecidedLineLemmas.{hung_has_words, link_has_words, message_has_words, next_has_words}
+use Rattle.smx_words.proofs.DecidedLineLemmas.{route_has_words}
+use Rattle.smx_words.proofs.InVersionLemmas.{reading_in}
 use Rattle.smx_text.specs.declared.text_fault.Cause.TheVariants as cause
 use Rattle.smx_text.specs.declared.transcript.draft.Stage.{Stage}
 use Rattle.smx_text.specs.declared.transcript.draft.Stage.TheVariants as stage
@@ -22,25 +17,12 @@ use Rattle.smx_text.specs.Drafts.{grammar_of, lines, is_view}
 use Rattle.smx_text.specs.Grammar.{IsBegun, IsNoLine, line_text}
 use Rattle.smx_text.specs.TranscriptLines.{TranscriptLine}
 use Rattle.smx_text.specs.TranscriptLines as line
-use Rattle.smx_text.specs.TranscriptText.{FitsHungIn, FitsLine, transcript_grammar}
-use Rattle.smx_words.proofs.DecidedLemmas.{same_or_not}
+use Rattle.smx_text.specs.TranscriptText.{FitsLine, transcript_grammar}
+use Rattle.smx_words.proofs.DecidedLemmas.{reading, same_or_not}
 use Rattle.smx_text.proofs.HasReadingLemmas.{Decision, HasReading, by_reading, has_reading}
 use Rattle.smx_text.proofs.TranscriptDrafts.{takes, is_full}
 use Rattle.smx_text.proofs.TranscriptGrammarLemmas.{refused_line, not_at_end, well_made, no_line}
 use Rattle.smx_text.proofs.TranscriptLemmas.{misplaced, too_many, longer_begun, whole, begun_is_draft, nothing_begun}
-
--- any bytes read as an entry that this version can express, or as none
-entry_reading_in : (version : Version) (text : List ℕ)
-    → (o : Option Entry) × IsReadAs (FitsEntryIn version) entry_words text o
-entry_reading_in version text = let e = entry_reading text in entry_in version text e.0 e.1
-
--- any bytes read as a hung-up stream that this version can express, or as none
-hung_reading_in : (version : Version) (text : List ℕ)
-    → (o : Option HungLine) × IsReadAs (FitsHungIn version) hung_words text o
-hung_reading_in V1 text = (None, λ x told e. absurd (cc told.1))
-hung_reading_in V2 text =
-    by_reading hung_words (hung_reading text) (λ x fits is. (Some x, ((fits, tt), is)))
-    (λ none. (None, λ x told e. none x told.0 e))
 
 -- after the lines of a draft, the text of a line that fits and is not the end is decided
 judged : (d : TranscriptDraft) → IsBegun (grammar_of d) (lines d) → (text : List ℕ) (k : TranscriptLine)
@@ -81,19 +63,21 @@ behind d begun text =
     elim (same_or_not text (line_text (grammar_of d) line.End)) [
       | inl end ↦ at_end d begun text end
       | inr other ↦
-          by_reading entry_words (entry_reading_in version text) (λ x. read (line.Entry x) (λ e. cc)) (λ entries.
-          by_reading message_words (message_reading text) (λ x. read (line.Msg x) (λ e. cc)) (λ messages.
-          by_reading driver_words (driver_reading text) (λ x. read (line.Driver x) (λ e. cc)) (λ drivers.
+          by_reading entry_words (reading_in entry_has_words is_of_hangup version text (λ x. omega arith))
+          (λ x. read (line.Entry x) (λ e. cc)) (λ entries.
+          by_reading message_words (reading message_has_words (λ x. omega arith) text) (λ x. read (line.Msg x) (λ e. cc)) (λ messages.
+          by_reading driver_words (reading driver_has_words (λ x. omega arith) text) (λ x. read (line.Driver x) (λ e. cc)) (λ drivers.
           elim (same_or_not text (line_text (grammar_of d) line.Config)) [
             | inl is ↦ read line.Config (λ e. cc) tt is
             | inr config ↦
-                by_reading next_words (next_reading text) (λ x. read (line.Next x.0 x.1) (λ e. cc)) (λ nexts.
-                by_reading descriptor_words (descriptor_reading text) (λ x. read (line.Fd x) (λ e. cc)) (λ fds.
-                by_reading link_words (link_reading text) (λ x. read (line.Link x) (λ e. cc)) (λ links.
-                by_reading bind_words (bind_reading text) (λ x. read (line.Bind x) (λ e. cc)) (λ binds.
-                by_reading route_words (route_reading text) (λ x. read (line.Route x) (λ e. cc)) (λ routes.
-                by_reading full_words (full_reading text) (λ x. read (line.Full x) (λ e. cc)) (λ fulls.
-                by_reading hung_words (hung_reading_in version text) (λ x. read (line.Hung x) (λ e. cc)) (λ hungs.
+                by_reading next_words (reading next_has_words (λ x. omega arith) text) (λ x. read (line.Next x.0 x.1) (λ e. cc)) (λ nexts.
+                by_reading descriptor_words (reading descriptor_has_words (λ x. omega arith) text) (λ x. read (line.Fd x) (λ e. cc)) (λ fds.
+                by_reading link_words (reading link_has_words (λ x. omega arith) text) (λ x. read (line.Link x) (λ e. cc)) (λ links.
+                by_reading bind_words (reading bind_has_words (λ x. omega arith) text) (λ x. read (line.Bind x) (λ e. cc)) (λ binds.
+                by_reading route_words (reading route_has_words (λ x. omega arith) text) (λ x. read (line.Route x) (λ e. cc)) (λ routes.
+                by_reading full_words (reading full_has_words (λ x. omega arith) text) (λ x. read (line.Full x) (λ e. cc)) (λ fulls.
+                by_reading hung_words (reading_in hung_has_words (λ x. true) version text (λ x. omega arith))
+                (λ x. read (line.Hung x) (λ e. cc)) (λ hungs.
                 inr (inl (no_line version (lines d) text entries messages drivers config nexts fds links binds routes
                 fulls hungs other)))))))))
           ])))

@@ -41,11 +41,11 @@ use Rattle.smx_text.proofs.VersionLemmas.{AreVersions}
 use Rattle.smx_text.proofs.LineWordLemmas.{one_spelling, first_word, end_spelled, config_spelled, one_line_of, differ}
 use Rattle.smx_words.specs.Words.{AreWords}
 use Rattle.smx_words.proofs.NumberLemmas.{own}
-use Rattle.smx_words.proofs.LawLemmas.{driver_spelled, entry_spelled, next_spelled, descriptor_spelled}
-use Rattle.smx_words.proofs.LawLemmas.{link_spelled, bind_spelled, route_spelled, message_spelled}
-use Rattle.smx_words.proofs.LawLemmas.{full_spelled, hung_spelled}
-use Rattle.smx_words.proofs.LawLemmas.{one_driver, one_entry, one_next, one_descriptor, one_link, one_bind}
-use Rattle.smx_words.proofs.LawLemmas.{one_route, one_message, one_full, one_hung}
+use Rattle.smx_words.proofs.DecidedCommandLemmas.{entry_has_words}
+use Rattle.smx_words.proofs.DecidedLemmas.{one_line}
+use Rattle.smx_words.proofs.DecidedLineLemmas.{bind_has_words, descriptor_has_words, driver_has_words, full_has_words}
+use Rattle.smx_words.proofs.DecidedLineLemmas.{hung_has_words, link_has_words, message_has_words, next_has_words}
+use Rattle.smx_words.proofs.DecidedLineLemmas.{route_has_words}
 
 -- ---- kinds of lines, by their first words
 
@@ -85,17 +85,17 @@ kind_first version k fits = refl
 
 -- a line that fits has at least one word, and all words are printable bytes
 pub spelling : (version : Version) (k : TranscriptLine) → FitsLine version k → AreWords (line_words k)
-spelling version (line.Driver d) fits = driver_spelled d fits
-spelling version (line.Entry e) fits = entry_spelled e fits.0
+spelling version (line.Driver d) fits = (driver_has_words.are_words d fits, omega arith)
+spelling version (line.Entry e) fits = (entry_has_words.are_words e fits.0, omega arith)
 spelling version line.Config fits = config_spelled
-spelling version (line.Next id serial) fits = next_spelled (id, serial) fits
-spelling version (line.Fd d) fits = descriptor_spelled d fits
-spelling version (line.Link l) fits = link_spelled l fits
-spelling version (line.Bind b) fits = bind_spelled b fits
-spelling version (line.Route r) fits = route_spelled r fits
-spelling version (line.Msg m) fits = message_spelled m fits
-spelling version (line.Full f) fits = full_spelled f fits
-spelling version (line.Hung h) fits = hung_spelled h fits.0
+spelling version (line.Next id serial) fits = (next_has_words.are_words (id, serial) fits, omega arith)
+spelling version (line.Fd d) fits = (descriptor_has_words.are_words d fits, omega arith)
+spelling version (line.Link l) fits = (link_has_words.are_words l fits, omega arith)
+spelling version (line.Bind b) fits = (bind_has_words.are_words b fits, omega arith)
+spelling version (line.Route r) fits = (route_has_words.are_words r fits, omega arith)
+spelling version (line.Msg m) fits = (message_has_words.are_words m fits, omega arith)
+spelling version (line.Full f) fits = (full_has_words.are_words f fits, omega arith)
+spelling version (line.Hung h) fits = (hung_has_words.are_words h fits.0, omega arith)
 spelling version line.End fits = end_spelled
 
 module _ (version : Version) where
@@ -103,21 +103,21 @@ module _ (version : Version) where
   kinds_apart : (k l : TranscriptLine) → FitsLine version k → FitsLine version l → kind_of k ≡ kind_of l
       → line_text (transcript_grammar version) k ≡ line_text (transcript_grammar version) l → k ≡ l
   kinds_apart (line.Driver d) (line.Driver e) fits also kinds same =
-      ap (λ x. line.Driver x) (one_driver d e fits also same)
+      ap (λ x. line.Driver x) (one_line driver_has_words d e fits also same)
   kinds_apart (line.Entry d) (line.Entry e) fits also kinds same =
-      ap (λ x. line.Entry x) (one_entry d e fits.0 also.0 same)
+      ap (λ x. line.Entry x) (one_line entry_has_words d e fits.0 also.0 same)
   kinds_apart line.Config line.Config fits also kinds same = refl
   kinds_apart (line.Next id serial) (line.Next jd terial) fits also kinds same =
-      let pair = one_next (id, serial) (jd, terial) fits also same in ap (λ (p : ℕ × ℕ). line.Next p.0 p.1) pair
-  kinds_apart (line.Fd d) (line.Fd e) fits also kinds same = ap (λ x. line.Fd x) (one_descriptor d e fits also same)
-  kinds_apart (line.Link d) (line.Link e) fits also kinds same = ap (λ x. line.Link x) (one_link d e fits also same)
-  kinds_apart (line.Bind d) (line.Bind e) fits also kinds same = ap (λ x. line.Bind x) (one_bind d e fits also same)
+      let pair = one_line next_has_words (id, serial) (jd, terial) fits also same in ap (λ (p : ℕ × ℕ). line.Next p.0 p.1) pair
+  kinds_apart (line.Fd d) (line.Fd e) fits also kinds same = ap (λ x. line.Fd x) (one_line descriptor_has_words d e fits also same)
+  kinds_apart (line.Link d) (line.Link e) fits also kinds same = ap (λ x. line.Link x) (one_line link_has_words d e fits also same)
+  kinds_apart (line.Bind d) (line.Bind e) fits also kinds same = ap (λ x. line.Bind x) (one_line bind_has_words d e fits also same)
   kinds_apart (line.Route d) (line.Route e) fits also kinds same =
-      ap (λ x. line.Route x) (one_route d e fits also same)
-  kinds_apart (line.Msg d) (line.Msg e) fits also kinds same = ap (λ x. line.Msg x) (one_message d e fits also same)
-  kinds_apart (line.Full d) (line.Full e) fits also kinds same = ap (λ x. line.Full x) (one_full d e fits also same)
+      ap (λ x. line.Route x) (one_line route_has_words d e fits also same)
+  kinds_apart (line.Msg d) (line.Msg e) fits also kinds same = ap (λ x. line.Msg x) (one_line message_has_words d e fits also same)
+  kinds_apart (line.Full d) (line.Full e) fits also kinds same = ap (λ x. line.Full x) (one_line full_has_words d e fits also same)
   kinds_apart (line.Hung d) (line.Hung e) fits also kinds same =
-      ap (λ x. line.Hung x) (one_hung d e fits.0 also.0 same)
+      ap (λ x. line.Hung x) (one_line hung_has_words d e fits.0 also.0 same)
   kinds_apart line.End line.End fits also kinds same = refl
   kinds_apart k l fits also kinds same = absurd cc
 

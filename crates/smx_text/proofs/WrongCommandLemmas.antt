@@ -25,8 +25,10 @@ use Rattle.smx_words.specs.Spellable.{FitsBytes, FitsCommand, FitsCommandIn, Fit
 use Rattle.smx_words.specs.Spelling.{command_words, driver_words, process_words, sides_word, which_word}
 use Rattle.smx_words.specs.Words.{IsFree, SPACE, line_of}
 use Rattle.smx_words.proofs.HexLemmas.{by_digits}
-use Rattle.smx_words.proofs.LawLemmas.{command_spelled, driver_spelled, process_spelled}
+use Rattle.smx_words.proofs.DecidedCommandLemmas.{command_has_words}
+use Rattle.smx_words.proofs.DecidedLineLemmas.{driver_has_words, process_has_words}
 use Rattle.smx_words.proofs.NumberLemmas.{decimal_digits, own}
+use Rattle.smx_words.proofs.PlainLemmas.{some_command}
 use Rattle.smx_words.proofs.SameCommandLemmas.{verb_is, verb_of}
 use Rattle.smx_text.specs.declared.text_fault.Cause.TheVariants as cause
 use Rattle.smx_text.specs.Grammar.{IsNoLine, IsOneLine, Reaches}
@@ -65,13 +67,13 @@ no_words : (ws : List (List ℕ)) → AllByRecursion (IsFree SPACE) ws × (0 < l
     → line_of ws ≢ codes "end" → IsNoLine (programs_grammar V1) (body before) (line_of ws)
 no_words ws free none driver process end =
     no_line V1 (body before) (line_of ws) (λ c fits e.
-    none c fits (told ws (command_words c) free (command_spelled c fits.0) e))
+    none c fits (told ws (command_words c) free (command_has_words.are_words c fits.0, some_command c) e))
     (λ d fits e.
     wrong_first (ap (λ (vs : List (List ℕ)). bytes_eq (first_word vs) (codes "driver"))
-    (told ws (driver_words d) free (driver_spelled d fits) e)) driver)
+    (told ws (driver_words d) free (driver_has_words.are_words d fits, omega arith) e)) driver)
     (λ n fits e.
     wrong_first (ap (λ (vs : List (List ℕ)). bytes_eq (first_word vs) (codes "process"))
-    (told ws (process_words n) free (process_spelled n fits) e)) process) end where
+    (told ws (process_words n) free (process_has_words.are_words n fits, omega arith) e)) process) end where
       wrong_first : {b : Bool} → b ≡ true → b ≡ false → ⊥
       wrong_first e h = let bad : true ≡ false = sym e ∙ h in absurd (cc bad)
 

@@ -44,7 +44,8 @@ use Rattle.smx_text.proofs.TranscriptGrammarLemmas.{spelling}
 use Rattle.smx_text.proofs.TranscriptLemmas.{misplaced, nothing_begun}
 use Rattle.smx_text.proofs.LineWordLemmas.{first_word, differ}
 use Rattle.smx_text.proofs.WorkedFaultLemmas.{told, wrong_transcript, wrong_transcript_in_each}
-use Rattle.smx_words.proofs.InVersionLemmas.{no_entry_in}
+use Rattle.smx_words.proofs.DecidedCommandLemmas.{entry_has_words}
+use Rattle.smx_words.proofs.InVersionLemmas.{none_in}
 
 -- ---- the lines before the fault
 
@@ -305,7 +306,8 @@ later_entry : (x : AnyEntry) → FitsEntry x → is_of_hangup x ≡ true
     → kind_at (first_word (entry_words x)) ≡ 0 → IsWrongTranscript (with_line_3 (line_of (entry_words x))) 3 cause.Form
 later_entry x fits hangup free one digit =
     wrong_at_3 (line_of (entry_words x)) one (no_entry (entry_words x) free digit (λ e told same.
-    no_entry_in V1 (line_of (entry_words x)) x fits refl (λ can. absurd (cc (can, hangup))) e told (ap line_of same)))
+    none_in entry_has_words is_of_hangup V1 (line_of (entry_words x)) x fits refl (λ can. absurd (cc (can, hangup))) e
+    told (ap line_of same)))
 
 -- version 1 has no entry of a hangup
 pub hangup_in_version_1 : IsWrongTranscript (with_line_3 (codes "0 hangup ip 0 = done")) 3 cause.Form

@@ -10,4 +10,3 @@ pub mod GrowingTranscripts
 pub mod Drafts
 pub mod WorkedTexts
 pub mod WorkedFaults
-pub mod WorkedLines

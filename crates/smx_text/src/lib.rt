@@ -2,7 +2,6 @@
 #![tactic(auto)]
 
 pub mod laws;
-pub mod laws_of_lines;
 mod programs;
 mod reading;
 mod text_fault;

@@ -4,7 +4,6 @@ ghost use Rattle.smx_text.specs.Grammar.{ReadsAny};
 ghost use Rattle.smx_text.specs.TranscriptText.{transcript_grammar};
 
 mod draft;
-mod entries;
 mod groups;
 
 use crate::reading::read;

@@ -1,20 +1,18 @@
--- Commands, replies and entries have words of their own, and each line has a reading as one of them.
-use Rattle.std.proofs.Common.{◌≢◌, ℕ, List, Option, refl, subst, arith, rules, inr}
+-- Commands, calls, replies and entries have words of their own, and it is decided whether words are those of one.
+use Rattle.std.proofs.Common.{◌≢◌, ℕ, List, refl, subst, rules, inr}
 use Rattle.std.specs.List.{AllByRecursion}
 use Rattle.std.specs.Prelude.{codes}
 use Rattle.smx_types.specs.declared.command.Command.{Command}
 use Rattle.smx_types.specs.declared.command.Command.TheVariants as command
-use Rattle.smx_types.specs.declared.command.Entry.{Entry}
 use Rattle.smx_types.specs.declared.reply.Reply.TheVariants as reply
-use Rattle.smx_words.specs.LineReading.{IsReadAs}
 use Rattle.smx_words.specs.Spellable.{FitsCall, FitsCommand, FitsEntry, FitsReply}
 use Rattle.smx_words.specs.Spelling.{call_words, command_words, entry_words, reply_words}
 use Rattle.smx_words.specs.Words.{EQUALS, IsFree}
 use Rattle.smx_words.proofs.DecidedLemmas.{Answer, HasWords, after, each, first, joined, last, nothing, or_else}
-use Rattle.smx_words.proofs.DecidedLemmas.{reading, via}
+use Rattle.smx_words.proofs.DecidedLemmas.{via}
 use Rattle.smx_words.proofs.DecidedWordLemmas.{bytes, name, number, number_which, process, two_numbers}
 use Rattle.smx_words.proofs.LineLemmas.{all_weaker}
-use Rattle.smx_words.proofs.PlainLemmas.{command_plain, plain_words, plain_words_free, reply_plain, some_command}
+use Rattle.smx_words.proofs.PlainLemmas.{command_plain, plain_words, plain_words_free, reply_plain}
 use Rattle.smx_words.proofs.SameCommandLemmas.{same_command}
 use Rattle.smx_words.proofs.SameReplyLemmas.{same_reply}
 use Rattle.smx_words.proofs.SameWordLemmas.{every_fault, flush_sides}
@@ -121,17 +119,3 @@ entry_has_words = via (λ p. record { process = p.0; command = p.1.0; reply = p.
       no_sign : (c : Command) → FitsCommand c → AllByRecursion (λ w. w ≢ codes "=") (command_words c)
       no_sign c h = all_weaker (λ w k e. (subst (IsFree EQUALS) e k).0 refl) (command_words c)
           (plain_words_free (command_words c) (command_plain c h))
-
--- ---- each line has a reading
-
--- each line is that of a command, or of no command
-pub command_reading : (line : List ℕ) → (o : Option Command) × IsReadAs FitsCommand command_words line o
-command_reading = reading command_has_words some_command
-
--- each line is that of an entry, or of no entry
-pub entry_reading : (line : List ℕ) → (o : Option Entry) × IsReadAs FitsEntry entry_words line o
-entry_reading = reading entry_has_words (λ e. omega arith)
-
--- each line is that of a call, or of no call
-pub call_reading : (line : List ℕ) → (o : Option (ℕ × Command)) × IsReadAs FitsCall call_words line o
-call_reading = reading call_has_words (λ c. omega arith)

@@ -1,22 +1,13 @@
--- Each kind of value has words of its own, and each line has a reading as that kind.
-use Rattle.std.proofs.Common.{ℕ, List, Option, refl, arith, rules}
+-- Each kind of value has words of its own, and it is decided whether words are those of a value of the kind.
+use Rattle.std.proofs.Common.{refl, rules}
 use Rattle.std.specs.Prelude.{codes}
-use Rattle.smx_types.specs.declared.driver.DriverSpec.{DriverSpec}
-use Rattle.smx_types.specs.declared.view.BindingLine.{BindingLine}
-use Rattle.smx_types.specs.declared.view.DescriptorLine.{DescriptorLine}
-use Rattle.smx_types.specs.declared.view.FullLine.{FullLine}
-use Rattle.smx_types.specs.declared.view.LinkLine.{LinkLine}
-use Rattle.smx_types.specs.declared.view.MessageLine.{MessageLine}
-use Rattle.smx_types.specs.declared.view.RouteLine.{RouteLine}
-use Rattle.smx_words.specs.LineReading.{IsReadAs}
 use Rattle.smx_words.specs.Spellable.{FitsBinding, FitsDescriptor, FitsDriver, FitsFull, FitsLink, FitsHung}
 use Rattle.smx_words.specs.Spellable.{FitsMessage, FitsNext, FitsNumber, FitsRoute}
 use Rattle.smx_words.specs.Spelling.{bind_words, descriptor_words, driver_words, full_words, link_words, hung_words}
 use Rattle.smx_words.specs.Spelling.{message_words, next_words, process_words, route_words}
-use Rattle.smx_words.proofs.DecidedLemmas.{HasWords, after, first, last, reading, via}
+use Rattle.smx_words.proofs.DecidedLemmas.{HasWords, after, first, last, via}
 use Rattle.smx_words.proofs.DecidedWordLemmas.{bytes, name, number, process}
 use Rattle.smx_words.proofs.SameWordLemmas.{driver_kind, link_kind, stream_side}
-use Rattle.smx_types.specs.declared.view.HungLine.{HungLine}
 
 -- the start of each process has words of its own, and it is decided whether words are such a start
 pub process_has_words : HasWords FitsNumber process_words
@@ -94,45 +85,3 @@ pub full_has_words : HasWords FitsFull full_words
 full_has_words = via (λ p. record { driver = p.0; minor = p.1.0; side = p.1.1 })
     (after (codes "full") refl (first name (first number (last stream_side))))
     (λ f. (f.driver, (f.minor, f.side))) (λ p h. search rules) (λ f h. search rules) (λ f. refl)
-
--- ---- each line has a reading
-
--- each line is the start of a process, or of no process
-pub process_reading : (line : List ℕ) → (o : Option ℕ) × IsReadAs FitsNumber process_words line o
-process_reading = reading process_has_words (λ x. omega arith)
-
--- each line is that of a next id and a next serial, or of no such pair
-pub next_reading : (line : List ℕ) → (o : Option (ℕ × ℕ)) × IsReadAs FitsNext next_words line o
-next_reading = reading next_has_words (λ x. omega arith)
-
--- each line is that of a driver, or of no driver
-pub driver_reading : (line : List ℕ) → (o : Option DriverSpec) × IsReadAs FitsDriver driver_words line o
-driver_reading = reading driver_has_words (λ x. omega arith)
-
--- each line is that of an open descriptor, or of no open descriptor
-pub descriptor_reading : (line : List ℕ) → (o : Option DescriptorLine) × IsReadAs FitsDescriptor descriptor_words line o
-descriptor_reading = reading descriptor_has_words (λ x. omega arith)
-
--- each line is that of a link, or of no link
-pub link_reading : (line : List ℕ) → (o : Option LinkLine) × IsReadAs FitsLink link_words line o
-link_reading = reading link_has_words (λ x. omega arith)
-
--- each line is that of a binding, or of no binding
-pub bind_reading : (line : List ℕ) → (o : Option BindingLine) × IsReadAs FitsBinding bind_words line o
-bind_reading = reading bind_has_words (λ x. omega arith)
-
--- each line is that of a route, or of no route
-pub route_reading : (line : List ℕ) → (o : Option RouteLine) × IsReadAs FitsRoute route_words line o
-route_reading = reading route_has_words (λ x. omega arith)
-
--- each line is that of a queued message, or of no queued message
-pub message_reading : (line : List ℕ) → (o : Option MessageLine) × IsReadAs FitsMessage message_words line o
-message_reading = reading message_has_words (λ x. omega arith)
-
--- each line is that of a full place, or of no full place
-pub full_reading : (line : List ℕ) → (o : Option FullLine) × IsReadAs FitsFull full_words line o
-full_reading = reading full_has_words (λ x. omega arith)
-
--- each line is that of a hung-up stream, or of no hung-up stream
-pub hung_reading : (line : List ℕ) → (o : Option HungLine) × IsReadAs FitsHung hung_words line o
-hung_reading = reading hung_has_words (λ x. omega arith)

@@ -1,6 +1,6 @@
 -- The commands, replies and entries that a version can express.
 use Rattle.std.proofs.Common.{◌≡◌, ◌≢◌, Bool, true, false, ◌||◌, ℕ, List, Option, Some, None, ◌++◌, ◌∷◌, codes, refl}
-use Rattle.std.proofs.Common.{ap, subst, sym, ◌∙◌}
+use Rattle.std.proofs.Common.{ap, subst, sym, ◌∙◌, ◌<◌, length}
 use Rattle.std.specs.Fmt.{decimal}
 use Rattle.smx_types.specs.Versions.{is_hangup, is_of_hangup, tells_of_hangup}
 use Rattle.smx_types.specs.declared.command.Command.{Command}
@@ -8,33 +8,11 @@ use Rattle.smx_types.specs.declared.command.Entry.{Entry}
 use Rattle.smx_types.specs.declared.version.Version.{Version}
 use Rattle.smx_types.specs.declared.version.Version.TheVariants.{V1, V2}
 use Rattle.smx_words.specs.LineReading.{IsCallLine, IsEntryLine, IsLineOf, IsReadAs}
-use Rattle.smx_words.specs.Spellable.{CanTell, FitsCall, FitsCallIn, FitsCommand, FitsCommandIn, FitsEntry}
-use Rattle.smx_words.specs.Spellable.{FitsEntryIn, FitsProcess, FitsReplyIn}
+use Rattle.smx_words.specs.Spellable.{CanTell, FitsCallIn, FitsCommandIn, FitsEntryIn, FitsProcess, FitsReplyIn}
 use Rattle.smx_words.specs.Spelling.{call_words, command_words, entry_words, reply_words}
 use Rattle.smx_words.specs.Words.{EQUALS, SPACE, IsFree, line_of}
 use Rattle.smx_words.proofs.EntryLemmas.{call_line, each_side, entry_line}
-use Rattle.smx_words.proofs.LawLemmas.{one_call, one_command, one_entry}
-
--- if a version can't express the command of a line, the line is that of no command of the version
-pub no_command_in : (v : Version) (line : List ℕ) (c : Command) → FitsCommand c → line ≡ line_of (command_words c)
-    → (CanTell v (is_hangup c) → ⊥) → (x : Command) → FitsCommandIn v x → line ≢ line_of (command_words x)
-no_command_in v line c fits is cannot x told e =
-    let same : c ≡ x = one_command c x fits told.0 (sym is ∙ e) in
-    cannot (rw same told.1)
-
--- if a version can't express the entry of a line, the line is that of no entry of the version
-pub no_entry_in : (v : Version) (line : List ℕ) (n : Entry) → FitsEntry n → line ≡ line_of (entry_words n)
-    → (CanTell v (is_of_hangup n) → ⊥) → (x : Entry) → FitsEntryIn v x → line ≢ line_of (entry_words x)
-no_entry_in v line n fits is cannot x told e =
-    let same : n ≡ x = one_entry n x fits told.0 (sym is ∙ e) in
-    cannot (rw same told.1)
-
--- if a version can't express the call of a line, the line is that of no call of the version
-pub no_call_in : (v : Version) (line : List ℕ) (c : ℕ × Command) → FitsCall c → line ≡ line_of (call_words c)
-    → (CanTell v (is_hangup c.1) → ⊥) → (x : ℕ × Command) → FitsCallIn v x → line ≢ line_of (call_words x)
-no_call_in v line c fits is cannot x told e =
-    let same : c ≡ x = one_call c x fits told.0 (sym is ∙ e) in
-    cannot (rw same told.1)
+use Rattle.smx_words.proofs.DecidedLemmas.{HasWords, one_line, reading}
 
 -- the number of a process and the line of a command of a version make the line of a call of the version
 pub call_in_is : (v : Version) (line rest : List ℕ) (n p : ℕ) (c : Command) → p ≡ n → FitsProcess n
@@ -86,10 +64,9 @@ entry_in_is v line call reply e is asked answered = (
 
 -- a line whose side after ` = ` is no reply's is no entry's
 pub no_reply : (v : Version) (line call reply : List ℕ) → IsFree EQUALS call → line ≡ call ++ codes " = " ++ reply
-    → IsReadAs (FitsReplyIn v) reply_words reply None → (o : Option Entry) → o ≡ None
-    → IsReadAs (FitsEntryIn v) entry_words line o
-no_reply v line call reply free is none o same =
-    rw same (λ x fits e. none x.reply (reply_fits v x fits) (each_side line call reply x fits.0 free is e).1)
+    → IsReadAs (FitsReplyIn v) reply_words reply None → IsReadAs (FitsEntryIn v) entry_words line None
+no_reply v line call reply free is none x fits e =
+    none x.reply (reply_fits v x fits) (each_side line call reply x fits.0 free is e).1
 
 -- the lines of a call and a reply, around ` = `, are an entry's line
 pub entry_in_spelled : (v : Version) (line call reply : List ℕ) → line ≡ call ++ codes " = " ++ reply
@@ -99,7 +76,7 @@ entry_in_spelled v line call reply sides c r =
     let all = entry_in_is v line call reply entry sides (c.1, c.2) (r.1, r.2) in
     (entry, all.0, all.1)
 
--- ---- it is decided whether a line is that of a command, call or entry of a version
+-- ---- it is decided whether a line is that of a value that a version can express
 
 -- it is decided whether a version can express something
 can_tell_or : (v : Version) (hangup : Bool) → Dec (CanTell v hangup)
@@ -107,29 +84,23 @@ can_tell_or V1 true = no (λ e. cc e)
 can_tell_or V1 false = yes refl
 can_tell_or V2 hangup = yes tt
 
--- a reading of a line as a command gives its reading as a command of a version
-pub command_in : (v : Version) (line : List ℕ) (o : Option Command) → IsReadAs FitsCommand command_words line o
-    → (t : Option Command) × IsReadAs (FitsCommandIn v) command_words line t
-command_in v line None none = (None, λ x told e. none x told.0 e)
-command_in v line (Some c) found = elim (can_tell_or v (is_hangup c)) [
-  | yes can ↦ (Some c, ((found.0, can), found.1))
-  | no cannot ↦ (None, no_command_in v line c found.0 found.1 cannot)
-]
+module _ {X : Type 0} {Fits : X → Type 0} {words : X → List (List ℕ)} (d : HasWords Fits words) (hangup : X → Bool)
+    (v : Version) (line : List ℕ) where
+  -- if a version can't express the value of a line, the line is that of no value that it can express
+  pub none_in : (x : X) → Fits x → line ≡ line_of (words x) → (CanTell v (hangup x) → ⊥)
+      → (y : X) → Fits y × CanTell v (hangup y) → line ≢ line_of (words y)
+  none_in x fits is cannot y told e =
+      let same : x ≡ y = one_line d x y fits told.0 (sym is ∙ e) in
+      cannot (subst (λ (z : X). CanTell v (hangup z)) (sym same) told.1)
 
--- a reading of a line as an entry gives its reading as an entry of a version
-pub entry_in : (v : Version) (line : List ℕ) (o : Option Entry) → IsReadAs FitsEntry entry_words line o
-    → (t : Option Entry) × IsReadAs (FitsEntryIn v) entry_words line t
-entry_in v line None none = (None, λ x told e. none x told.0 e)
-entry_in v line (Some x) found = elim (can_tell_or v (is_of_hangup x)) [
-  | yes can ↦ (Some x, ((found.0, can), found.1))
-  | no cannot ↦ (None, no_entry_in v line x found.0 found.1 cannot)
-]
-
--- a reading of a line as a call gives its reading as a call of a version
-pub call_in : (v : Version) (line : List ℕ) (o : Option (ℕ × Command)) → IsReadAs FitsCall call_words line o
-    → (t : Option (ℕ × Command)) × IsReadAs (FitsCallIn v) call_words line t
-call_in v line None none = (None, λ x told e. none x told.0 e)
-call_in v line (Some c) found = elim (can_tell_or v (is_hangup c.1)) [
-  | yes can ↦ (Some c, ((found.0, can), found.1))
-  | no cannot ↦ (None, no_call_in v line c found.0 found.1 cannot)
-]
+  -- each line is that of a value that the version can express, or of no such value
+  pub reading_in : ((x : X) → 0 < length (words x))
+      → (o : Option X) × IsReadAs (λ x. Fits x × CanTell v (hangup x)) words line o
+  reading_in some = let all = reading d some line in by_reading all.0 all.1 where
+    by_reading : (o : Option X) → IsReadAs Fits words line o
+        → (t : Option X) × IsReadAs (λ x. Fits x × CanTell v (hangup x)) words line t
+    by_reading None none = (None, λ x told e. none x told.0 e)
+    by_reading (Some x) found = elim (can_tell_or v (hangup x)) [
+      | yes can ↦ (Some x, ((found.0, can), found.1))
+      | no cannot ↦ (None, none_in x found.0 found.1 cannot)
+    ]

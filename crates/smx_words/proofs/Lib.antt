@@ -11,7 +11,6 @@ pub mod PlainLemmas
 pub mod SameWordLemmas
 pub mod SameCommandLemmas
 pub mod SameReplyLemmas
-pub mod LawLemmas
 pub mod InVersionLemmas
 pub mod DecidedLemmas
 pub mod DecidedWordLemmas

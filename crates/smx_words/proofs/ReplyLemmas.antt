@@ -1,9 +1,9 @@
 -- The serials of a reply, and replies without a verb.
-use Rattle.std.proofs.Common.{◌≡◌, ◌≢◌, Bool, ℕ, List, [], ◌∷◌, ◌++◌, map, Option, Some, None, Result, Ok}
-use Rattle.std.proofs.Common.{Err, refl, sym, ap, ◌∙◌, append_assoc, arith}
+use Rattle.std.proofs.Common.{◌≡◌, ◌≢◌, Bool, ℕ, List, [], ◌∷◌, ◌++◌, map, Option, Some, None, refl, sym, ap, ◌∙◌}
+use Rattle.std.proofs.Common.{append_assoc, arith}
 use Rattle.std.specs.List.{AllByRecursion}
 use Rattle.std.specs.Fmt.{decimal}
-use Rattle.std.specs.Prelude.{codes, is_some, IfErr, IfOk, MatchBool, MatchOption, MatchResult}
+use Rattle.std.specs.Prelude.{codes, is_some, MatchBool, MatchOption}
 use Rattle.smx_types.specs.declared.reply.Fault.{Fault}
 use Rattle.smx_types.specs.declared.reply.Reply.{Reply}
 use Rattle.smx_types.specs.declared.reply.Reply.TheVariants as reply
@@ -68,22 +68,8 @@ one_more line before rest after n h fits is =
               ((omega arith, t.0.1.1), sym words.1),
             )
 
--- if the rest starts with no serial and space, the line is serials exactly if the rest is one serial
-pub last : {E : Type 0} (line before rest : List ℕ) (r : Result (Option (List ℕ)) E) → AreThen line before rest
-    → ((n : ℕ) (after : List ℕ) → FitsNumber n → rest ≢ decimal n ++ SPACE ∷ after)
-    → IfOk r (λ o. MatchOption o ((n : ℕ) → FitsNumber n
-    → rest ≢ decimal n) (λ all. (n : ℕ) × FitsNumber n × (rest ≡ decimal n) × (all ≡ before ++ n ∷ [])))
-    → IfOk r (IsReadAs FitsSerials (map decimal) line)
-last line before rest (Err e) h alone one = tt
-last line before rest (Ok None) h alone one = λ all fits e. let o = h.only all (fits, e) in by_rest o.0 o.2 where
-  by_rest : (more : List ℕ) → Spell rest more → ⊥
-  by_rest [] t = omega (arith, t.0.0)
-  by_rest (m ∷ []) t = one m t.0.1.0 t.1
-  by_rest (m ∷ k ∷ more) t = alone m (line_of (map decimal (k ∷ more))) t.0.1.0 t.1
-last line before rest (Ok (Some all)) h alone one = rw one.3 (h.then (one.0 ∷ []) ((omega arith, (one.1, tt)), one.2))
-
 -- the serials of the rest are the last of the line; if the rest has none, the line has none
-pub went_on : (line before rest : List ℕ) → AreThen line before rest → IsLineOf FitsSerials (map decimal) rest
+went_on : (line before rest : List ℕ) → AreThen line before rest → IsLineOf FitsSerials (map decimal) rest
     → IsLineOf FitsSerials (map decimal) line
 went_on line before rest h more = let all = h.then more.0 (more.1, more.2) in (before ++ more.0, all.0, all.1)
 
@@ -94,11 +80,11 @@ pub none_left : (line before rest : List ℕ) → AreThen line before rest
 none_left line before rest h none all fits e = let o = h.only all (fits, e) in none o.0 o.2.0 o.2.1
 
 -- a rest that is the word of one serial is the line of some serials
-pub last_is : (rest : List ℕ) (n : ℕ) → FitsNumber n → rest ≡ decimal n → IsLineOf FitsSerials (map decimal) rest
+last_is : (rest : List ℕ) (n : ℕ) → FitsNumber n → rest ≡ decimal n → IsLineOf FitsSerials (map decimal) rest
 last_is rest n fits is = (n ∷ [], (omega arith, (fits, tt)), is)
 
 -- a rest that is no serial, and starts with no serial and space, is the line of no serials
-last_is_none : (rest : List ℕ) → ((n : ℕ) (after : List ℕ) → FitsNumber n → rest ≢ decimal n ++ SPACE ∷ after)
+pub last_is_none : (rest : List ℕ) → ((n : ℕ) (after : List ℕ) → FitsNumber n → rest ≢ decimal n ++ SPACE ∷ after)
     → ((n : ℕ) → FitsNumber n → rest ≢ decimal n)
     → (all : List ℕ) → FitsSerials all → rest ≢ line_of (map decimal all)
 last_is_none rest alone one [] fits e = omega (arith, fits.0)
@@ -153,19 +139,3 @@ pub standing_alone : (line : List ℕ) (r : Option Reply)
 standing_alone line (Some x) none found = found
 standing_alone line None none found =
     no_lone_reply FitsReply line none found.0 (λ h. found.1) (λ f h. found.2 f)
-
--- if there was no memory for the last serial only, the line is the words of serials
-pub last_wanted : {A E : Type 0} (line before rest : List ℕ) (r : Result A E) → AreThen line before rest
-    → IfErr r (λ _. (n : ℕ) × FitsNumber n × (rest ≡ decimal n))
-    → IfErr r (λ _. IsLineOf FitsSerials (map decimal) line)
-last_wanted line before rest (Ok o) h wanted = tt
-last_wanted line before rest (Err e) h wanted = went_on line before rest h (last_is rest wanted.0 wanted.1 wanted.2)
-
--- if there is no memory for a serial, the line is serials exactly if the rest is
-pub went_bad : {E : Type 0} (line before rest : List ℕ) (r : Result (Option (List ℕ)) E) → AreThen line before rest
-    → MatchResult r (λ o. (o ≡ None) × ((all : List ℕ) → FitsSerials all → rest ≢ line_of (map decimal all)))
-    (λ _. IsLineOf FitsSerials (map decimal) rest)
-    → IfOk r (IsReadAs FitsSerials (map decimal) line) × IfErr r (λ _. IsLineOf FitsSerials (map decimal) line)
-went_bad line before rest (Err e) h m = (tt, went_on line before rest h m)
-went_bad line before rest (Ok None) h m = (none_left line before rest h m.1, tt)
-went_bad line before rest (Ok (Some all)) h m = absurd (cc m.0)

@@ -1,5 +1,5 @@
 -- Bytes that spell a number, a command or a call, and bytes that spell none of these.
-use Rattle.std.proofs.Common.{◌≡◌, ◌≢◌, true, ℕ, List, [], ◌∷◌, ◌++◌, refl, sym, ap, ◌∙◌, arith, rules}
+use Rattle.std.proofs.Common.{◌≡◌, ◌≢◌, true, ℕ, List, [], ◌∷◌, refl, sym, ap, ◌∙◌, arith, rules}
 use Rattle.std.specs.Fmt.{decimal, digits}
 use Rattle.std.specs.Prelude.{codes}
 use Rattle.std.specs.Str.Parse.{digits_value}
@@ -11,12 +11,11 @@ use Rattle.smx_types.specs.declared.version.Version.TheVariants.{V1, V2}
 use Rattle.smx_words.specs.LineReading.{IsCallLine, IsCommandLine}
 use Rattle.smx_words.specs.Spellable.{FitsCall, FitsCommand, FitsNumber}
 use Rattle.smx_words.specs.Spelling.{call_words, command_words, process_words}
-use Rattle.smx_words.specs.Words.{AreWords, SPACE, line_of}
+use Rattle.smx_words.specs.Words.{AreWords, line_of}
 use Rattle.smx_words.specs.declared.reading.verb.Verb.TheVariants as verb
-use Rattle.smx_words.proofs.CutLemmas.{apart, free_whole}
-use Rattle.smx_words.proofs.LawLemmas.{call_spelled, command_spelled}
+use Rattle.smx_words.proofs.DecidedCommandLemmas.{call_has_words, command_has_words}
 use Rattle.smx_words.proofs.LineLemmas.{same_words}
-use Rattle.smx_words.proofs.NumberLemmas.{number_free, own}
+use Rattle.smx_words.proofs.NumberLemmas.{own}
 use Rattle.smx_words.proofs.SameCommandLemmas.{verb_is, verb_of}
 
 -- ---- numbers
@@ -45,30 +44,6 @@ leading_zero n fits e =
 pub too_large : (n : ℕ) → FitsNumber n → codes "4294967296" ≢ decimal n
 too_large n fits e = let is : 4294967296 ≡ n = worth (codes "4294967296") n fits e in omega (arith, is, fits)
 
--- ---- bytes that start with a number
-
--- `7 x y` is the word of 7, a space, and `x y`
-pub seven_and_more_is : codes "7 x y" ≡ decimal 7 ++ SPACE ∷ codes "x y"
-unfolding digits
-seven_and_more_is = refl
-
--- `7 x y` starts with no number except 7
-pub only_seven : (n : ℕ) (after : List ℕ) → FitsNumber n → codes "7 x y" ≡ decimal n ++ SPACE ∷ after
-    → (decimal n ≡ decimal 7) × (after ≡ codes "x y")
-only_seven n after fits e =
-    apart SPACE (decimal n) (decimal 7) after (codes "x y") (number_free n fits) (number_free 7 (omega arith))
-    (sym e ∙ seven_and_more_is)
-
--- `7` starts with no number and space
-pub no_space : (n : ℕ) (after : List ℕ) → codes "7" ≢ decimal n ++ SPACE ∷ after
-no_space n after e = free_whole SPACE (codes "7") 1 (omega arith) (search (rules, arith)) (decimal n) after e
-
--- `4294967296 x` starts with no number of 32 bits
-pub begins_too_large : (n : ℕ) (after : List ℕ) → FitsNumber n → codes "4294967296 x" ≢ decimal n ++ SPACE ∷ after
-begins_too_large n after fits e =
-    too_large n fits (sym (apart SPACE (decimal n) (codes "4294967296") after (codes "x") (number_free n fits)
-    (search (rules, arith)) (sym e)).0)
-
 -- ---- lines of a process
 
 -- if `process` and a word are the line of a process, the word is that of its number
@@ -85,7 +60,7 @@ process_is = refl
 -- words with the line of a command are the words of that command
 told : (ws : List (List ℕ)) (c : Command) → AreWords ws → FitsCommand c → line_of ws ≡ line_of (command_words c)
     → ws ≡ command_words c
-told ws c are fits e = same_words ws (command_words c) are.0 (command_spelled c fits).0 e
+told ws c are fits e = same_words ws (command_words c) are.0 (command_has_words.are_words c fits) e
 
 -- `dup 0` is the line of a command of version 1
 pub dup_line : IsCommandLine V1 (codes "dup 0")
@@ -114,7 +89,7 @@ no_large_dup (c, fits, e) =
 -- words with the line of a call are the words of that call
 call_in : (ws : List (List ℕ)) (c : ℕ × Command) → AreWords ws → FitsCall c → line_of ws ≡ line_of (call_words c)
     → ws ≡ call_words c
-call_in ws c are fits e = same_words ws (call_words c) are.0 (call_spelled c fits).0 e
+call_in ws c are fits e = same_words ws (call_words c) are.0 (call_has_words.are_words c fits) e
 
 -- `63 dup 0` is the line of a call of version 1
 pub dup_call : IsCallLine V1 (codes "63 dup 0")

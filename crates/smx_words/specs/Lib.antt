@@ -3,6 +3,5 @@ pub mod HexWords
 pub mod Spelling
 pub mod Spellable
 pub mod LineReading
-pub mod WorkedWords
 pub mod Numbers
 pub mod Verbs

@@ -1,8 +1,7 @@
 //! Laws of readings: any bytes have a reading as each kind of line. Examples show right readings, and wrong ones.
 
-ghost use denote.Ref.{Bor};
 ghost use Rattle.std.specs.Fmt.{decimal};
-ghost use Rattle.std.specs.Prelude.{◌≡◌, ℕ, List, Option, Some, None, true, codes};
+ghost use Rattle.std.specs.Prelude.{ℕ, List, Option, Some, None, codes};
 ghost use Rattle.smx_types.specs.declared.command.Command.{Command};
 ghost use Rattle.smx_types.specs.declared.command.Entry.{Entry};
 ghost use Rattle.smx_types.specs.declared.driver.DriverSpec.{DriverSpec};
@@ -15,14 +14,13 @@ ghost use Rattle.smx_types.specs.declared.view.HungLine.{HungLine};
 ghost use Rattle.smx_types.specs.declared.view.LinkLine.{LinkLine};
 ghost use Rattle.smx_types.specs.declared.view.MessageLine.{MessageLine};
 ghost use Rattle.smx_types.specs.declared.view.RouteLine.{RouteLine};
-ghost use Rattle.smx_words.specs.LineReading.{BeginsWith, IsCallLine, IsCommandLine, IsFoundIn, IsReadAs, IsSpelled};
+ghost use Rattle.smx_words.specs.LineReading.{IsCallLine, IsCommandLine, IsFoundIn, IsReadAs, IsSpelled};
 ghost use Rattle.smx_words.specs.Spellable.{FitsDriver, FitsNumber, FitsCommand, FitsEntry, FitsNext};
 ghost use Rattle.smx_words.specs.Spellable.{FitsDescriptor, FitsLink, FitsBinding, FitsRoute, FitsMessage, FitsFull};
-ghost use Rattle.smx_words.specs.Spellable.{FitsAlways, FitsHung, FitsCommandIn, FitsEntryIn, FitsCallIn};
+ghost use Rattle.smx_words.specs.Spellable.{FitsHung, FitsCommandIn, FitsEntryIn, FitsCallIn};
 ghost use Rattle.smx_words.specs.Spelling.{driver_words, process_words, command_words, call_words, entry_words};
 ghost use Rattle.smx_words.specs.Spelling.{next_words, descriptor_words, link_words, bind_words, route_words};
 ghost use Rattle.smx_words.specs.Spelling.{message_words, full_words, hung_words};
-ghost use Rattle.smx_words.specs.WorkedWords.{a_or_a_b};
 
 /// Any line has a correct reading: a value that can be spelled and whose words are this line, or `None` if there is no
 /// such value. `driver_of` and the other readers return such a reading.
@@ -60,24 +58,6 @@ pub fn what_is_found_in_bytes()
     ensures spelled { IsSpelled FitsNumber decimal (codes "7") }
     ensures not_spelled { IsSpelled FitsNumber decimal (codes "07") → ⊥ }
     ensures too_large_to_be_spelled { IsSpelled FitsNumber decimal (codes "4294967296") → ⊥ }
-{}
-
-/// If bytes start with the word of a value that fits, and a space follows, the reading is the value and all bytes after
-/// that space. But if a spelling may itself contain a space (as in `a_or_a_b`, which spells values as `a` and `a b`),
-/// and the bytes can be split in this way at two different spaces, no reading is right: neither a value nor `None`.
-pub fn what_begins_bytes()
-    ensures begins { (rest : Bor (List ℕ)) → rest.now ≡ codes "x y"
-        → BeginsWith FitsNumber decimal (codes "7 x y") (Some (7, rest)) }
-    ensures not_with_less_behind { (rest : Bor (List ℕ)) → rest.now ≡ codes "y"
-        → BeginsWith FitsNumber decimal (codes "7 x y") (Some (7, rest)) → ⊥ }
-    ensures not_another { (rest : Bor (List ℕ)) → BeginsWith FitsNumber decimal (codes "7 x y") (Some (8, rest)) → ⊥ }
-    ensures not_too_large { (rest : Bor (List ℕ))
-        → BeginsWith FitsNumber decimal (codes "4294967296 x") (Some (4294967296, rest)) → ⊥ }
-    ensures not_in_two_ways { (rest : Bor (List ℕ)) → rest.now ≡ codes "b c"
-        → BeginsWith FitsAlways a_or_a_b (codes "a b c") (Some (true, rest)) → ⊥ }
-    ensures none { BeginsWith FitsNumber decimal (codes "7") None }
-    ensures none_too_large { BeginsWith FitsNumber decimal (codes "4294967296 x") None }
-    ensures not_none { BeginsWith FitsNumber decimal (codes "7 x y") None → ⊥ }
 {}
 
 /// A line is read as the value whose words it is, with one space between two words.

@@ -78,7 +78,10 @@ impl Draft for ProgramsDraft {
         match command_of(alloc, self.version, text) {
             Ok(Some(command)) => self.add_command(command),
             Ok(None) => self.add_other(alloc, text),
-            Err(NoMemory) => Err(self.command_unread()),
+            Err(NoMemory) => {
+                self.room_for_command()?;
+                Err(Cause::NoMemory)
+            }
         }
     }
 
@@ -174,18 +177,6 @@ impl ProgramsDraft {
         self.programs[last].push(command)?;
         self.count += 1;
         Ok(())
-    }
-
-    // Returns the cause for a command for which memory ran out: `NoMemory`, unless no command may follow here.
-    fn command_unread(&self) -> Cause
-        requires begun { IsBegun (programs_grammar self.now.version) (body self.now) }
-        ensures { (c : AnyCommand) → FitsCommandIn self.now.version c
-            → RefusesLine (programs_grammar self.now.version) (body self.now) (CommandLine c) result }
-    {
-        match self.room_for_command() {
-            Ok(()) => Cause::NoMemory,
-            Err(cause) => cause,
-        }
     }
 
     // Fails if no command may follow, or if one would be over the limit.

@@ -1,19 +1,23 @@
 //! A transcript that is being read.
 
-ghost use Rattle.std.specs.Prelude.{◌≡◌, ◌≢◌, [], OnOk};
+ghost use Rattle.std.specs.Prelude.{◌≡◌, ◌≢◌, ◌<◌, [], length, OnOk, IfErr};
 ghost use Rattle.smx_types.specs.declared.command.Entry.{Entry as AnyEntry};
-ghost use Rattle.smx_types.specs.declared.view.MessageLine.{MessageLine as AnyMessage};
 ghost use Rattle.smx_words.specs.Words.{line_of};
-ghost use Rattle.smx_words.specs.Spelling.{entry_words, message_words};
-ghost use Rattle.smx_words.specs.Spellable.{FitsDriver, FitsEntryIn, FitsMessage};
+ghost use Rattle.smx_words.specs.Spelling.{entry_words};
+ghost use Rattle.smx_words.specs.Spellable.{FitsDriver, FitsEntryIn};
 ghost use Rattle.smx_text.specs.Grammar.{IsBegun, line_text};
-ghost use Rattle.smx_text.specs.Reading.{AnswersLine, AnswersText};
+ghost use Rattle.smx_text.specs.Reading.{AnswersLine, AnswersText, RefusesLine};
 ghost use Rattle.smx_text.specs.Drafts.{lines, grammar_of};
 ghost use Rattle.smx_text.specs.TranscriptLines.{Driver as DriverLine, Config as ConfigLine, Next as NextLine, End};
+ghost use Rattle.smx_text.specs.TranscriptLines.{Entry as EntryLine};
+ghost use Rattle.smx_text.specs.declared.transcript.draft.Stage.TheVariants.{History};
+ghost use Rattle.smx_types.specs.declared.limits.TheConstants.{MAX_COMMANDS};
 
 use crate::reading::Draft;
 use crate::text_fault::Cause;
-use smx_types::{ConfigView, DriverSpec, Items, NoMemory, Transcript, Version};
+use smx_types::{
+    ConfigView, DriverSpec, Entry, Items, MAX_COMMANDS, NoMemory, Transcript, Version,
+};
 use smx_words::{driver_of, entry_of, message_of, next_of};
 use std::alloc::Global;
 
@@ -74,7 +78,10 @@ impl Draft for TranscriptDraft {
         match entry_of(alloc, self.transcript.version, text) {
             Ok(Some(entry)) => self.add_entry(entry),
             Ok(None) => self.add_other(alloc, text),
-            Err(NoMemory) => Err(self.entry_unread()),
+            Err(NoMemory) => {
+                self.room_for_entry()?;
+                Err(Cause::NoMemory)
+            }
         }
     }
 
@@ -126,23 +133,11 @@ impl TranscriptDraft {
         ensures version { OnOk result (self.new.transcript.version ≡ self.old.transcript.version) }
     {
         match message_of(alloc, text) {
-            Ok(Some(message)) => self.add_message(message),
-            Ok(None) => self.add_plain(alloc, text),
-            Err(NoMemory) => Err(self.message_unread()),
+            Ok(Some(message)) => return self.add_message(message),
+            Err(NoMemory) if self.takes_msgs() => return Err(Cause::NoMemory),
+            Err(NoMemory) => return Err(Cause::Form),
+            Ok(None) => {}
         }
-    }
-
-    // Adds a line other than an entry and a message.
-    fn add_plain(&mut self, alloc: Global, text: &[u8]) -> Result<(), Cause>
-        requires begun { IsBegun (grammar_of self.old) (lines self.old) }
-        requires no_entry { (e : AnyEntry) → FitsEntryIn self.old.transcript.version e
-            → text.now ≢ line_of (entry_words e) }
-        requires no_message { (m : AnyMessage) → FitsMessage m → text.now ≢ line_of (message_words m) }
-        requires no_end { text.now ≢ line_text (grammar_of self.old) End }
-        ensures answers { AnswersText (grammar_of self.old) (lines self.old) text.now
-            (lines self.new) result }
-        ensures version { OnOk result (self.new.transcript.version ≡ self.old.transcript.version) }
-    {
         if let Some(driver) = driver_of(text) {
             return self.add_driver(driver);
         }
@@ -170,6 +165,35 @@ impl TranscriptDraft {
             return Err(Cause::Many);
         }
         self.transcript.drivers.push(driver)?;
+        Ok(())
+    }
+
+    // Entries come before the configuration.
+    fn add_entry(&mut self, entry: Entry) -> Result<(), Cause>
+        requires begun { IsBegun (grammar_of self.old) (lines self.old) }
+        requires fits { FitsEntryIn self.old.transcript.version entry }
+        ensures answers { AnswersLine (grammar_of self.old) (lines self.old) (EntryLine entry)
+            (lines self.new) result }
+        ensures version { OnOk result (self.new.transcript.version ≡ self.old.transcript.version) }
+    {
+        self.room_for_entry()?;
+        self.transcript.entries.push(entry)?;
+        Ok(())
+    }
+
+    // Fails if no entry may follow, or if one would be over the limit.
+    fn room_for_entry(&self) -> Result<(), Cause>
+        ensures history { OnOk result (self.now.stage ≡ History) }
+        ensures few { OnOk result (length self.now.transcript.entries < MAX_COMMANDS) }
+        ensures refused { IfErr result (λ why. (e : AnyEntry)
+            → RefusesLine (grammar_of self.now) (lines self.now) (EntryLine e) why) }
+    {
+        if self.stage != Stage::History {
+            return Err(Cause::Form);
+        }
+        if self.transcript.entries.as_slice().len() >= MAX_COMMANDS {
+            return Err(Cause::Many);
+        }
         Ok(())
     }
 

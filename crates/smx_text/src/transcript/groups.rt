@@ -9,7 +9,7 @@ ghost use Rattle.smx_words.specs.Spelling.{entry_words, message_words, driver_wo
 ghost use Rattle.smx_words.specs.Spellable.{FitsDriver, FitsEntryIn, FitsMessage, FitsNext};
 ghost use Rattle.smx_text.specs.TranscriptText.{FitsHungIn};
 ghost use Rattle.smx_text.specs.Grammar.{IsBegun, line_text};
-ghost use Rattle.smx_text.specs.Reading.{AnswersLine, AnswersText, RefusesLine};
+ghost use Rattle.smx_text.specs.Reading.{AnswersLine, AnswersText};
 ghost use Rattle.smx_text.specs.Drafts.{lines, takes_fds, takes_links, takes_binds, takes_routes, takes_msgs};
 ghost use Rattle.smx_text.specs.Drafts.{takes_fulls, takes_hungs, grammar_of};
 ghost use Rattle.smx_types.specs.declared.driver.DriverSpec.{DriverSpec as AnyDriver};
@@ -77,19 +77,6 @@ impl TranscriptDraft {
         push_if(self.takes_msgs(), &mut self.transcript.view.msgs, message)
     }
 
-    // Returns the cause for a message for which memory ran out: `NoMemory`, unless no message may follow here.
-    pub fn message_unread(&self) -> Cause
-        requires begun { IsBegun (grammar_of self.now) (lines self.now) }
-        ensures { (m : AnyMessage) → FitsMessage m
-            → RefusesLine (grammar_of self.now) (lines self.now) (MsgLine m) result }
-    {
-        if self.takes_msgs() {
-            Cause::NoMemory
-        } else {
-            Cause::Form
-        }
-    }
-
     // Returns whether a hung-up stream may follow: `next` was read, and this is the last group.
     fn takes_hungs(&self) -> bool
         ensures { result ≡ takes_hungs self.now }
@@ -105,7 +92,7 @@ impl TranscriptDraft {
     }
 
     // Returns whether a message may follow: the later groups are empty.
-    fn takes_msgs(&self) -> bool
+    pub fn takes_msgs(&self) -> bool
         ensures { result ≡ takes_msgs self.now }
     {
         self.takes_fulls() && self.transcript.view.fulls.as_slice().is_empty()

@@ -26,9 +26,8 @@ pub fn call_of_line(
     let Some(process) = Process::new(number) else {
         return Ok(None);
     };
-    match command_of(alloc, version, rest) {
-        Ok(Some(command)) => Ok(Some((process, command))),
-        Ok(None) => Ok(None),
-        Err(error) => Err(error),
-    }
+    let Some(command) = command_of(alloc, version, rest)? else {
+        return Ok(None);
+    };
+    Ok(Some((process, command)))
 }

@@ -62,68 +62,35 @@ fn command_after(alloc: Global, verb: Verb, rest: &[u8]) -> Result<Option<Comman
     ensures wanted { IfErr result (λ _. IsCommandLine V1 (line_of (verb_word verb ∷ rest.now ∷ []))) }
 {
     match verb {
-        Verb::Clone => Ok(clone(rest)),
-        Verb::Open => Ok(open(rest)),
-        Verb::Dup => Ok(dup(rest)),
-        Verb::Close => Ok(close(rest)),
+        Verb::Clone => Ok(name(rest).map(|driver| Command::OpenClone { driver })),
+        Verb::Open => Ok(name_and_number(rest).map(|(driver, minor)| Command::OpenMinor {
+            driver,
+            minor,
+        })),
+        Verb::Dup => Ok(number(rest).map(|fd| Command::Dup { fd })),
+        Verb::Close => Ok(number(rest).map(|fd| Command::Close { fd })),
         Verb::Exit => Ok(None),
-        Verb::Link => Ok(link(rest)),
-        Verb::Plink => Ok(plink(rest)),
+        Verb::Link => Ok(pair(rest).map(|(fd, arg)| Command::Link { fd, arg })),
+        Verb::Plink => Ok(pair(rest).map(|(fd, arg)| Command::Plink { fd, arg })),
         Verb::Unlink => Ok(unlink(rest)),
         Verb::Punlink => Ok(punlink(rest)),
-        Verb::Bind => Ok(bind(rest)),
-        Verb::Unbind => Ok(unbind(rest)),
+        Verb::Bind => Ok(pair(rest).map(|(fd, addr)| Command::Bind { fd, addr })),
+        Verb::Unbind => Ok(number(rest).map(|fd| Command::Unbind { fd })),
         Verb::Route => Ok(route(rest)),
-        Verb::Unroute => Ok(unroute(rest)),
+        Verb::Unroute => Ok(pair(rest).map(|(fd, addr)| Command::Unroute { fd, addr })),
         Verb::Write => write(alloc, rest),
-        Verb::Read => Ok(read(rest)),
+        Verb::Read => Ok(number(rest).map(|fd| Command::Read { fd })),
         Verb::Flush => Ok(flush(rest)),
         Verb::Inject => inject(alloc, rest),
-        Verb::Transmit => Ok(transmit(rest)),
-        Verb::Hangup => Ok(hangup(rest)),
+        Verb::Transmit => Ok(name_and_number(rest).map(|(driver, minor)| Command::Transmit {
+            driver,
+            minor,
+        })),
+        Verb::Hangup => Ok(name_and_number(rest).map(|(driver, minor)| Command::Hangup {
+            driver,
+            minor,
+        })),
     }
-}
-
-fn clone(rest: &[u8]) -> Option<Command>
-    ensures { IsReadAs FitsCommand command_words (line_of (codes "clone" ∷ rest.now ∷ [])) result }
-{
-    let driver = name(rest)?;
-    Some(Command::OpenClone { driver })
-}
-
-fn open(rest: &[u8]) -> Option<Command>
-    ensures { IsReadAs FitsCommand command_words (line_of (codes "open" ∷ rest.now ∷ [])) result }
-{
-    let (driver, minor) = name_and_number(rest)?;
-    Some(Command::OpenMinor { driver, minor })
-}
-
-fn dup(rest: &[u8]) -> Option<Command>
-    ensures { IsReadAs FitsCommand command_words (line_of (codes "dup" ∷ rest.now ∷ [])) result }
-{
-    let fd = number(rest)?;
-    Some(Command::Dup { fd })
-}
-
-fn close(rest: &[u8]) -> Option<Command>
-    ensures { IsReadAs FitsCommand command_words (line_of (codes "close" ∷ rest.now ∷ [])) result }
-{
-    let fd = number(rest)?;
-    Some(Command::Close { fd })
-}
-
-fn link(rest: &[u8]) -> Option<Command>
-    ensures { IsReadAs FitsCommand command_words (line_of (codes "link" ∷ rest.now ∷ [])) result }
-{
-    let (fd, arg) = pair(rest)?;
-    Some(Command::Link { fd, arg })
-}
-
-fn plink(rest: &[u8]) -> Option<Command>
-    ensures { IsReadAs FitsCommand command_words (line_of (codes "plink" ∷ rest.now ∷ [])) result }
-{
-    let (fd, arg) = pair(rest)?;
-    Some(Command::Plink { fd, arg })
 }
 
 fn unlink(rest: &[u8]) -> Option<Command>
@@ -142,40 +109,12 @@ fn punlink(rest: &[u8]) -> Option<Command>
     Some(Command::Punlink { fd, which })
 }
 
-fn bind(rest: &[u8]) -> Option<Command>
-    ensures { IsReadAs FitsCommand command_words (line_of (codes "bind" ∷ rest.now ∷ [])) result }
-{
-    let (fd, addr) = pair(rest)?;
-    Some(Command::Bind { fd, addr })
-}
-
-fn unbind(rest: &[u8]) -> Option<Command>
-    ensures { IsReadAs FitsCommand command_words (line_of (codes "unbind" ∷ rest.now ∷ [])) result }
-{
-    let fd = number(rest)?;
-    Some(Command::Unbind { fd })
-}
-
 fn route(rest: &[u8]) -> Option<Command>
     ensures { IsReadAs FitsCommand command_words (line_of (codes "route" ∷ rest.now ∷ [])) result }
 {
     let (fd, rest) = first_number(rest)?;
     let (addr, id) = pair(rest)?;
     Some(Command::Route { fd, addr, id })
-}
-
-fn unroute(rest: &[u8]) -> Option<Command>
-    ensures { IsReadAs FitsCommand command_words (line_of (codes "unroute" ∷ rest.now ∷ [])) result }
-{
-    let (fd, addr) = pair(rest)?;
-    Some(Command::Unroute { fd, addr })
-}
-
-fn read(rest: &[u8]) -> Option<Command>
-    ensures { IsReadAs FitsCommand command_words (line_of (codes "read" ∷ rest.now ∷ [])) result }
-{
-    let fd = number(rest)?;
-    Some(Command::Read { fd })
 }
 
 fn flush(rest: &[u8]) -> Option<Command>
@@ -186,20 +125,6 @@ fn flush(rest: &[u8]) -> Option<Command>
     Some(Command::Flush { fd, sides })
 }
 
-fn transmit(rest: &[u8]) -> Option<Command>
-    ensures { IsReadAs FitsCommand command_words (line_of (codes "transmit" ∷ rest.now ∷ [])) result }
-{
-    let (driver, minor) = name_and_number(rest)?;
-    Some(Command::Transmit { driver, minor })
-}
-
-fn hangup(rest: &[u8]) -> Option<Command>
-    ensures { IsReadAs FitsCommand command_words (line_of (codes "hangup" ∷ rest.now ∷ [])) result }
-{
-    let (driver, minor) = name_and_number(rest)?;
-    Some(Command::Hangup { driver, minor })
-}
-
 fn write(alloc: Global, rest: &[u8]) -> Result<Option<Command>, NoMemory>
     ensures reading { IfOk result
         (IsReadAs FitsCommand command_words (line_of (codes "write" ∷ rest.now ∷ []))) }
@@ -208,10 +133,8 @@ fn write(alloc: Global, rest: &[u8]) -> Result<Option<Command>, NoMemory>
     let Some((fd, rest)) = first_number(rest) else {
         return Ok(None);
     };
-    let (addr, bytes) = match number_and_bytes(alloc, rest) {
-        Ok(Some(message)) => message,
-        Ok(None) => return Ok(None),
-        Err(error) => return Err(error),
+    let Some((addr, bytes)) = number_and_bytes(alloc, rest)? else {
+        return Ok(None);
     };
     Ok(Some(Command::Write { fd, addr, bytes }))
 }
@@ -227,10 +150,8 @@ fn inject(alloc: Global, rest: &[u8]) -> Result<Option<Command>, NoMemory>
     let Some((minor, rest)) = first_number(rest) else {
         return Ok(None);
     };
-    let (addr, bytes) = match number_and_bytes(alloc, rest) {
-        Ok(Some(message)) => message,
-        Ok(None) => return Ok(None),
-        Err(error) => return Err(error),
+    let Some((addr, bytes)) = number_and_bytes(alloc, rest)? else {
+        return Ok(None);
     };
     Ok(Some(Command::Inject {
         driver,

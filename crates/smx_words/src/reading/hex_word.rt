@@ -27,11 +27,10 @@ pub fn number_and_bytes(alloc: Global, text: &[u8]) -> Result<Option<(u32, Bytes
     let Some((number, rest)) = first_number(text) else {
         return Ok(None);
     };
-    match bytes_of(alloc, rest) {
-        Ok(Some(bytes)) => Ok(Some((number, bytes))),
-        Ok(None) => Ok(None),
-        Err(error) => Err(error),
-    }
+    let Some(bytes) = bytes_of(alloc, rest)? else {
+        return Ok(None);
+    };
+    Ok(Some((number, bytes)))
 }
 
 // Parses a word of bytes. Fails only if an allocation fails while it reads such a word.
@@ -45,10 +44,8 @@ fn bytes_of(alloc: Global, word: &[u8]) -> Result<Option<Bytes>, NoMemory>
     if !spells_bytes(word) {
         return Ok(None);
     }
-    match decode(alloc, word) {
-        Ok(bytes) => Ok(Some(Bytes::from_vec(bytes))),
-        Err(error) => Err(error),
-    }
+    let bytes = decode(alloc, word)?;
+    Ok(Some(Bytes::from_vec(bytes)))
 }
 
 // Returns the bytes that digits spell. It doesn't use `hex::decode`, which tests each digit: with it a run with 16 MB

@@ -14,9 +14,7 @@ use smx_types::Process;
 pub fn number(word: &[u8]) -> Option<u32>
     ensures { IsFoundIn FitsNumber decimal word.now result }
 {
-    let Some((number, end)) = leading_number(word) else {
-        return None;
-    };
+    let (number, end) = leading_number(word)?;
     if end == word.len() {
         return Some(number);
     }
@@ -27,9 +25,7 @@ pub fn number(word: &[u8]) -> Option<u32>
 pub fn first_number(text: &[u8]) -> Option<(u32, &[u8])>
     ensures { BeginsWith FitsNumber decimal text.now result }
 {
-    let Some((number, end)) = leading_number(text) else {
-        return None;
-    };
+    let (number, end) = leading_number(text)?;
     if end < text.len() && text[end] == b' ' {
         Some((number, &text[end + 1..]))
     } else {
@@ -43,26 +39,18 @@ pub fn pair(text: &[u8]) -> Option<(u32, u32)>
         ((a b : ℕ) → FitsNumber a → FitsNumber b → text.now ≢ decimal a ++ SPACE ∷ decimal b)
         (λ p. FitsNumber p.0 × FitsNumber p.1 × (text.now ≡ decimal p.0 ++ SPACE ∷ decimal p.1)) }
 {
-    let Some((first, rest)) = first_number(text) else {
-        return None;
-    };
-    match number(rest) {
-        Some(second) => Some((first, second)),
-        None => None,
-    }
+    let (first, rest) = first_number(text)?;
+    let second = number(rest)?;
+    Some((first, second))
 }
 
 // Parses the process before the first space. Returns it and the bytes after the space.
 pub fn first_process(text: &[u8]) -> Option<(Process, &[u8])>
     ensures { BeginsWith FitsProcess decimal text.now result }
 {
-    let Some((number, rest)) = first_number(text) else {
-        return None;
-    };
-    match Process::new(number) {
-        Some(process) => Some((process, rest)),
-        None => None,
-    }
+    let (number, rest) = first_number(text)?;
+    let process = Process::new(number)?;
+    Some((process, rest))
 }
 
 // Parses the leading digits as a number. Returns it and the number of digits.

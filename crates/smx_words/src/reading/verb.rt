@@ -126,11 +126,7 @@ fn reply_verb_of(word: &[u8]) -> Option<ReplyVerb>
 pub fn first_reply_verb(text: &[u8]) -> Option<(ReplyVerb, &[u8])>
     ensures { BeginsWith FitsAlways reply_verb_word text.now result }
 {
-    let Some((word, rest)) = cut(text, b' ') else {
-        return None;
-    };
-    match reply_verb_of(word) {
-        Some(verb) => Some((verb, rest)),
-        None => None,
-    }
+    let (word, rest) = cut(text, b' ')?;
+    let verb = reply_verb_of(word)?;
+    Some((verb, rest))
 }

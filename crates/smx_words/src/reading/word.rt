@@ -22,13 +22,9 @@ pub fn name(word: &[u8]) -> Option<Name>
 pub fn first_name(text: &[u8]) -> Option<(Name, &[u8])>
     ensures { BeginsWith FitsName (λ n. n) text.now result }
 {
-    let Some((word, rest)) = cut(text, b' ') else {
-        return None;
-    };
-    match name(word) {
-        Some(name) => Some((name, rest)),
-        None => None,
-    }
+    let (word, rest) = cut(text, b' ')?;
+    let name = name(word)?;
+    Some((name, rest))
 }
 
 // Parses a name and a number.
@@ -40,10 +36,8 @@ pub fn name_and_number(text: &[u8]) -> Option<(Name, u32)>
     let Some((name, rest)) = first_name(text) else {
         return None;
     };
-    match number(rest) {
-        Some(number) => Some((name, number)),
-        None => None,
-    }
+    let number = number(rest)?;
+    Some((name, number))
 }
 
 /// Parses a kind of driver.
@@ -61,13 +55,9 @@ pub fn driver_kind(word: &[u8]) -> Option<DriverKind>
 pub fn first_kind(text: &[u8]) -> Option<(DriverKind, &[u8])>
     ensures { BeginsWith FitsAlways kind_word text.now result }
 {
-    let Some((word, rest)) = cut(text, b' ') else {
-        return None;
-    };
-    match driver_kind(word) {
-        Some(kind) => Some((kind, rest)),
-        None => None,
-    }
+    let (word, rest) = cut(text, b' ')?;
+    let kind = driver_kind(word)?;
+    Some((kind, rest))
 }
 
 /// Parses a selection of links: one link by its id, or all.
@@ -108,13 +98,9 @@ pub fn side(word: &[u8]) -> Option<Side>
 pub fn first_side(text: &[u8]) -> Option<(Side, &[u8])>
     ensures { BeginsWith FitsAlways side_word text.now result }
 {
-    let Some((word, rest)) = cut(text, b' ') else {
-        return None;
-    };
-    match side(word) {
-        Some(side) => Some((side, rest)),
-        None => None,
-    }
+    let (word, rest) = cut(text, b' ')?;
+    let side = side(word)?;
+    Some((side, rest))
 }
 
 /// Parses the kind of a link.

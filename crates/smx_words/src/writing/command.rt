@@ -2,8 +2,7 @@
 
 ghost use Rattle.std.specs.Prelude.{◌≡◌, ◌∷◌, ◌++◌, [], codes, OnOk};
 ghost use Rattle.std.specs.Fmt.{decimal};
-ghost use Rattle.smx_words.specs.HexWords.{hex_word};
-ghost use Rattle.smx_words.specs.Spellable.{FitsBytes, FitsCommand, FitsName, FitsNumber, FitsWhich};
+ghost use Rattle.smx_words.specs.Spellable.{FitsCommand, FitsName, FitsNumber, FitsWhich};
 ghost use Rattle.smx_words.specs.Spelling.{command_words, sides_word, which_word};
 ghost use Rattle.smx_words.specs.Words.{line_of};
 
@@ -31,26 +30,29 @@ pub(super) fn put_command(out: &mut Vec<u8>, command: &Command) -> Result<(), No
     ensures fits { OnOk result (FitsCommand command.now) }
 {
     match command {
-        Command::OpenClone { driver } => put_clone(out, driver),
+        Command::OpenClone { driver } => {
+            put_text(out, b"clone")?;
+            put_name(out, driver)
+        }
         Command::OpenMinor { driver, minor } => put_stream(out, b"open", driver, *minor),
         Command::Dup { fd } => put_one(out, b"dup", *fd),
         Command::Close { fd } => put_one(out, b"close", *fd),
-        Command::CloseAll => put_exit(out),
+        Command::CloseAll => put_text(out, b"exit"),
         Command::Link { fd, arg } => put_two(out, b"link", *fd, *arg),
         Command::Plink { fd, arg } => put_two(out, b"plink", *fd, *arg),
         Command::Unlink { fd, which } => put_which(out, b"unlink", *fd, *which),
         Command::Punlink { fd, which } => put_which(out, b"punlink", *fd, *which),
         Command::Bind { fd, addr } => put_two(out, b"bind", *fd, *addr),
         Command::Unbind { fd } => put_one(out, b"unbind", *fd),
-        Command::Route { fd, addr, id } => put_three(out, b"route", *fd, *addr, *id),
+        Command::Route { fd, addr, id } => {
+            put_two(out, b"route", *fd, *addr)?;
+            put_spaced(out, *id)
+        }
         Command::Unroute { fd, addr } => put_two(out, b"unroute", *fd, *addr),
-        Command::Write { fd, addr, bytes } => put_write(
-            out,
-            b"write",
-            *fd,
-            *addr,
-            bytes.as_slice(),
-        ),
+        Command::Write { fd, addr, bytes } => {
+            put_two(out, b"write", *fd, *addr)?;
+            put_bytes(out, bytes.as_slice())
+        }
         Command::Read { fd } => put_one(out, b"read", *fd),
         Command::Flush { fd, sides } => put_flush(out, *fd, *sides),
         Command::Inject {
@@ -58,25 +60,14 @@ pub(super) fn put_command(out: &mut Vec<u8>, command: &Command) -> Result<(), No
             minor,
             addr,
             bytes,
-        } => put_inject(out, driver, *minor, *addr, bytes.as_slice()),
+        } => {
+            put_stream(out, b"inject", driver, *minor)?;
+            put_spaced(out, *addr)?;
+            put_bytes(out, bytes.as_slice())
+        }
         Command::Transmit { driver, minor } => put_stream(out, b"transmit", driver, *minor),
         Command::Hangup { driver, minor } => put_stream(out, b"hangup", driver, *minor),
     }
-}
-
-fn put_exit(out: &mut Vec<u8>) -> Result<(), NoMemory>
-    ensures { OnOk result (out.new.items ≡ out.old.items ++ codes "exit") }
-{
-    put_text(out, b"exit")
-}
-
-fn put_clone(out: &mut Vec<u8>, driver: &Name) -> Result<(), NoMemory>
-    ensures written { OnOk result (out.new.items
-        ≡ out.old.items ++ line_of (codes "clone" ∷ driver.now ∷ [])) }
-    ensures fits { OnOk result (FitsName driver.now) }
-{
-    put_text(out, b"clone")?;
-    put_name(out, driver)
 }
 
 fn put_stream(out: &mut Vec<u8>, word: &[u8], driver: &Name, minor: u32) -> Result<(), NoMemory>
@@ -111,25 +102,6 @@ fn put_two(out: &mut Vec<u8>, word: &[u8], a: u32, b: u32) -> Result<(), NoMemor
     put_spaced(out, b)
 }
 
-fn put_three(out: &mut Vec<u8>, word: &[u8], a: u32, b: u32, c: u32) -> Result<(), NoMemory>
-    ensures written { OnOk result (out.new.items
-        ≡ out.old.items ++ line_of (word.now ∷ decimal a ∷ decimal b ∷ decimal c ∷ [])) }
-    ensures fits { FitsNumber a × FitsNumber b × FitsNumber c }
-{
-    put_two(out, word, a, b)?;
-    put_spaced(out, c)
-}
-
-// Appends a word, two numbers and bytes.
-fn put_write(out: &mut Vec<u8>, word: &[u8], a: u32, b: u32, bytes: &[u8]) -> Result<(), NoMemory>
-    ensures written { OnOk result (out.new.items
-        ≡ out.old.items ++ line_of (word.now ∷ decimal a ∷ decimal b ∷ hex_word bytes.now ∷ [])) }
-    ensures fits { FitsNumber a × FitsNumber b × FitsBytes bytes.now }
-{
-    put_two(out, word, a, b)?;
-    put_bytes(out, bytes)
-}
-
 fn put_which(out: &mut Vec<u8>, word: &[u8], fd: u32, which: Which) -> Result<(), NoMemory>
     ensures written { OnOk result (out.new.items
         ≡ out.old.items ++ line_of (word.now ∷ decimal fd ∷ which_word which ∷ [])) }
@@ -138,14 +110,8 @@ fn put_which(out: &mut Vec<u8>, word: &[u8], fd: u32, which: Which) -> Result<()
     put_one(out, word, fd)?;
     match which {
         Which::Id(id) => put_spaced(out, id),
-        Which::All => put_all(out),
+        Which::All => put_text(out, b" all"),
     }
-}
-
-fn put_all(out: &mut Vec<u8>) -> Result<(), NoMemory>
-    ensures { OnOk result (out.new.items ≡ out.old.items ++ codes " all") }
-{
-    put_text(out, b" all")
 }
 
 fn put_flush(out: &mut Vec<u8>, fd: u32, sides: Sides) -> Result<(), NoMemory>
@@ -162,22 +128,4 @@ fn put_flush(out: &mut Vec<u8>, fd: u32, sides: Sides) -> Result<(), NoMemory>
             Sides::RW => b" rw",
         },
     )
-}
-
-fn put_inject(
-    out: &mut Vec<u8>,
-    driver: &Name,
-    minor: u32,
-    addr: u32,
-    bytes: &[u8],
-) -> Result<(), NoMemory>
-    ensures written { OnOk result (out.new.items
-        ≡ out.old.items
-        ++ line_of (codes "inject" ∷ driver.now ∷ decimal minor ∷ decimal addr ∷ hex_word bytes.now ∷ [])) }
-    ensures fits { OnOk result (FitsName driver.now × FitsNumber minor
-        × FitsNumber addr × FitsBytes bytes.now) }
-{
-    put_stream(out, b"inject", driver, minor)?;
-    put_spaced(out, addr)?;
-    put_bytes(out, bytes)
 }

@@ -3,8 +3,7 @@
 ghost use Rattle.std.specs.Prelude.{◌≡◌, ◌∷◌, ◌++◌, [], codes, map, OnOk};
 ghost use Rattle.std.specs.Fmt.{decimal};
 ghost use Rattle.std.specs.List.{flat_map, AllByRecursion};
-ghost use Rattle.smx_words.specs.HexWords.{hex_word};
-ghost use Rattle.smx_words.specs.Spellable.{FitsBytes, FitsNumber, FitsReply};
+ghost use Rattle.smx_words.specs.Spellable.{FitsNumber, FitsReply};
 ghost use Rattle.smx_words.specs.Spelling.{fault_words, reply_words};
 ghost use Rattle.smx_words.specs.Words.{LINE_FEED, SPACE, line_of};
 
@@ -21,29 +20,25 @@ pub fn write_reply(out: &mut Vec<u8>, reply: &Reply) -> Result<(), NoMemory>
     ensures fits { OnOk result (FitsReply reply.now) }
 {
     match reply {
-        Reply::Fd { fd, minor } => put_descriptor(out, *fd, *minor),
+        Reply::Fd { fd, minor } => {
+            put_text(out, b" = fd")?;
+            put_spaced(out, *fd)?;
+            put_last(out, *minor)
+        }
         Reply::Id(id) => put_number(out, b" = id", *id),
         Reply::Took { serial } => put_number(out, b" = took", *serial),
         Reply::Got {
             serial,
             addr,
             bytes,
-        } => put_got(out, *serial, *addr, bytes.as_slice()),
+        } => {
+            put_text(out, b" = got")?;
+            put_message(out, *serial, *addr, bytes.as_slice())
+        }
         Reply::Done { dropped } => put_done(out, dropped.as_slice()),
         Reply::Eof => put_text(out, b" = eof\n"),
         Reply::Fault(fault) => put_fault(out, *fault),
     }
-}
-
-fn put_descriptor(out: &mut Vec<u8>, fd: u32, minor: u32) -> Result<(), NoMemory>
-    ensures written { OnOk result (out.new.items
-        ≡ out.old.items ++ codes " = " ++ line_of (codes "fd" ∷ decimal fd ∷ decimal minor ∷ [])
-        ++ LINE_FEED ∷ []) }
-    ensures fits { FitsNumber fd × FitsNumber minor }
-{
-    put_text(out, b" = fd")?;
-    put_spaced(out, fd)?;
-    put_last(out, minor)
 }
 
 fn put_number(out: &mut Vec<u8>, before: &[u8], n: u32) -> Result<(), NoMemory>
@@ -53,17 +48,6 @@ fn put_number(out: &mut Vec<u8>, before: &[u8], n: u32) -> Result<(), NoMemory>
 {
     put_text(out, before)?;
     put_last(out, n)
-}
-
-fn put_got(out: &mut Vec<u8>, serial: u32, addr: u32, bytes: &[u8]) -> Result<(), NoMemory>
-    ensures written { OnOk result (out.new.items
-        ≡ out.old.items ++ codes " = "
-        ++ line_of (codes "got" ∷ decimal serial ∷ decimal addr ∷ hex_word bytes.now ∷ [])
-        ++ LINE_FEED ∷ []) }
-    ensures fits { FitsNumber serial × FitsNumber addr × FitsBytes bytes.now }
-{
-    put_text(out, b" = got")?;
-    put_message(out, serial, addr, bytes)
 }
 
 fn put_done(out: &mut Vec<u8>, dropped: &[u32]) -> Result<(), NoMemory>

@@ -1,17 +1,17 @@
 //! The lines of a view.
 
-ghost use Rattle.std.specs.Prelude.{◌≡◌, ◌∷◌, ◌++◌, [], OnOk};
+ghost use Rattle.std.specs.Prelude.{◌≡◌, ◌∷◌, ◌++◌, OnOk};
 ghost use Rattle.std.specs.Fmt.{decimal};
 ghost use Rattle.smx_words.specs.Spellable.{FitsBinding, FitsDescriptor, FitsFull, FitsHung, FitsLink, FitsMessage};
 ghost use Rattle.smx_words.specs.Spellable.{FitsName, FitsNumber, FitsRoute};
 ghost use Rattle.smx_words.specs.Spelling.{bind_words, descriptor_words, full_words, hung_words, link_words};
-ghost use Rattle.smx_words.specs.Spelling.{link_kind_word, message_words, route_words, side_word};
-ghost use Rattle.smx_words.specs.Words.{LINE_FEED, SPACE, line_of};
+ghost use Rattle.smx_words.specs.Spelling.{message_words, route_words, side_word};
+ghost use Rattle.smx_words.specs.Words.{SPACE};
 
 use super::Spell;
 use super::bytes::put_message;
 use super::number::{put_last, put_spaced};
-use super::word::{put_byte, put_name, put_side, put_text};
+use super::word::{put_byte, put_name, put_text};
 use smx_types::{
     BindingLine, DescriptorLine, FullLine, HungLine, LinkKind, LinkLine, MessageLine, Name,
     NoMemory, RouteLine, Side,
@@ -41,34 +41,16 @@ impl Spell for LinkLine {
         put_spaced(out, self.id)?;
         put_name(out, &self.ctl_driver)?;
         put_spaced(out, self.ctl_minor)?;
-        put_lower(out, self)
+        put_name(out, &self.lower_driver)?;
+        put_spaced(out, self.lower_minor)?;
+        put_text(
+            out,
+            match self.kind {
+                LinkKind::Ordinary => b" link\n",
+                LinkKind::Persistent => b" plink\n",
+            },
+        )
     }
-}
-
-// Appends the lower stream of a link and its kind, each word after a space, and a line feed.
-fn put_lower(out: &mut Vec<u8>, link: &LinkLine) -> Result<(), NoMemory>
-    ensures written { OnOk result (out.new.items ≡ out.old.items
-        ++ SPACE ∷ line_of (link.now.lower_driver ∷ decimal link.now.lower_minor ∷ link_kind_word link.now.kind ∷ [])
-        ++ LINE_FEED ∷ []) }
-    ensures fits { OnOk result (FitsName link.now.lower_driver × FitsNumber link.now.lower_minor) }
-{
-    put_name(out, &link.lower_driver)?;
-    put_spaced(out, link.lower_minor)?;
-    put_last_kind(out, link.kind)
-}
-
-// Appends a space, the kind of a link, and a line feed.
-fn put_last_kind(out: &mut Vec<u8>, kind: LinkKind) -> Result<(), NoMemory>
-    ensures { OnOk result (out.new.items
-        ≡ out.old.items ++ SPACE ∷ link_kind_word kind ++ LINE_FEED ∷ []) }
-{
-    put_text(
-        out,
-        match kind {
-            LinkKind::Ordinary => b" link\n",
-            LinkKind::Persistent => b" plink\n",
-        },
-    )
 }
 
 impl Spell for BindingLine {
@@ -142,5 +124,11 @@ fn put_place(out: &mut Vec<u8>, driver: &Name, minor: u32, side: Side) -> Result
 {
     put_name(out, driver)?;
     put_spaced(out, minor)?;
-    put_side(out, side)
+    put_text(
+        out,
+        match side {
+            Side::Write => b" w",
+            Side::Read => b" r",
+        },
+    )
 }

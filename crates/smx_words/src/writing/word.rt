@@ -1,11 +1,10 @@
-//! Words of a line other than numbers and bytes.
+//! Names, and bytes as they are.
 
 ghost use Rattle.std.specs.Prelude.{◌≡◌, ◌∷◌, ◌++◌, [], OnOk};
 ghost use Rattle.smx_words.specs.Spellable.{FitsName};
-ghost use Rattle.smx_words.specs.Spelling.{side_word};
 ghost use Rattle.smx_words.specs.Words.{SPACE};
 
-use smx_types::{Name, NoMemory, Side};
+use smx_types::{Name, NoMemory};
 
 /// Appends a space and a name.
 pub(super) fn put_name(out: &mut Vec<u8>, name: &Name) -> Result<(), NoMemory>
@@ -14,19 +13,6 @@ pub(super) fn put_name(out: &mut Vec<u8>, name: &Name) -> Result<(), NoMemory>
 {
     put_byte(out, b' ')?;
     put_text(out, name.as_bytes())
-}
-
-/// Appends a space and the side of a place.
-pub(super) fn put_side(out: &mut Vec<u8>, side: Side) -> Result<(), NoMemory>
-    ensures { OnOk result (out.new.items ≡ out.old.items ++ SPACE ∷ side_word side) }
-{
-    put_text(
-        out,
-        match side {
-            Side::Write => b" w",
-            Side::Read => b" r",
-        },
-    )
 }
 
 /// Appends these bytes.

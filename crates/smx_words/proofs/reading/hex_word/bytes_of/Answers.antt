@@ -11,10 +11,10 @@ decode-requires c =
     let by = by_digits c.args.word.now some.0 other some.1 some.2 in
     record { even = omega (arith, by.2); digits = by.1 }
 
-pub returns-in-Ok-clause-reading : goal.returns-in-Ok-clause-reading
-returns-in-Ok-clause-reading c =
+pub returns-clause-reading : goal.returns-clause-reading
+returns-clause-reading c =
     let other = differs c.args.word.now (codes "-") c.is.result c.is.ensures c.if-is.false in
     let some = c.if-not-spells_bytes.ensures in
     let by = by_digits c.args.word.now some.0 other some.1 some.2 in
-    let spelled = c.in-Ok.ensures in
-    rw c.from_vec.ensures (spelled.0, some_digits c.args.word.now c.in-Ok.bytes.items by.0 spelled.1)
+    let spelled = c.in_ok-bytes.ensures in
+    rw c.from_vec.ensures (spelled.0, some_digits c.args.word.now c.in_ok-bytes.bytes.items by.0 spelled.1)

@@ -6,13 +6,13 @@ use Rattle.smx_words.proofs.reading.number.first_number.Goals.{else-end-text-via
 
 pub returns-then-text-end-eq32 : goal.returns-then-text-end-eq32
 returns-then-text-end-eq32 c =
-    is_first c.args.text.now c.in-Some.end c.in-Some.number c.in-Some.ensures.0 c.if-end-text.true
-    c.in-Some.ensures.2 c.if-text-end-eq32.true
+    is_first c.args.text.now c.in_ok-number.end c.in_ok-number.number c.in_ok-number.ensures.0 c.if-end-text.true
+    c.in_ok-number.ensures.2 c.if-text-end-eq32.true
 
 pub returns-else-end-text : goal.returns-else-end-text
 returns-else-end-text c = λ m after fits e.
-    let at = not_first c.args.text.now c.in-Some.end c.in-Some.number c.in-Some.ensures.0 c.in-Some.ensures.1
-    c.in-Some.ensures.2 c.in-Some.ensures.3 m after fits e in
+    let at = not_first c.args.text.now c.in_ok-number.end c.in_ok-number.number c.in_ok-number.ensures.0 c.in_ok-number.ensures.1
+    c.in_ok-number.ensures.2 c.in_ok-number.ensures.3 m after fits e in
     elim c.else-end-text.branch [
       | else-end-text-via-then-end-text+else-text-end-eq32 w ↦ w.if-text-end-eq32.false at.1
       | else-end-text-via-else-end-text w ↦ omega (arith, w.if-end-text.false, at.0)

@@ -4,15 +4,16 @@ use Rattle.smx_words.proofs.reading.number.number.Goals as goal
 
 pub returns-then-end-word : goal.returns-then-end-word
 returns-then-end-word c = (
-  c.in-Some.ensures.0,
-  whole c.args.word.now c.in-Some.end c.in-Some.number c.in-Some.ensures.2
+  c.in_ok-number.ensures.0,
+  whole c.args.word.now c.in_ok-number.end c.in_ok-number.number c.in_ok-number.ensures.2
       c.if-end-word.true,
 )
 
 pub returns : goal.returns
 returns c =
-    not_whole c.args.word.now c.in-Some.end c.in-Some.number c.in-Some.ensures.0 c.in-Some.ensures.1
-    c.in-Some.ensures.2 c.in-Some.ensures.3 c.if-end-word.false
+    not_whole c.args.word.now c.in_ok-number.end c.in_ok-number.number c.in_ok-number.ensures.0 c.in_ok-number.ensures.1
+    c.in_ok-number.ensures.2 c.in_ok-number.ensures.3 c.if-end-word.false
 
-pub returns-in_default : goal.returns-in_default
-returns-in_default c = λ n fits e. c.in_default.ensures n [] fits tt (e ∙ sym (append-nil _))
+pub returns-in_err-number : goal.returns-in_err-number
+returns-in_err-number c =
+    rw c.from_residual.ensures (λ n fits e. c.in_err-number.ensures n [] fits tt (e ∙ sym (append-nil _)))

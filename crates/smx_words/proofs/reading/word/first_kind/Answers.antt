@@ -5,7 +5,7 @@ use Rattle.smx_words.proofs.SameWordLemmas.{driver_kind}
 use Rattle.smx_words.proofs.WordLemmas.{word_free}
 use Rattle.smx_words.proofs.reading.word.first_kind.Goals as goal
 
-pub returns-in-None : goal.returns-in-None
-returns-in-None c =
-    no_field FitsAlways kind_word (word_free driver_kind) c.args.text.now c.in-Some.word.now c.in-Some.rest.now
-    c.in-Some.ensures.0 c.in-Some.ensures.1 c.in-None.ensures
+pub returns-in_err-kind : goal.returns-in_err-kind
+returns-in_err-kind c =
+    rw c.from_residual-in_err-kind.ensures (no_field FitsAlways kind_word (word_free driver_kind) c.args.text.now c.in_ok-word.word.now c.in_ok-word.rest.now
+    c.in_ok-word.ensures.0 c.in_ok-word.ensures.1 c.in_err-kind.ensures)

@@ -4,12 +4,12 @@ use Rattle.smx_words.proofs.DecidedWordLemmas.{name}
 use Rattle.smx_words.proofs.WordLemmas.{word_free, first_name_is}
 use Rattle.smx_words.proofs.reading.word.first_name.Goals as goal
 
-pub returns-in-None : goal.returns-in-None
-returns-in-None c =
-    no_field FitsName (λ n. n) (word_free name) c.args.text.now c.in-Some.word.now c.in-Some.rest.now
-    c.in-Some.ensures.0 c.in-Some.ensures.1 c.in-None.ensures
+pub returns-in_err-name : goal.returns-in_err-name
+returns-in_err-name c =
+    rw c.from_residual-in_err-name.ensures (no_field FitsName (λ n. n) (word_free name) c.args.text.now c.in_ok-word.word.now c.in_ok-word.rest.now
+    c.in_ok-word.ensures.0 c.in_ok-word.ensures.1 c.in_err-name.ensures)
 
-pub returns-in-Some-name : goal.returns-in-Some-name
-returns-in-Some-name c =
-    first_name_is c.args.text.now c.in-Some.word.now c.in-Some.rest.now c.in-Some-name.name
-    c.in-Some.ensures.0 c.in-Some.ensures.1 c.in-Some-name.ensures.0 c.in-Some-name.ensures.1
+pub returns : goal.returns
+returns c =
+    first_name_is c.args.text.now c.in_ok-word.word.now c.in_ok-word.rest.now c.in_ok-name.name
+    c.in_ok-word.ensures.0 c.in_ok-word.ensures.1 c.in_ok-name.ensures.0 c.in_ok-name.ensures.1
