@@ -10,8 +10,7 @@ use Rattle.smx_draw.specs.Parts.{queue_row_text, route_text}
 use Rattle.smx_draw.specs.Pictures.{EachHasLine, EachIsDrawn, HasEachInDot, HasEachInSvg}
 use Rattle.smx_draw.specs.Pieces.{filled}
 use Rattle.smx_draw.specs.Queues.{queue_rows}
-use Rattle.smx_draw.specs.SvgElements.{frame_element, gauge_element, row, stream_element, way_element}
-use Rattle.smx_draw.specs.SvgFrame.{svg_foot, svg_head}
+use Rattle.smx_draw.specs.SvgFrame.{svg_foot}
 use Rattle.smx_draw.specs.SvgText.{IsSvgOf}
 use Rattle.smx_draw.specs.declared.parts.Look.{Look}
 use Rattle.smx_draw.specs.declared.parts.Look.TheVariants.{Line}
@@ -34,8 +33,7 @@ module _ {X : Type 0} (element : X → Area → List ℕ) (xs : List X) (before 
 
   -- it contains each of the elements
   each_drawn : EachIsDrawn element xs output
-  each_drawn =
-      subst (EachIsDrawn element xs) (sym on.1)
+  each_drawn = subst (EachIsDrawn element xs) (sym on.1)
       (each_still_there element xs after on.0 (draws_each element xs before after draws))
 
 -- each element is between the head and the foot
@@ -44,39 +42,29 @@ pub each_in_svg : (drivers : List DriverSpec) (v : ConfigView) (output : List �
 each_in_svg drivers v output h =
     let under = h.under in
     let rows = h.rows in
-    let queues = queue_rows drivers v.msgs in
-    let head = svg_head h.width h.height in
     let fulls : GoesOn output h.behind_rows = (svg_foot v.next_id v.next_serial, h.ends) in
-    let queues_on = from_before (row full_text) v.fulls rows.behind_queues h.behind_rows output rows.fulls fulls in
-    let binds =
-    from_before (row queue_row_text) queues rows.behind_binds rows.behind_queues output rows.queues queues_on in
-    let fds = from_before (row binding_text) v.binds rows.behind_fds rows.behind_binds output rows.binds binds in
-    let routes = from_before (row descriptor_text) v.fds rows.behind_routes rows.behind_fds output rows.fds fds in
-    let hungs =
-    from_before (row route_text) v.routes rows.behind_hungs rows.behind_routes output rows.routes routes in
-    let links = from_before (row hung_text) v.hungs rows.behind_links rows.behind_hungs output rows.hungs hungs in
-    let titles = from_before (row link_text) v.links rows.behind_drivers rows.behind_links output rows.links links in
-    let gauges =
-    from_before (row driver_text) drivers h.behind_under rows.behind_drivers output rows.drivers titles in
-    let streams =
-    from_before gauge_element queues under.behind_streams h.behind_under output under.gauges_drawn gauges in
-    let ways =
-    from_before stream_element under.streams under.behind_ways under.behind_streams output under.streams_drawn
-    streams in
-    let frames = from_before way_element v.links under.behind_frames under.behind_ways output under.ways_drawn ways in
+    let queues = from_before _ _ _ _ _ rows.fulls fulls in
+    let binds = from_before _ _ _ _ _ rows.queues queues in
+    let fds = from_before _ _ _ _ _ rows.binds binds in
+    let routes = from_before _ _ _ _ _ rows.fds fds in
+    let hungs = from_before _ _ _ _ _ rows.routes routes in
+    let links = from_before _ _ _ _ _ rows.hungs hungs in
+    let titles = from_before _ _ _ _ _ rows.links links in
+    let gauges = from_before _ _ _ _ _ rows.drivers titles in
+    let streams = from_before _ _ _ _ _ under.gauges_drawn gauges in
+    let ways = from_before _ _ _ _ _ under.streams_drawn streams in
     record {
-      frames = each_drawn frame_element drivers head under.behind_frames output under.frames_drawn frames;
-      ways = each_drawn way_element v.links under.behind_frames under.behind_ways output under.ways_drawn ways;
-      gauges = each_drawn gauge_element queues under.behind_streams h.behind_under output under.gauges_drawn gauges;
-      drivers = each_drawn (row driver_text) drivers h.behind_under rows.behind_drivers output rows.drivers titles;
-      links = each_drawn (row link_text) v.links rows.behind_drivers rows.behind_links output rows.links links;
-      hungs = each_drawn (row hung_text) v.hungs rows.behind_links rows.behind_hungs output rows.hungs hungs;
-      routes = each_drawn (row route_text) v.routes rows.behind_hungs rows.behind_routes output rows.routes routes;
-      descriptors = each_drawn (row descriptor_text) v.fds rows.behind_routes rows.behind_fds output rows.fds fds;
-      bindings = each_drawn (row binding_text) v.binds rows.behind_fds rows.behind_binds output rows.binds binds;
-      queues =
-          each_drawn (row queue_row_text) queues rows.behind_binds rows.behind_queues output rows.queues queues_on;
-      fulls = each_drawn (row full_text) v.fulls rows.behind_queues h.behind_rows output rows.fulls fulls;
+      frames = each_drawn _ _ _ _ _ under.frames_drawn (from_before _ _ _ _ _ under.ways_drawn ways);
+      ways = each_drawn _ _ _ _ _ under.ways_drawn ways;
+      gauges = each_drawn _ _ _ _ _ under.gauges_drawn gauges;
+      drivers = each_drawn _ _ _ _ _ rows.drivers titles;
+      links = each_drawn _ _ _ _ _ rows.links links;
+      hungs = each_drawn _ _ _ _ _ rows.hungs hungs;
+      routes = each_drawn _ _ _ _ _ rows.routes routes;
+      descriptors = each_drawn _ _ _ _ _ rows.fds fds;
+      bindings = each_drawn _ _ _ _ _ rows.binds binds;
+      queues = each_drawn _ _ _ _ _ rows.queues queues;
+      fulls = each_drawn _ _ _ _ _ rows.fulls fulls;
     }
 
 -- the foot is at the end

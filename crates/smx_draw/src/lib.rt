@@ -6,11 +6,9 @@ mod dot;
 mod form;
 pub mod laws_of_pictures;
 mod parts;
-mod pictures;
 mod pieces;
 mod queues;
 mod svg;
 
-pub use form::Form;
-pub use pictures::draw;
+pub use form::{Form, draw};
 pub use svg::write_svg;

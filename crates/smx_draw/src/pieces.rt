@@ -2,8 +2,7 @@
 
 ghost use Rattle.std.specs.Prelude.{◌≡◌, ◌++◌, [], OnOk, get_or, map};
 ghost use Rattle.std.specs.Fmt.{decimal};
-ghost use Rattle.smx_draw.specs.Pieces.{driver_word, filled, link_word, piece_text, shown_length};
-ghost use Rattle.smx_draw.specs.Pieces.{side_letter, side_word, stroke};
+ghost use Rattle.smx_draw.specs.Pieces.{filled, piece_text, shown_length};
 
 use itoa::Buffer;
 use smx_types::{DriverKind, LinkKind, Name, NoMemory, Process, Side};
@@ -65,11 +64,16 @@ fn put_piece(out: &mut Vec<u8>, piece: &Piece) -> Result<(), NoMemory>
         Piece::Number(number) => put_number(out, *number),
         Piece::Process(process) => put_number(out, process.get()),
         Piece::Name(name) => put_text(out, name.as_bytes()),
-        Piece::Driver(kind) => put_text(out, word_of_driver(*kind)),
-        Piece::Link(kind) => put_text(out, word_of_link(*kind)),
-        Piece::Stroke(kind) => put_text(out, stroke_of(*kind)),
-        Piece::Side(side) => put_text(out, word_of_side(*side)),
-        Piece::Letter(side) => put_text(out, letter_of_side(*side)),
+        Piece::Driver(DriverKind::Leaf) => put_text(out, b"leaf"),
+        Piece::Driver(DriverKind::Mux) => put_text(out, b"mux"),
+        Piece::Link(LinkKind::Ordinary) => put_text(out, b"ordinary"),
+        Piece::Link(LinkKind::Persistent) => put_text(out, b"persistent"),
+        Piece::Stroke(LinkKind::Ordinary) => put_text(out, b"color=steelblue"),
+        Piece::Stroke(LinkKind::Persistent) => put_text(out, b"color=darkorange penwidth=3"),
+        Piece::Side(Side::Write) => put_text(out, b"write"),
+        Piece::Side(Side::Read) => put_text(out, b"read"),
+        Piece::Letter(Side::Write) => put_text(out, b"w"),
+        Piece::Letter(Side::Read) => put_text(out, b"r"),
     }
 }
 
@@ -84,51 +88,6 @@ fn put_number(out: &mut Vec<u8>, number: u32) -> Result<(), NoMemory>
     ensures { OnOk result (out.new.items ≡ out.old.items ++ decimal number) }
 {
     put_text(out, Buffer::new().format(number).as_bytes())
-}
-
-fn word_of_driver(kind: DriverKind) -> &'static [u8]
-    ensures { result.now ≡ driver_word kind }
-{
-    match kind {
-        DriverKind::Leaf => b"leaf",
-        DriverKind::Mux => b"mux",
-    }
-}
-
-fn word_of_link(kind: LinkKind) -> &'static [u8]
-    ensures { result.now ≡ link_word kind }
-{
-    match kind {
-        LinkKind::Ordinary => b"ordinary",
-        LinkKind::Persistent => b"persistent",
-    }
-}
-
-fn stroke_of(kind: LinkKind) -> &'static [u8]
-    ensures { result.now ≡ stroke kind }
-{
-    match kind {
-        LinkKind::Ordinary => b"color=steelblue",
-        LinkKind::Persistent => b"color=darkorange penwidth=3",
-    }
-}
-
-fn word_of_side(side: Side) -> &'static [u8]
-    ensures { result.now ≡ side_word side }
-{
-    match side {
-        Side::Write => b"write",
-        Side::Read => b"read",
-    }
-}
-
-fn letter_of_side(side: Side) -> &'static [u8]
-    ensures { result.now ≡ side_letter side }
-{
-    match side {
-        Side::Write => b"w",
-        Side::Read => b"r",
-    }
 }
 
 /// Returns the number of bytes, at most `u32::MAX`.

@@ -16,8 +16,7 @@ returns c =
     let queues : c.as_slice-2.result.now ≡ queue_rows drivers view.msgs =
     c.as_slice-2.ensures.value ∙ (c.in_ok-queues.ensures ∙ ap (queue_rows drivers) c.as_slice.ensures) in
     let shown : c.put_view.new.out.items ≡ c.put_lines.new.out.items ++ dot_view view (queue_rows drivers view.msgs) =
-    c.in_ok-put_view.ensures
-    ∙ ap (λ (qs : List QueueRow). c.put_lines.new.out.items ++ dot_view view qs) queues in
+    c.in_ok-put_view.ensures ∙ ap (λ (qs : List QueueRow). c.put_lines.new.out.items ++ dot_view view qs) queues in
     let head : c.put.new.out.items ≡ filled dot_head [] =
     c.in_ok-put.ensures ∙ ap (λ (t : List ℕ). t ++ filled dot_head []) c.new-out.ensures.items in
     four_put (filled dot_head []) (flat_map (driver_text Line) drivers) (dot_view view (queue_rows drivers view.msgs)) _

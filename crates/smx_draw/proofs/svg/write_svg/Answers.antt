@@ -12,8 +12,7 @@ returns c =
     let view = c.args.view.now in
     let queues : c.in_ok-queues.queues.items ≡ queue_rows drivers view.msgs =
     c.in_ok-queues.ensures ∙ ap (queue_rows drivers) c.as_slice.ensures in
-    let head : c.put_head.new.out.items ≡ svg_head plan.width.0 plan.height.0 =
-    c.in_ok-put_head.ensures
+    let head : c.put_head.new.out.items ≡ svg_head plan.width.0 plan.height.0 = c.in_ok-put_head.ensures
     ∙ ap (λ (t : List ℕ). t ++ svg_head plan.width.0 plan.height.0) c.new-out.ensures.items in
     record {
       width = plan.width.0;
