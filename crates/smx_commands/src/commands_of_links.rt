@@ -146,10 +146,9 @@ impl Tables {
         tells_existing(&self.drivers, &self.lists);
         self.lists.links.is_sound();
         let gone = targets(self.alloc, &self.lists.links, which, kind, stream)?;
-        reserve_for_sweep(&mut self.room, &self.lists, gone.len())?;
-        let room = &mut self.room;
+        let mut room = reserve_for_sweep(self.alloc, &self.lists, gone.len())?;
         remove_links(&mut self.lists, &gone, &mut room.touched, &mut room.dropped);
-        *reply = sweep_and_reply(&self.drivers, &mut self.lists, room);
+        *reply = sweep_and_reply(&self.drivers, &mut self.lists, &mut room);
         Ok(())
     }
 }

@@ -114,7 +114,7 @@ impl Tables {
     {
         let side = Side::Read;
         self.lists.streams.is_hung(stream)
-            && !self.lists.queues.has_messages(Place { stream, side })
+            && self.lists.queues.front(Place { stream, side }).is_none()
     }
 
     // Removes the first message on the read side of the stream that the command names, and replies with it. If the
@@ -164,10 +164,9 @@ impl Tables {
     {
         let stream = self.live_stream(process, fd)?;
         tells_existing(&self.drivers, &self.lists);
-        let room = &mut self.room;
-        reserve_for_sweep(room, &self.lists, 0)?;
+        let mut room = reserve_for_sweep(self.alloc, &self.lists, 0)?;
         drop_sides(&mut self.lists.queues, stream, sides, &mut room.dropped);
-        *reply = sweep_and_reply(&self.drivers, &mut self.lists, room);
+        *reply = sweep_and_reply(&self.drivers, &mut self.lists, &mut room);
         Ok(())
     }
 }

@@ -113,10 +113,10 @@ impl Tables {
             (closing self.old.drivers self.old.configuration process fd) (answer_of result reply.new) }
     {
         tells_existing(&self.drivers, &self.lists);
-        reserve_for_sweep(&mut self.room, &self.lists, 1)?;
+        let mut room = reserve_for_sweep(self.alloc, &self.lists, 1)?;
         let _closed = self.lists.streams.close_fd(process, fd);
-        self.room.touched.push_reserved(stream);
-        *reply = sweep_and_reply(&self.drivers, &mut self.lists, &mut self.room);
+        room.touched.push_reserved(stream);
+        *reply = sweep_and_reply(&self.drivers, &mut self.lists, &mut room);
         Ok(())
     }
 
@@ -147,10 +147,10 @@ impl Tables {
         ensures { Refines self.old self.new process CloseAll (answer_of result reply.new) }
     {
         tells_existing(&self.drivers, &self.lists);
-        reserve_for_sweep(&mut self.room, &self.lists, MAX_DESCRIPTORS as usize)?;
-        touch_each(&self.lists.streams, process, &mut self.room.touched);
+        let mut room = reserve_for_sweep(self.alloc, &self.lists, MAX_DESCRIPTORS as usize)?;
+        touch_each(&self.lists.streams, process, &mut room.touched);
         self.lists.streams.close_process(process);
-        *reply = sweep_and_reply(&self.drivers, &mut self.lists, &mut self.room);
+        *reply = sweep_and_reply(&self.drivers, &mut self.lists, &mut room);
         Ok(())
     }
 

@@ -44,7 +44,7 @@ impl Tables {
     pub fn has_messages(&self, place: Place) -> bool
         ensures { result ≡ is_some (first_message self.now.configuration.flow place) }
     {
-        self.lists.queues.has_messages(place)
+        self.lists.queues.front(place).is_some()
     }
 
     /// Returns the stream of a descriptor of the process. Fails if there is no such descriptor. Does not allocate.

@@ -13,7 +13,6 @@ use smx_queues::FlowTable;
 use smx_tables::copies::{copy_lists, empty_lists};
 use smx_tables::lists::Lists;
 use smx_tables::standing;
-use smx_tables::sweep::SweepReserve;
 use smx_types::{DriverSpec, NoMemory};
 use std::alloc::Global;
 use std::marker::Model;
@@ -25,8 +24,6 @@ pub struct Tables {
     pub(crate) alloc: Global,
     pub(crate) drivers: Vec<DriverSpec>,
     pub(crate) lists: Lists,
-    // Kept from one sweep to the next, for its memory. No clause speaks of it.
-    pub(crate) room: SweepReserve,
 }
 
 impl Model for Tables {
@@ -63,7 +60,6 @@ impl Tables {
             alloc,
             drivers,
             lists,
-            room: SweepReserve::new(alloc),
         })
     }
 
@@ -100,7 +96,6 @@ impl Tables {
             alloc,
             drivers,
             lists,
-            room: SweepReserve::new(alloc),
         })
     }
 }

@@ -19,7 +19,6 @@ pub mod LeftLemmas
 pub mod FlowCallLemmas
 pub mod SpecLemmas
 pub mod StepLemmas
-pub mod LeavingLemmas
 pub mod BitLemmas
 pub mod RingNodeLemmas
 pub mod RingLemmas

@@ -1,9 +1,9 @@
 -- A walk along a chain, step by step.
 use Rattle.std.proofs.Common.{◌≡◌, ℕ, suc, ◌+◌, ◌-◌, ◌<◌, List, [], ◌∷◌, length, drop, get_or, Option, Some, None, refl}
-use Rattle.std.proofs.Common.{sym, ap, ◌∙◌, arith}
+use Rattle.std.proofs.Common.{sym, ap, ◌∙◌, arith, ◌++◌, map, take, append_assoc}
 use Rattle.std.specs.List.{slice_get}
-use Rattle.std.proofs.lemmas.List.{drop_more}
-use Rattle.std.proofs.lemmas.Option.{same_Some, slice_get-get_or}
+use Rattle.std.proofs.lemmas.List.{drop_more, map-append, take_more}
+use Rattle.std.proofs.lemmas.Option.{get_or_from_slice_get, same_Some, slice_get-get_or, slice_get_within}
 use Rattle.slab.specs.Slab.{Slab, get, ContainsKey}
 use Rattle.smx_types.specs.declared.message.Message.{Message}
 use Rattle.smx_queues.specs.declared.node.Node.{Node}
@@ -11,17 +11,6 @@ use Rattle.smx_queues.specs.declared.chain.Chain.{Chain}
 use Rattle.smx_queues.specs.QueueTable.{Queue}
 use Rattle.smx_queues.specs.Chains.{walk, walk_on, IsQueue}
 use Rattle.smx_queues.proofs.ChainLemmas.{walk_chain}
-
--- a walk along the whole chain of a place meets all its messages
-pub walk_all : (own : ℕ → ℕ × ℕ) (s : Slab Node) (p : ℕ) (chain : Chain) (q : Queue) → IsQueue own s p chain q
-    → walk s chain.count chain.first ≡ q.messages
-walk_all own s p chain q l =
-    ap (λ n. walk s n chain.first) l.count ∙ walk_chain own s p l.rank _ _ _ l.nodes
-
--- a walk along a chain meets as many messages as the chain counts
-pub walk_len : (own : ℕ → ℕ × ℕ) (s : Slab Node) (p : ℕ) (chain : Chain) (q : Queue) → IsQueue own s p chain q
-    → length (walk s chain.count chain.first) ≡ chain.count
-walk_len own s p chain q l = ap (λ (ms : List Message). length ms) (walk_all own s p chain q l) ∙ sym l.count
 
 -- equal lists have equal first items and equal rests
 heads_same : (a b : Message) (xs ys : List Message) → a ∷ xs ≡ b ∷ ys → (a ≡ b) × (xs ≡ ys)
@@ -82,3 +71,14 @@ pub step_is : (s : Slab Node) (key k i : ℕ) (ms : List Message) (node : Node) 
     → k ≡ i → Some node.message ≡ slice_get ms i
 step_is s key k i ms node step found same =
     ap (λ (x : Node). Some x.message) (same_Some _ _ (sym found ∙ step.found)) ∙ sym step.is ∙ ap (slice_get ms) same
+
+-- with the serial of the next message, a list has the serials of one message more
+pub serials_more : (ms : List Message) (k : ℕ) (m : Message) (old now new : List ℕ) → Some m ≡ slice_get ms k
+    → now ≡ old ++ map (λ x. x.serial) (take k ms) → new ≡ now ++ m.serial ∷ []
+    → new ≡ old ++ map (λ x. x.serial) (take (k + 1) ms)
+serials_more ms k m old now new at was is =
+    let serials : List Message → List ℕ = map (λ x. x.serial) in
+    let more : take (k + 1) ms ≡ take k ms ++ m ∷ [] = take_more ms k m (slice_get_within ms k m (sym at))
+    ∙ ap (λ (x : Message). take k ms ++ x ∷ []) (get_or_from_slice_get ms k m m (sym at)) in
+    is ∙ ap (λ (xs : List ℕ). xs ++ m.serial ∷ []) was ∙ append_assoc old (serials (take k ms)) (m.serial ∷ [])
+    ∙ ap (λ (xs : List ℕ). old ++ xs) (sym (ap serials more ∙ map-append _ (take k ms) (m ∷ [])))

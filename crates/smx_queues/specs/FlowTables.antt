@@ -25,6 +25,10 @@ pub record FlowLists : Type 0 where
 abbrev pub messages_at : Place → List Message → List QueuedMessage
 messages_at p messages = map (λ m. record { place = p; message = m }) messages
 
+-- the message that leaves its place
+abbrev pub leaving_message : Place × Message → QueuedMessage
+leaving_message m = record { place = m.0; message = m.1 }
+
 -- all messages, by place
 abbrev pub flow_of : List Place → List (Option Queue) → List QueuedMessage
 flow_of [] queues = []

@@ -2,8 +2,6 @@ pub mod QueueTable
 pub mod Chains
 pub mod Slots
 pub mod PlaceLists
-pub mod WorkedPlaces
 pub mod FlowTables
-pub mod QueuedMessages
 pub mod Bits
 pub mod Rings

@@ -13,10 +13,8 @@ ghost use Rattle.smx_model.specs.Queues.{first_message, queue};
 ghost use Rattle.smx_queues.specs.FlowTables.{after_arrival, after_leaving, without_place};
 ghost use Rattle.smx_queues.specs.PlaceLists.{places_of};
 
-use crate::full_places::FullPlaces;
 use crate::leaving_messages::LeavingMessages;
 use crate::places::Places;
-use crate::queued_messages::QueuedMessages;
 use crate::queues::Queues;
 use smx_types::{DriverSpec, Message, NoMemory, Place};
 use std::alloc::Global;
@@ -136,16 +134,6 @@ impl FlowTable {
         }
     }
 
-    /// Returns whether there is a message at the place. Takes no memory.
-    pub fn has_messages(&self, place: Place) -> bool
-        ensures { result ≡ is_some (first_message self.now.flow place) }
-    {
-        match self.places.number(place) {
-            Some(p) => self.queues.message_count(p) > 0,
-            None => false,
-        }
-    }
-
     /// Returns the first message at the place, if there is one. Takes no memory.
     pub fn front(&self, place: Place) -> Option<&Message>
         ensures { option_copied result ≡ first_message self.now.flow place }
@@ -220,13 +208,6 @@ impl FlowTable {
         }
     }
 
-    /// Returns all messages, in order of place. Takes no memory.
-    pub fn messages(&self) -> QueuedMessages<'_>
-        ensures { result ≡ self.now.flow }
-    {
-        QueuedMessages::new(&self.places, &self.queues)
-    }
-
     /// Moves all messages out, in order of place. Takes no memory.
     pub fn into_messages(self) -> LeavingMessages
         ensures { result ≡ self.flow }
@@ -235,11 +216,17 @@ impl FlowTable {
         LeavingMessages::new(places, queues)
     }
 
-    /// Returns the full places, in order. Takes no memory.
-    pub fn fulls(&self) -> FullPlaces<'_>
-        ensures { result ≡ self.now.fulls }
+    /// Returns the full places, in order. Fails only if out of memory.
+    pub fn fulls(&self, alloc: Global) -> Result<Vec<Place>, NoMemory>
+        ensures { IfOk result (λ v. v.items ≡ self.now.fulls) }
     {
-        FullPlaces::new(&self.places, &self.queues)
+        let mut fulls = Vec::new(alloc);
+        for p in 0..self.places.len() {
+            if self.queues.is_full(p) {
+                fulls.push(self.places.at(p))?;
+            }
+        }
+        Ok(fulls)
     }
 
     /// Copies the messages and the marks. Fails only if out of memory.

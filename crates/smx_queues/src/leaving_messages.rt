@@ -2,9 +2,8 @@
 
 ghost use Rattle.std.specs.Prelude.{◌≡◌};
 ghost use Rattle.std.specs.Iterator.{YieldsFirstBy};
-ghost use Rattle.smx_queues.specs.QueuedMessages.{leaving_message};
+ghost use Rattle.smx_queues.specs.FlowTables.{flow_of, leaving_message, IsFlow};
 ghost use Rattle.smx_queues.specs.PlaceLists.{places_of};
-ghost use Rattle.smx_queues.specs.FlowTables.{flow_of, IsFlow};
 
 use crate::places::Places;
 use crate::queues::Queues;
@@ -50,10 +49,12 @@ impl LeavingMessages {
     pub fn next(&mut self) -> Option<(Place, Message)>
         ensures { YieldsFirstBy leaving_message (λ rest. rest) self.old result self.new }
     {
-        let p = self.queues.filled_from(self.next)?;
-        let place = self.places.at(p);
-        let message = self.queues.take(p)?;
-        self.next = p;
-        Some((place, message))
+        while self.next < self.places.len() {
+            if let Some(message) = self.queues.take(self.next) {
+                return Some((self.places.at(self.next), message));
+            }
+            self.next += 1;
+        }
+        None
     }
 }

@@ -1,11 +1,10 @@
 -- Drivers by name.
-use Rattle.std.proofs.Common.{◌≡◌, ℕ, ◌<◌, true, false, cond, List, [], length, get_or, Option, Some}
-use Rattle.std.proofs.Common.{None, sym, ap, subst, ◌∙◌, arith}
+use Rattle.std.proofs.Common.{◌≡◌, ℕ, ◌<◌, false, cond, List, [], length, get_or, Option, Some}
+use Rattle.std.proofs.Common.{None, sym, ap, ◌∙◌, arith}
 use Rattle.std.specs.Prelude.{position, nat_lt}
 use Rattle.std.specs.Option.{option_map_or}
 use Rattle.std.specs.Str.{bytes_eq}
 use Rattle.std.proofs.lemmas.Bool.{false_from_ne_true, lt-ltb}
-use Rattle.std.proofs.lemmas.List.Quantifiers.{position-Some}
 use Rattle.std.proofs.lemmas.List.Sums.{position_or_len_is}
 use Rattle.std.proofs.lemmas.Option.{slice_get-get_or}
 use Rattle.std.proofs.lemmas.Slice.Eq.{bytes_eq-Decides}
@@ -39,12 +38,3 @@ found_by_name drivers n h lt =
     (omega arith) others (λ l. (bytes_eq-Decides _ _).1 (sym here)) in
     ap (λ m. cond (nat_lt m (length drivers)) (Some m) None) first
     ∙ ap (λ b. cond b (Some n) None) (lt-ltb n (length drivers) lt)
-
--- if the driver with this number has this name, this number is found by the name
-pub found_by_its_name : (drivers : List DriverSpec) (n : ℕ) (d : DriverSpec) (name : List ℕ) → IsDriverList drivers
-    → n < length drivers → d ≡ get_or drivers n some_driver → bytes_eq d.name name ≡ true
-    → number_of drivers name ≡ Some n
-found_by_its_name drivers n d name h lt at same =
-    let is : name_of drivers n ≡ name =
-    name_at drivers n lt ∙ (ap (λ (e : DriverSpec). e.name) (sym at) ∙ (bytes_eq-Decides _ _).0 same) in
-    subst (λ (word : List ℕ). number_of drivers word ≡ Some n) is (found_by_name drivers n h lt)

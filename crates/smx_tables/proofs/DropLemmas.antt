@@ -1,8 +1,7 @@
 -- The messages that are dropped at a place, and the serials of dropped messages in order.
 use Rattle.std.proofs.Common.{◌≡◌, ◌≢◌, ℕ, suc, ◌+◌, ◌≤◌, Bool, true, false, ◌&&◌, ◌||◌, not, cond, eqb, ltb, List, []}
 use Rattle.std.proofs.Common.{◌∷◌, ◌++◌, length, map, filter, get_or, refl, sym, ap, ◌∙◌, subst, arith, inl, inr}
-use Rattle.std.specs.List.{AllPairs, list_any, sum_by}
-use Rattle.std.specs.Option.{is_some}
+use Rattle.std.specs.List.{AllPairs, sum_by}
 use Rattle.std.specs.List.Sorted.{IsNonDecreasing, IsPermutation}
 use Rattle.std.proofs.lemmas.Bool.{cases_Bool, cases_eq, eq-eqb, ltb-true, ltb-false, ne_eqb}
 use Rattle.std.proofs.lemmas.Bool.Decides.{nat_tests}
@@ -18,13 +17,12 @@ use Rattle.smx_types.specs.declared.stream.Side.{Side}
 use Rattle.smx_types.specs.declared.stream.Side.TheVariants as side
 use Rattle.smx_types.specs.declared.stream.StreamId.{StreamId}
 use Rattle.smx_model.specs.Commands.{is_side}
-use Rattle.smx_model.specs.Configuration.{QueuedMessage, is_at, same_place, same_stream}
+use Rattle.smx_model.specs.Configuration.{QueuedMessage, is_at, same_stream}
 use Rattle.smx_model.specs.Ordered.{in_rising_order, with_inserted}
-use Rattle.smx_model.specs.Queues.{first_message, queue}
+use Rattle.smx_model.specs.Queues.{queue}
 use Rattle.smx_model.specs.Removal.{serials, serials_that_left}
 use Rattle.smx_model.proofs.CountLemmas.{times, times_rising}
 use Rattle.smx_model.proofs.QueueLemmas.{gone_is}
-use Rattle.smx_queues.proofs.PlaceLemmas.{same_turned}
 use Rattle.smx_tables.specs.DroppedMessages.{AreDropped, is_flushed_at}
 -- filtering by two tests in turn is filtering by both at once
 pub use Rattle.smx_streams.proofs.ListLemmas.{filter_twice}
@@ -100,26 +98,6 @@ none_dropped flow dropped none = record {
       (subst (λ (hs : List QueuedMessage). IsPermutation (serials hs) []) (sym (none_kept flow).1)
       (IsPermutation-refl []));
 }
-
--- ---- nothing to drop
-
--- emptying a place without messages changes no message
-pub no_message_goes : (flow : List QueuedMessage) (p : Place) → is_some (first_message flow p) ≡ false
-    → flow ≡ filter (λ h. not (is_at p h)) flow
-no_message_goes [] p none = refl
-no_message_goes (h ∷ hs) p none = elim (cases_Bool (is_at p h)) [
-  | inl t ↦ let k : true ≡ false = rw t at none in absurd cc
-  | inr f ↦ rw f (ap (λ (xs : List QueuedMessage). h ∷ xs) (no_message_goes hs p (rw f at none)))
-]
-
--- emptying a place without a full mark changes no mark
-pub no_mark_goes : (fulls : List Place) (p : Place) → list_any (same_place p) fulls ≡ false
-    → fulls ≡ filter (λ q. not (same_place q p)) fulls
-no_mark_goes [] p none = refl
-no_mark_goes (q ∷ qs) p none = elim (cases_Bool (same_place q p)) [
-  | inl t ↦ let k : true ≡ false = rw (same_turned p q, t) at none in absurd cc
-  | inr f ↦ rw f (ap (λ (xs : List Place). q ∷ xs) (no_mark_goes qs p (rw (same_turned p q, f) at none)))
-]
 
 -- ---- the number of messages
 

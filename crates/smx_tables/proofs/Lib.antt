@@ -17,7 +17,6 @@ pub mod RemovalLemmas
 pub mod HungSweepLemmas
 pub mod BelowLemmas
 pub mod DropLemmas
-pub mod WorkedDropLemmas
 pub mod DeadLemmas
 pub mod LinesLemmas
 pub mod QueueLemmas

@@ -5,4 +5,3 @@ pub mod TouchedStreams
 pub mod KeptHolds
 pub mod SweepReserves
 pub mod DroppedMessages
-pub mod WorkedDrops

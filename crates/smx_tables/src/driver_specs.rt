@@ -1,9 +1,9 @@
 //! The properties of drivers, by number.
 
-ghost use Rattle.std.specs.Prelude.{◌≡◌, ◌<◌, true, false, position, length, IfOk, IsTrue, Ok};
+ghost use Rattle.std.specs.Prelude.{◌≡◌, ◌<◌, true, false, position, length, IfOk, Ok};
 ghost use Rattle.std.specs.Str.{bytes_eq};
 ghost use Rattle.smx_types.specs.declared.driver.DriverKind.TheVariants as driver;
-ghost use Rattle.smx_model.specs.DriverList.{is_mux, minors_of, max_of, IsDriverList};
+ghost use Rattle.smx_model.specs.DriverList.{is_mux, minors_of, max_of};
 ghost use Rattle.smx_model.specs.Lookups.{driver_of};
 
 use smx_types::{DriverKind, DriverSpec, Fault, Name};

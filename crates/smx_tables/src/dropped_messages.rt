@@ -12,25 +12,14 @@ use smx_queues::FlowTable;
 use smx_types::{Place, Reply, Serials, Side, Sides, StreamId};
 use std::mem::replace;
 
-// Does the work of `drop_at` if there is something to drop.
-#[inline(always)]
-fn drop_all_at(queues: &mut FlowTable, place: Place, dropped: &mut Vec<u32>)
-    requires { HasRoom dropped.old queues.old.flow }
-    ensures { EmptiesPlaces (λ p. same_place p place) queues.old dropped.old queues.new dropped.new }
-{
-    queues.drop_at(place, dropped);
-}
-
 /// Drops the messages at a place, and its full mark. Adds their serials to a list that has room for the serials of all
-/// messages. Returns early if there is nothing to drop.
+/// messages.
 #[inline(always)]
 pub fn drop_at(queues: &mut FlowTable, place: Place, dropped: &mut Vec<u32>)
     requires { HasRoom dropped.old queues.old.flow }
     ensures { EmptiesPlaces (λ p. same_place p place) queues.old dropped.old queues.new dropped.new }
 {
-    if queues.has_messages(place) || queues.is_full(place) {
-        drop_all_at(queues, place, dropped);
-    }
+    queues.drop_at(place, dropped);
 }
 
 fn is_side(sides: Sides, side: Side) -> bool

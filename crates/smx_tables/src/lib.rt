@@ -7,7 +7,6 @@ pub mod comparisons;
 pub mod copies;
 pub mod driver_specs;
 pub mod dropped_messages;
-pub mod laws_of_dropped_messages;
 pub mod lists;
 mod orphans;
 pub mod removal;

@@ -184,27 +184,9 @@ pub fn route_lines(
     Ok(lines)
 }
 
-/// Returns the lines of all queued messages, by rising place and in order of arrival. Fails only if out of memory.
+/// Returns the lines of all queued messages, by rising place and in order of arrival. Moves the messages out of the
+/// table, which nobody needs any more. Fails only if out of memory.
 pub fn message_lines(
-    alloc: Global,
-    drivers: &[DriverSpec],
-    queues: &FlowTable,
-) -> Result<Vec<MessageLine>, NoMemory>
-    requires { All (λ h. h.place.stream.driver < length drivers.now) queues.now.flow }
-    ensures { IfOk result (λ v. v.items ≡ map (view_of_message drivers.now) queues.now.flow) }
-{
-    let mut lines = Vec::with_capacity(alloc, queues.len())?;
-    let mut rest = queues.messages();
-    while let Some(queued) = rest.next() {
-        let message = queued.message.copy(alloc)?;
-        lines.push(message_line(drivers, queued.place, message))?;
-    }
-    Ok(lines)
-}
-
-/// Returns the same lines as `message_lines`, for a table that is no longer needed: moves the messages out of it
-/// instead of copying them. Fails only if out of memory.
-pub fn leaving_message_lines(
     alloc: Global,
     drivers: &[DriverSpec],
     queues: FlowTable,
@@ -229,10 +211,10 @@ pub fn full_lines(
     requires { All (λ p. p.stream.driver < length drivers.now) queues.now.fulls }
     ensures { IfOk result (λ v. v.items ≡ map (view_of_full drivers.now) queues.now.fulls) }
 {
-    let mut lines = Vec::new(alloc);
-    let mut rest = queues.fulls();
-    while let Some(place) = rest.next() {
-        lines.push(full_line(drivers, &place))?;
+    let fulls = queues.fulls(alloc)?;
+    let mut lines = Vec::with_capacity(alloc, fulls.len())?;
+    for place in &fulls {
+        lines.push(full_line(drivers, place))?;
     }
     Ok(lines)
 }

@@ -1,6 +1,6 @@
 //! The sweep: removes what belongs to streams that no longer exist, and replies with the dropped messages.
 
-ghost use Rattle.std.specs.Prelude.{◌≡◌, ◌≤◌, true, not, filter, length, OnOk, List, [], ◌∷◌};
+ghost use Rattle.std.specs.Prelude.{◌≡◌, ◌≤◌, true, not, filter, length, IfOk, List, [], ◌∷◌};
 ghost use Rattle.std.specs.List.{list_all};
 ghost use Rattle.smx_types.specs.declared.driver.DriverSpec.{DriverSpec as DriverValue};
 ghost use Rattle.smx_types.specs.declared.stream.StreamId.{StreamId};
@@ -24,8 +24,8 @@ use crate::standing::tells_existing;
 use smx_addresses::Bindings;
 use smx_model::laws_of_streams::sweeping_again_changes_nothing;
 use smx_streams::Streams;
-use smx_types::{DriverSpec, Reply, Sides, StreamId};
-use std::alloc::{AllocError, Global};
+use smx_types::{DriverSpec, NoMemory, Reply, Sides, StreamId};
+use std::alloc::Global;
 
 // Removes the binding of the stream, if it has one. Skips the look-up if there are no bindings.
 fn unbind(binds: &mut Bindings, stream: StreamId)
@@ -79,8 +79,7 @@ fn are_there(streams: &Streams, touched: &[StreamId]) -> bool
     touched.iter().all(|s| streams.exists(*s))
 }
 
-/// The lists that a sweep fills. `reserve_for_sweep` clears them. They are kept from one sweep to the next only for
-/// their memory.
+/// The lists that a sweep fills.
 ///
 /// - `touched`: the streams that the change touches, and those that may cease to exist with them;
 /// - `seen`: the same streams, once they are examined;
@@ -92,18 +91,6 @@ pub struct SweepReserve {
     pub seen: Vec<StreamId>,
     pub orphaned: Vec<u32>,
     pub dropped: Vec<u32>,
-}
-
-impl SweepReserve {
-    /// Makes empty lists. Does not allocate.
-    pub fn new(alloc: Global) -> SweepReserve {
-        SweepReserve {
-            touched: Vec::new(alloc),
-            seen: Vec::new(alloc),
-            orphaned: Vec::new(alloc),
-            dropped: Vec::new(alloc),
-        }
-    }
 }
 
 // Removes the ordinary links whose controlling stream doesn't exist. Such a controlling stream is either in `touched`,
@@ -163,37 +150,26 @@ fn sweep(drivers: &[DriverSpec], lists: &mut Lists, room: &mut SweepReserve)
     drop_dead(lists, &room.seen, &mut room.dropped);
 }
 
-// Clears the list, and reserves room in it for the serials of all messages. Fails only if out of memory.
+/// Makes these lists, with room for the sweep after a change that touches at most `streams` streams. Fails only if out
+/// of memory.
 #[tactic(auto, using(crate::proofs::DropLemmas::none_dropped))]
-fn reserve_for_dropped(dropped: &mut Vec<u32>, lists: &Lists) -> Result<(), AllocError>
-    ensures room { OnOk result (HasRoom dropped.new lists.now.queues.flow) }
-    ensures none { OnOk result (AreDropped lists.now.queues.flow lists.now.queues.flow dropped.new.items) }
-{
-    dropped.clear();
-    dropped.reserve(lists.queues.len())
-}
-
-/// Clears the lists, and reserves room in them for the sweep after a change that touches at most `streams` streams.
-/// Fails only if out of memory.
-#[inline(always)]
 pub fn reserve_for_sweep(
-    room: &mut SweepReserve,
+    alloc: Global,
     lists: &Lists,
     streams: usize,
-) -> Result<(), AllocError>
+) -> Result<SweepReserve, NoMemory>
     requires { streams ≤ 1024 }
-    ensures room { OnOk result (IsReserveFor streams lists.now.links.links lists.now.queues.flow room.new) }
-    ensures none { OnOk result (AreDropped lists.now.queues.flow lists.now.queues.flow room.new.dropped.items) }
+    ensures room { IfOk result (λ r. IsReserveFor streams lists.now.links.links lists.now.queues.flow r) }
+    ensures none { IfOk result (λ r. AreDropped lists.now.queues.flow lists.now.queues.flow r.dropped.items) }
 {
     lists.links.is_sound();
     let links = lists.links.len();
-    room.touched.clear();
-    room.touched.reserve(streams + links)?;
-    room.seen.clear();
-    room.seen.reserve(streams + links)?;
-    room.orphaned.clear();
-    room.orphaned.reserve(links)?;
-    reserve_for_dropped(&mut room.dropped, lists)
+    Ok(SweepReserve {
+        touched: Vec::with_capacity(alloc, streams + links)?,
+        seen: Vec::with_capacity(alloc, streams + links)?,
+        orphaned: Vec::with_capacity(alloc, links)?,
+        dropped: Vec::with_capacity(alloc, lists.queues.len())?,
+    })
 }
 
 /// Sweeps after a change. Replies with the messages that were dropped since room was reserved.

@@ -1,16 +1,23 @@
-//! Reading a place: its messages, its mark, its bytes.
+//! Reading the queues: the messages, marks and bytes of a place, and the number of all messages.
 
-ghost use Rattle.std.specs.Prelude.{◌≡◌, ◌+◌, ◌≤◌, [], ◌++◌, length, map, Some, None, IfOk, option_copied};
+ghost use Rattle.std.specs.Prelude.{◌≡◌, ◌+◌, ◌≤◌, ◌++◌, length, map, Some, None, IfOk, option_copied};
 ghost use Rattle.std.specs.Prelude.{slice_get, vec_capacity, Option};
 ghost use Rattle.smx_types.specs.declared.message.Message.{Message};
 ghost use Rattle.smx_model.specs.Queues.{bytes_of};
 ghost use Rattle.smx_queues.specs.QueueTable.{queue_at, IsPlace};
+ghost use Rattle.smx_queues.specs.Slots.{message_total};
 
-use crate::place_messages::PlaceMessages;
 use crate::queues::{PlaceId, Queues};
 use smx_types::{Message, NoMemory};
 
 impl Queues {
+    /// Returns the number of messages of all places in total. Takes no memory.
+    pub fn len(&self) -> usize
+        ensures { result ≡ message_total self.now.queues }
+    {
+        self.nodes.len()
+    }
+
     /// Returns the message at the front, if there is one. Takes no memory.
     pub fn front(&self, p: PlaceId) -> Option<&Message>
         requires { IsPlace self.now.queues p }
@@ -63,30 +70,6 @@ impl Queues {
         self.chains[p].count
     }
 
-    /// Returns an iterator over the messages at the place, from the front on. Takes no memory.
-    pub fn messages(&self, p: PlaceId) -> PlaceMessages<'_>
-        requires { IsPlace self.now.queues p }
-        ensures { result ≡ (queue_at self.now.queues p).messages }
-    {
-        let chain = &self.chains[p];
-        PlaceMessages {
-            nodes: &self.nodes,
-            key: chain.first,
-            left: chain.count,
-        }
-    }
-
-    // Returns an iterator over no messages.
-    pub(crate) fn no_messages(&self) -> PlaceMessages<'_>
-        ensures { result ≡ [] }
-    {
-        PlaceMessages {
-            nodes: &self.nodes,
-            key: 0,
-            left: 0,
-        }
-    }
-
     /// Returns the serials of the messages at the place, from the front on. Fails only if out of memory.
     pub fn serials(&self, p: PlaceId) -> Result<Vec<u32>, NoMemory>
         requires { IsPlace self.now.queues p }
@@ -107,9 +90,12 @@ impl Queues {
             ≡ serials.old.items ++ map (λ m. m.serial) (queue_at self.now.queues p).messages }
         ensures capacity { vec_capacity serials.new ≡ vec_capacity serials.old }
     {
-        let mut rest = self.messages(p);
-        while let Some(message) = rest.next() {
-            serials.push_reserved(message.serial);
+        let chain = &self.chains[p];
+        let mut key = chain.first;
+        for _k in 0..chain.count {
+            let node = &self.nodes[key];
+            serials.push_reserved(node.message.serial);
+            key = node.next;
         }
     }
 }

@@ -1,4 +1,4 @@
-use Rattle.std.proofs.Common.{take, not, ◌++◌, ◌∷◌, [], length, length-append, refl, sym, ap, subst, ◌∙◌, arith}
+use Rattle.std.proofs.Common.{take, ◌++◌, ◌∷◌, [], length, length-append, refl, sym, ap, subst, ◌∙◌, arith}
 use Rattle.std.proofs.lemmas.Bool.{and_parts}
 use Rattle.smx_model.specs.Configuration.{same_stream}
 use Rattle.smx_model.proofs.TestLemmas.{any_push}

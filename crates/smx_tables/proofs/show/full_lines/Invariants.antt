@@ -1,13 +1,6 @@
-use Rattle.std.proofs.Common.{◌≡◌, ◌<◌, ◌++◌, length, map}
-use Rattle.std.specs.List.{AllByRecursion}
+use Rattle.std.proofs.Common.{◌≡◌, map, take}
 use Rattle.smx_model.specs.Views.{view_of_full}
 use Rattle.smx_tables.proofs.show.full_lines.Given as goal
 
-abbrev pub decreases-loop-place : goal.decreases-loop-place
-decreases-loop-place l = length l.rest
-
 abbrev pub invariant-loop-place : goal.invariant-loop-place
-invariant-loop-place l = record {
-  lines : l.lines.items ++ map (view_of_full l.drivers) l.rest ≡ map (view_of_full l.drivers) l.queues.fulls;
-  known : AllByRecursion (λ p. p.stream.driver < length l.drivers) l.rest;
-}
+invariant-loop-place l = l.lines.items ≡ map (view_of_full l.drivers) (take l.place-index l.place-items)

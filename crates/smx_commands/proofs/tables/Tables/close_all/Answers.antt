@@ -41,4 +41,4 @@ returns c =
     c.deref-2.ensures.value c.sweep_and_reply.ensures.value (left
     ∙ ap (λ (fs : List Descriptor). after_sweep c.self.inside.drivers.items (record old { fds = fs }))
     c.close_process.ensures.rest.fds)
-    (c.sweep_and_reply.ensures.reply old.flow sound.serials.apart c.in_ok-reserve_for_sweep.ensures.none))
+    (c.sweep_and_reply.ensures.reply old.flow sound.serials.apart c.in_ok-room.ensures.none))

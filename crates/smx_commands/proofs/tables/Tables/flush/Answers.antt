@@ -14,7 +14,7 @@ pub sweep_and_reply-requires-clause-touched : goal.sweep_and_reply-requires-clau
 sweep_and_reply-requires-clause-touched c =
     let old = configuration_of c.self.inside.lists in
     let t = c.self.inside.lists.streams in
-    let touched = c.reserve_for_sweep.new.room.touched.items in
+    let touched = c.in_ok-room.room.touched.items in
     let goes = λ (p : Place). same_stream p.stream c.in_ok-stream.stream && is_side c.args.sides p.side in
     let sound = sound_inside c.self.inside c.args.self.now c.self.view_is c.requires in
     rw (c.drop_sides.ensures.flow, c.drop_sides.ensures.fulls)
@@ -39,4 +39,4 @@ returns c =
     c.deref-2.ensures.value c.sweep_and_reply.ensures.value
     (ap (after_sweep c.self.inside.drivers.items) emptied)
     (c.sweep_and_reply.ensures.reply old.flow sound.serials.apart
-    (c.drop_sides.ensures.dropped old.flow c.in_ok-reserve_for_sweep.ensures.none))))
+    (c.drop_sides.ensures.dropped old.flow c.in_ok-room.ensures.none))))

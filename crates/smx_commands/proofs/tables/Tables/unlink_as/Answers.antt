@@ -64,4 +64,4 @@ returns c =
     (record (without_links old goes) { hungs = u.hungs }) _ c.sweep_and_reply.result c.deref-3.ensures.value
     (c.sweep_and_reply.ensures.value ∙ ap (after_sweep c.deref-3.result.now) removed) left
     (c.sweep_and_reply.ensures.reply old.flow sound.serials.apart
-    (c.remove_links.ensures.dropped old.flow c.in_ok-reserve_for_sweep.ensures.none))))
+    (c.remove_links.ensures.dropped old.flow c.in_ok-room.ensures.none))))

@@ -1,21 +1,28 @@
-use Rattle.smx_queues.proofs.LeavingLemmas.{leaving_ends, leaving_keeps, leaving_step}
-use Rattle.smx_queues.proofs.StepLemmas.{below}
+use Rattle.std.proofs.Common.{arith}
+use Rattle.smx_queues.specs.PlaceLists.{places_of}
+use Rattle.smx_queues.proofs.FlowCallLemmas.{numbered, place_there}
+use Rattle.smx_queues.proofs.StepLemmas.{leaving_keeps, leaving_skips, leaving_step}
 use Rattle.smx_queues.proofs.leaving_messages.LeavingMessages.next.Goals as goal
 
-pub returns-in_err-p : goal.returns-in_err-p
-returns-in_err-p c =
-    let none = leaving_ends _ _ _ _ c.self.invariant c.self.view_is c.in_err-p.ensures in
-    rw c.from_residual.ensures (none, none)
+pub take-requires : goal.take-requires
+take-requires c =
+    let at = numbered (places_of c.loop-self.self-inside.places) c.loop-self.self-inside.next (omega arith) in
+    place_there _ _ at.0 _ c.loop-self.invariant.flow at.1
 
-pub at-place-requires : goal.at-place-requires
-at-place-requires c = below _ _ _ c.self.invariant c.in_ok-p.ensures.1
+pub invariant_of-self-in-Some : goal.invariant_of-self-in-Some
+invariant_of-self-in-Some c =
+    leaving_keeps _ _ _ _ _ _ c.loop-self.invariant.flow c.at.ensures.place c.in-Some.ensures.taken
+    c.in-Some.ensures.left
 
-pub invariant_of-self-2 : goal.invariant_of-self-2
-invariant_of-self-2 c =
-    leaving_keeps _ _ _ _ _ _ c.self.invariant c.at-place.ensures.place c.in_ok-message.ensures.taken
-    c.in_ok-message.ensures.left
+pub returns-in-Some : goal.returns-in-Some
+returns-in-Some c =
+    leaving_step _ _ _ _ _ _ _ c.loop-self.invariant.flow c.loop-self.invariant.rest c.at.ensures.place
+    c.in-Some.ensures.taken c.in-Some.ensures.left
 
-pub returns : goal.returns
-returns c =
-    leaving_step _ _ _ _ _ _ _ _ c.self.invariant c.self.view_is c.in_ok-p.ensures c.at-place.ensures.place
-    c.in_ok-message.ensures.taken c.in_ok-message.ensures.left
+pub loop-self-preserved : goal.loop-self-preserved
+loop-self-preserved c =
+    rw c.in_default.ensures.none (record {
+      flow = c.loop-self.invariant.flow;
+      rest = leaving_skips _ _ _ _ c.loop-self.invariant.flow (omega arith) c.loop-self.invariant.rest
+          c.in_default.ensures.taken;
+    })

@@ -1,15 +1,15 @@
-use Rattle.std.proofs.Common.{◌≡◌, ◌+◌, ◌≤◌, ◌++◌, map, length, vec_capacity}
+use Rattle.std.proofs.Common.{◌≡◌, ◌+◌, ◌-◌, ◌++◌, drop, length, map, take, vec_capacity}
 use Rattle.smx_types.specs.declared.message.Message.{Message}
+use Rattle.smx_queues.specs.Chains.{walk}
 use Rattle.smx_queues.specs.QueueTable.{queue_at}
 use Rattle.smx_queues.proofs.queues.Queues.add_serials.Given as goal
 
-abbrev pub invariant-loop-message : goal.invariant-loop-message
-invariant-loop-message l = record {
-  added : l.serials.items ++ map (λ (m : Message). m.serial) l.rest
-      ≡ l.fn.serials.items ++ map (λ (m : Message). m.serial) (queue_at l.self.queues l.p).messages;
-  room : length l.serials.items + length l.rest ≤ vec_capacity l.serials;
-  capacity : vec_capacity l.serials ≡ vec_capacity l.fn.serials;
+abbrev pub invariant-loop-k : goal.invariant-loop-k
+invariant-loop-k l = record {
+  left : walk l.self-inside.nodes (length (queue_at l.self.queues l.p).messages - l._k) l.key
+      ≡ drop l._k (queue_at l.self.queues l.p).messages;
+  added : l.serials.items ≡ l.initial.serials.items
+      ++ map (λ (m : Message). m.serial) (take l._k (queue_at l.self.queues l.p).messages);
+  many : length l.serials.items ≡ length l.initial.serials.items + l._k;
+  capacity : vec_capacity l.serials ≡ vec_capacity l.initial.serials;
 }
-
-abbrev pub decreases-loop-message : goal.decreases-loop-message
-decreases-loop-message l = length l.rest
