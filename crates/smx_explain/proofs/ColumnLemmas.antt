@@ -117,15 +117,14 @@ word_wanted : (version : Version) (values : List Value) (next : Choice) (word : 
 word_wanted version [] next word behind then h = (behind, then, h)
 word_wanted version (value ∷ values) next word behind then h = h.0
 
-module _ (kind : LineKind) (version : Version) (line : List ℕ) (column : ℕ) (rest : Option (Bor (List ℕ)))
-    (values : List Value) (next : Choice) (h : HasCome kind version line column rest values next) where
+module _ {kind : LineKind} {version : Version} {line : List ℕ} {column : ℕ} {rest : Option (Bor (List ℕ))}
+    {values : List Value} {next : Choice} (h : HasCome kind version line column rest values next) where
   -- if a line can go on with its next part, it goes on up to the column after that part
-  pub one_more : (text : Bor (List ℕ)) → rest ≡ Some text → (word : List ℕ) (behind : Option (Bor (List ℕ)))
+  pub one_more : {text : Bor (List ℕ)} → rest ≡ Some text → (word : List ℕ) (behind : Option (Bor (List ℕ)))
       → IsFree SPACE word → text.now ++ SPACE ∷ [] ≡ word ++ SPACE ∷ left_of behind
       → (wanted : List Value) (then : Choice) → GoesOn version values next word wanted then
-      → (after : ℕ) → after ≡ column + (length word + 1)
-      → HasCome kind version line after behind wanted then
-  one_more text is word behind free cut wanted then goes after moved = record {
+      → (after : ℕ) → after ≡ column + (length word + 1) → HasCome kind version line after behind wanted then
+  one_more is word behind free cut wanted then goes after moved = record {
     front = h.front ++ word ∷ [];
     free = all_more h.front (word ∷ []) h.free (free, tt);
     left = h.left ∙ ap (λ (r : Option (Bor (List ℕ))). spaced h.front ++ left_of r) is
@@ -146,10 +145,8 @@ module _ (kind : LineKind) (version : Version) (line : List ℕ) (column : ℕ) 
       λ spells. subst (IsLine kind version) (sym (append_assoc h.front (word ∷ []) more))
           ((h.goes_on (word ∷ more)).1 (wanted, then, goes, spells)),
     );
-    leads = λ more expected led.
-        subst (λ (ws : List (List ℕ)). LeadTo version [] (first_choice kind) ws expected)
-        (sym (append_assoc h.front (word ∷ []) more))
-        (h.leads (word ∷ more) expected (wanted, then, goes, led));
+    leads = λ more expected led. subst (λ (ws : List (List ℕ)). LeadTo version [] (first_choice kind) ws expected)
+        (sym (append_assoc h.front (word ∷ []) more)) (h.leads (word ∷ more) expected (wanted, then, goes, led));
   } where
     on : (more : List (List ℕ)) → Spells version values next (word ∷ more) → Spells version wanted then more
     on more (behind, chosen, also, spells) =
@@ -211,16 +208,14 @@ module _ (kind : LineKind) (version : Version) (line : List ℕ) (column : ℕ) 
   }
 
   -- the column is this one, if no line goes on with the next word
-  pub stops_here : (text : Bor (List ℕ)) → rest ≡ Some text → (word : List ℕ) (behind : Option (Bor (List ℕ)))
+  pub stops_here : {text : Bor (List ℕ)} → rest ≡ Some text → (word : List ℕ) (behind : Option (Bor (List ℕ)))
       → IsFree SPACE word → text.now ++ SPACE ∷ [] ≡ word ++ SPACE ∷ left_of behind
       → ((wanted : List Value) (then : Choice) → GoesOn version values next word wanted then → ⊥)
       → IsColumn kind version line (record { column = column; wanted = wanted_of values next })
-  stops_here text is word behind free cut stops =
+  stops_here is word behind free cut stops =
       let (others, all, are) = left_parts behind in
-      column_here (word ∷ others) (free, all)
-      (ap left_of is ∙ cut ∙ ap (λ (xs : List ℕ). word ++ SPACE ∷ xs) are
-      ∙ sym (append_assoc word (SPACE ∷ []) (spaced others)))
-      (λ begun.
+      column_here (word ∷ others) (free, all) (ap left_of is ∙ cut ∙ ap (λ (xs : List ℕ). word ++ SPACE ∷ xs) are
+      ∙ sym (append_assoc word (SPACE ∷ []) (spaced others))) (λ begun.
       let (wanted, then, goes) = wanted_word version values next word ((goes_with word).0 begun) in
       stops wanted then goes)
 
@@ -230,8 +225,7 @@ module _ (kind : LineKind) (version : Version) (line : List ℕ) (column : ℕ) 
     h.front,
     (
       h.free,
-      h.left ∙ ap (λ (r : Option (Bor (List ℕ))). spaced h.front ++ left_of r) is
-          ∙ append-nil (spaced h.front),
+      h.left ∙ ap (λ (r : Option (Bor (List ℕ))). spaced h.front ++ left_of r) is ∙ append-nil (spaced h.front),
     ),
     ends_there.1 ends,
   )

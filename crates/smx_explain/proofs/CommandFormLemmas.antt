@@ -44,28 +44,23 @@ module _ (version : Version) where
 
   -- each command of a version has a form
   pub form : (c : AnyCommand) → FitsCommandIn version c → HasForm version c
-  form (command.OpenClone driver) (fits, told) =
-      formed _ (codes "clone") (Name ∷ []) _ refl (search rules) (fits, tt)
+  form (command.OpenClone driver) (fits, told) = formed _ (codes "clone") (Name ∷ []) _ refl (search rules) (fits, tt)
   form (command.OpenMinor driver minor) (fits, told) =
       formed _ (codes "open") (Name ∷ Number ∷ []) _ refl (search rules) (fits.0, (number minor fits.1, tt))
-  form (command.Dup fd) (fits, told) =
-      formed _ (codes "dup") (Number ∷ []) _ refl (search rules) (number fd fits, tt)
+  form (command.Dup fd) (fits, told) = formed _ (codes "dup") (Number ∷ []) _ refl (search rules) (number fd fits, tt)
   form (command.Close fd) (fits, told) =
       formed _ (codes "close") (Number ∷ []) _ refl (search rules) (number fd fits, tt)
   form command.CloseAll (fits, told) = formed _ (codes "exit") [] _ refl (search rules) tt
   form (command.Link fd arg) (fits, told) =
       formed _ (codes "link") (Number ∷ Number ∷ []) _ refl (search rules) (number fd fits.0, (number arg fits.1, tt))
-  form (command.Plink fd arg) (fits, told) =
-      formed _ (codes "plink") (Number ∷ Number ∷ []) _ refl (search rules)
+  form (command.Plink fd arg) (fits, told) = formed _ (codes "plink") (Number ∷ Number ∷ []) _ refl (search rules)
       (number fd fits.0, (number arg fits.1, tt))
-  form (command.Unlink fd which) (fits, told) =
-      formed _ (codes "unlink") (Number ∷ Which ∷ []) _ refl (search rules)
+  form (command.Unlink fd which) (fits, told) = formed _ (codes "unlink") (Number ∷ Which ∷ []) _ refl (search rules)
       (number fd fits.0, ((which, fits.1, refl), tt))
   form (command.Punlink fd which) (fits, told) =
       formed _ (codes "punlink") (Number ∷ Which ∷ []) _ refl (search rules)
       (number fd fits.0, ((which, fits.1, refl), tt))
-  form (command.Bind fd addr) (fits, told) =
-      formed _ (codes "bind") (Number ∷ Number ∷ []) _ refl (search rules)
+  form (command.Bind fd addr) (fits, told) = formed _ (codes "bind") (Number ∷ Number ∷ []) _ refl (search rules)
       (number fd fits.0, (number addr fits.1, tt))
   form (command.Unbind fd) (fits, told) =
       formed _ (codes "unbind") (Number ∷ []) _ refl (search rules) (number fd fits, tt)
@@ -181,8 +176,7 @@ module _ (version : Version) where
       (command.Transmit a is_b.0, ((is_a, is_b.1), tells version), cc (is.0, are, is_b.2))
   of_row word values next args
       (inr (inr (inr (inr (inr (inr (inr (inr (inr (inr (inr (inr (inr (inr (inr (inr (inr (inr is))))))))))))))))))
-      takes =
-      absurd is
+      takes = absurd is
 
 -- a fixed word of a command, and words for the values after it, are the words of a command of that version
 pub of_form : (version : Version) (word : List ℕ) (values : List Value) (next : Choice) (args : List (List ℕ))

@@ -46,8 +46,7 @@ module _ (version : Version) where
   -- a line can be completed if it can go on with a fixed word after which it can be completed
   behind : (choice : Choice) (word : List ℕ) (next : Choice) → IsRow (rows choice) word [] next → CanEnd [] next
       → CanEnd [] choice
-  behind choice word next is more =
-      (word ∷ more.0, ([], next, inl (fixed_in version choice word [] next is), more.1))
+  behind choice word next is more = (word ∷ more.0, ([], next, inl (fixed_in version choice word [] next is), more.1))
 
   -- a line can be completed where it ends
   at_end : CanEnd [] End

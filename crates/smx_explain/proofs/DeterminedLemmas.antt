@@ -59,8 +59,7 @@ one_row : (ks : List WordRow) → differ ks ≡ true → (word : List ℕ) (valu
     (others : List Value) (then : Choice) → IsRow ks word values next → IsRow ks word others then
     → Same values next others then
 one_row [] h word values next others then is is_too = absurd is
-one_row (k ∷ ks) h word values next others then (inl is) (inl is_too) =
-    (is.1 ∙ sym is_too.1, is.2 ∙ sym is_too.2)
+one_row (k ∷ ks) h word values next others then (inl is) (inl is_too) = (is.1 ∙ sym is_too.1, is.2 ∙ sym is_too.2)
 one_row (k ∷ ks) h word values next others then (inl is) (inr more) =
     absurd (not_new ks k.0 others then (both (is_new k.0 ks) (differ ks) h).0
     (subst (λ (w : List ℕ). IsRow ks w others then) is.0 more))
@@ -146,8 +145,7 @@ module _ (version : Version) (word : List ℕ) where
 
   -- a command without a reply goes on in only one way
   one_lone : (values : List Value) (next : Choice) (others : List Value) (then : Choice)
-      → IsLoneCommand version word values next → IsLoneCommand version word others then
-      → Same values next others then
+      → IsLoneCommand version word values next → IsLoneCommand version word others then → Same values next others then
   one_lone values next others then is is_too = (
     (one_row (rows_in version Command) (all_differ version Command) word values Equals others Equals is.0 is_too.0).0,
     is.1 ∙ sym is_too.1,
@@ -174,8 +172,7 @@ module _ (version : Version) (word : List ℕ) where
       absurd (fixed_alone choice values next others then is is_too)
   one_choice choice values next others then (inr is) (inl is_too) =
       absurd (fixed_alone choice others then values next is_too is)
-  one_choice choice values next others then (inr is) (inr is_too) =
-      one_other choice values next others then is is_too
+  one_choice choice values next others then (inr is) (inr is_too) = one_other choice values next others then is is_too
 
   -- a line goes on after a word in only one way
   pub one_way : (wanted : List Value) (choice : Choice) (values : List Value) (next : Choice) (others : List Value)

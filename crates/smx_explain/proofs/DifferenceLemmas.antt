@@ -45,8 +45,7 @@ pub record HasCome (one other rest behind : List ℕ) (number : ℕ) : Type 0 wh
 module _ (one other rest behind : List ℕ) (number : ℕ) (h : HasCome one other rest behind number) where
   -- if the next line of both texts is the same, one more line of both was read
   pub one_more : (told has more after : List ℕ) → IsOneLine told → rest ≡ told ++ LINE_FEED ∷ more
-      → behind ≡ has ++ LINE_FEED ∷ after
-      → told ≡ has → HasCome one other more after (number + 1)
+      → behind ≡ has ++ LINE_FEED ∷ after → told ≡ has → HasCome one other more after (number + 1)
   one_more told has more after is_one is also same = record {
     lines = h.lines ++ told ∷ [];
     begin = record {

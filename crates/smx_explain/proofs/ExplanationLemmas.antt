@@ -106,8 +106,7 @@ module _ (reading : HasOneReading) (t r : Transcript) (allowed : IsAllowed t.ver
 
   -- if one of two texts has no whole line after lines that both have, the transcripts are the same
   end_alike : (lines : List (List ℕ)) (rest behind : List ℕ) → transcript_text t ≡ lines_text lines ++ rest
-      → transcript_text r ≡ lines_text lines ++ behind
-      → IsOneLine rest → r ≡ t
+      → transcript_text r ≡ lines_text lines ++ behind → IsOneLine rest → r ≡ t
   end_alike lines rest behind is is_too one =
       let end = text_ends (transcript_grammar t.version) t in
       let none : rest ≡ [] = no_rest (lines_text lines) end.0 rest (sym is ∙ end.1) one in
@@ -217,8 +216,7 @@ body_at t front e more is =
     let rest = line.Config ∷ view_body t.view in
     ap (λ (es : List Entry). map line.Driver t.drivers ++ (map line.Entry es ++ rest)) is
     ∙ ap (λ (ks : List TranscriptLine). map line.Driver t.drivers ++ (ks ++ rest))
-    (map-append line.Entry front (e ∷ more))
-    ∙ ap (λ (ks : List TranscriptLine). map line.Driver t.drivers ++ ks)
+    (map-append line.Entry front (e ∷ more)) ∙ ap (λ (ks : List TranscriptLine). map line.Driver t.drivers ++ ks)
     (append_assoc (map line.Entry front) (line.Entry e ∷ map line.Entry more) rest)
     ∙ sym (append_assoc (map line.Driver t.drivers) (map line.Entry front) (line.Entry e ∷ map line.Entry more ++ rest))
 
@@ -239,8 +237,7 @@ count_to version drivers front =
 
 -- the header, and the text of each line before an entry, is one line
 lines_are : DriversAreWords → EntriesAreWords → (version : Version) (drivers : List DriverSpec) (front : List Entry)
-    → AllByRecursion FitsDriver drivers
-    → AllByRecursion FitsEntry front
+    → AllByRecursion FitsDriver drivers → AllByRecursion FitsEntry front
     → AllByRecursion IsOneLine (lines_before (transcript_grammar version) (lines_to drivers front))
 lines_are driver entry version drivers front fit fit_too =
     are_lines (transcript_grammar version) (header_line version) (lines_to drivers front)
@@ -275,8 +272,7 @@ module _ (driver : DriversAreWords) (entry : EntriesAreWords) (t : Transcript) (
       let at = text_at (transcript_grammar t.version) t (lines_to t.drivers front) (line.Entry first.entry) _
       (body_at t front first.entry s.more s.it) in
       let at_too = text_at (transcript_grammar h.replay.version) h.replay (lines_to h.replay.drivers front)
-      (line.Entry there) _
-      (body_at h.replay front there s.more_too s.its_replay) in
+      (line.Entry there) _ (body_at h.replay front there s.more_too s.its_replay) in
       let tail = line_of (entry_words there) ++ LINE_FEED ∷ at_too.0 in
       let as_version = subst (λ (v : Version). transcript_text h.replay
       ≡ lines_text (lines_before (transcript_grammar v) (lines_to h.replay.drivers front)) ++ tail)
@@ -356,13 +352,11 @@ module _ (driver : DriversAreWords) (entry : EntriesAreWords) (t : Transcript) (
 
   -- the header, and the text of each line above the configuration, is one line
   above_are : AllByRecursion IsOneLine (lines_before (transcript_grammar t.version) (lines_above t.drivers t.entries))
-  above_are =
-      are_lines (transcript_grammar t.version) (header_line t.version) (lines_above t.drivers t.entries)
+  above_are = are_lines (transcript_grammar t.version) (header_line t.version) (lines_above t.drivers t.entries)
       (all_append IsLine (lines_to t.drivers t.entries) (line.Config ∷ [])
       (all_append IsLine (map line.Driver t.drivers) (map line.Entry t.entries)
       (driver_lines driver t.drivers (allowed_spellable t.version t allowed).0.drivers)
-      (entry_lines entry t.entries (allowed_spellable t.version t allowed).0.entries))
-      (config_line, tt))
+      (entry_lines entry t.entries (allowed_spellable t.version t allowed).0.entries)) (config_line, tt))
 
   -- below `config differs`, the explanation shows a line below the line `config`
   pub differs_reported : AreDetermined → IsVerdict t.drivers t.entries t.view ConfigDiffers

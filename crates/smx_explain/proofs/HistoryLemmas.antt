@@ -12,8 +12,7 @@ use Rattle.smx_trace.specs.Answers.{answered}
 
 -- entries with the same parts are the same
 same_entry : (d e : Entry) → call_of d ≡ call_of e → d.reply ≡ e.reply → d ≡ e
-same_entry d e call reply =
-    ap (λ (p : ℕ). record d { process = p }) (ap (λ (call : ℕ × Command). call.0) call)
+same_entry d e call reply = ap (λ (p : ℕ). record d { process = p }) (ap (λ (call : ℕ × Command). call.0) call)
     ∙ ap (λ (c : Command). record d { process = e.process; command = c }) (ap (λ (call : ℕ × Command). call.1) call)
     ∙ ap (λ (r : Reply). record e { reply = r }) reply
 
@@ -29,8 +28,7 @@ module _ (drivers : List DriverSpec) where
   -- an entry with the call of another, and the reply of the model, is that other with the model's answer
   answers : (c : Configuration) (x y : Entry) → (step drivers c y.process y.command).1 ≡ y.reply → call_of y ≡ call_of x
       → y ≡ answered drivers c x
-  answers c x y legal call =
-      same_entry y (answered drivers c x) call
+  answers c x y legal call = same_entry y (answered drivers c x) call
       (sym legal ∙ ap (λ (call : ℕ × Command). (step drivers c call.0 call.1).1) call)
 
   -- an entry after a legal history is in the history at this index, and its answer is at the same index of the replay

@@ -1,7 +1,5 @@
 -- The words of a line of each text, by the tables.
-use Rattle.std.proofs.Common.{◌≡◌, ◌<◌, ℕ, true, List, [], ◌∷◌, ◌++◌, refl, sym, ap, subst, ◌∙◌}
-use Rattle.std.proofs.Common.{inl, inr}
-use Rattle.std.proofs.Common.{rules}
+use Rattle.std.proofs.Common.{◌≡◌, ◌<◌, ℕ, true, List, [], ◌∷◌, ◌++◌, refl, sym, ap, subst, ◌∙◌, inl, inr, rules}
 use Rattle.std.specs.Prelude.{◌↔◌, codes}
 use Rattle.std.specs.Fmt.{decimal}
 use Rattle.smx_types.specs.Versions.{is_hangup, tells_of_hangup}
@@ -74,14 +72,9 @@ module _ (version : Version) where
   programs_line (line.Driver d) f =
       from_row version ProgramsLine (codes "driver") driver_values End (driver_args d) []
       (search rules) (driver_takes d f) tt
-  programs_line (line.Process n) f =
-      from_row version ProgramsLine (codes "process") (Number ∷ []) End
-      (decimal n ∷ []) []
-      (search rules) (number n f, tt) tt
-  programs_line line.End f =
-      from_row version ProgramsLine (codes "end") ([]) End
-      ([]) []
-      (search rules) tt tt
+  programs_line (line.Process n) f = from_row version ProgramsLine (codes "process") (Number ∷ []) End
+      (decimal n ∷ []) [] (search rules) (number n f, tt) tt
+  programs_line line.End f = from_row version ProgramsLine (codes "end") ([]) End ([]) [] (search rules) tt tt
   programs_line (line.Command c) f = lone_spelled version ProgramsLine (λ word values lone. lone) c f
 
   -- a first word of a line of programs, and words that complete the line after it, are those of such a line
@@ -132,8 +125,7 @@ module _ (version : Version) where
       )
 
   -- the words of a hung-up stream complete a line of a transcript, in a version that has them
-  hung_spelled : (h : HungLine) → FitsHung h → CanTell version true
-      → Spells version [] TranscriptLine (hung_words h)
+  hung_spelled : (h : HungLine) → FitsHung h → CanTell version true → Spells version [] TranscriptLine (hung_words h)
   hung_spelled h fits told = of_version_2 version told where
     of_version_2 : (v : Version) → CanTell v true → Spells v [] TranscriptLine (hung_words h)
     of_version_2 V1 told = absurd (cc told)
@@ -150,17 +142,12 @@ module _ (version : Version) where
       → Spells version [] TranscriptLine (transcript.line_words k)
   transcript_line (told.Driver d) f =
       from_row version TranscriptLine (codes "driver") (Name ∷ DriverKind ∷ Number ∷ Number ∷ Number ∷ Number ∷ [])
-      End
-      (d.name ∷ kind_word d.kind ∷ decimal d.minors ∷ decimal d.high ∷ decimal d.low ∷ decimal d.max ∷ []) []
+      End (d.name ∷ kind_word d.kind ∷ decimal d.minors ∷ decimal d.high ∷ decimal d.low ∷ decimal d.max ∷ []) []
       (search rules) (driver_takes d f) tt
-  transcript_line told.Config f =
-      from_row version TranscriptLine (codes "config") ([]) End
-      ([]) []
+  transcript_line told.Config f = from_row version TranscriptLine (codes "config") ([]) End ([]) []
       (search rules) tt tt
-  transcript_line (told.Next id serial) f =
-      from_row version TranscriptLine (codes "next") (Number ∷ Number ∷ []) End
-      (decimal id ∷ decimal serial ∷ []) []
-      (search rules) (number id f.0, (number serial f.1, tt)) tt
+  transcript_line (told.Next id serial) f = from_row version TranscriptLine (codes "next") (Number ∷ Number ∷ []) End
+      (decimal id ∷ decimal serial ∷ []) [] (search rules) (number id f.0, (number serial f.1, tt)) tt
   transcript_line (told.Fd d) f =
       from_row version TranscriptLine (codes "fd") (Process ∷ Number ∷ Name ∷ Number ∷ []) End
       (decimal d.process ∷ decimal d.fd ∷ d.driver ∷ decimal d.minor ∷ []) []
@@ -175,23 +162,14 @@ module _ (version : Version) where
           f.ctl_driver,
           (
             number l.ctl_minor f.ctl_minor,
-            (
-              f.lower_driver,
-              (
-                number
-                    l.lower_minor f.lower_minor,
-                ((l.kind, tt, refl), tt),
-              ),
-            ),
+            (f.lower_driver, (number l.lower_minor f.lower_minor, ((l.kind, tt, refl), tt))),
           ),
         ),
       ) tt
-  transcript_line (told.Bind b) f =
-      from_row version TranscriptLine (codes "bind") (Name ∷ Number ∷ Number ∷ []) End
+  transcript_line (told.Bind b) f = from_row version TranscriptLine (codes "bind") (Name ∷ Number ∷ Number ∷ []) End
       (b.driver ∷ decimal b.addr ∷ decimal b.minor ∷ []) []
       (search rules) (f.driver, (number b.addr f.addr, (number b.minor f.minor, tt))) tt
-  transcript_line (told.Route r) f =
-      from_row version TranscriptLine (codes "route") (Name ∷ Number ∷ Number ∷ []) End
+  transcript_line (told.Route r) f = from_row version TranscriptLine (codes "route") (Name ∷ Number ∷ Number ∷ []) End
       (r.driver ∷ decimal r.addr ∷ decimal r.id ∷ []) []
       (search rules) (f.driver, (number r.addr f.addr, (number r.id f.id, tt))) tt
   transcript_line (told.Msg m) f =
@@ -211,14 +189,10 @@ module _ (version : Version) where
           ),
         ),
       ) tt
-  transcript_line (told.Full q) f =
-      from_row version TranscriptLine (codes "full") (Name ∷ Number ∷ Side ∷ []) End
+  transcript_line (told.Full q) f = from_row version TranscriptLine (codes "full") (Name ∷ Number ∷ Side ∷ []) End
       (q.driver ∷ decimal q.minor ∷ side_word q.side ∷ []) []
       (search rules) (f.driver, (number q.minor f.minor, ((q.side, tt, refl), tt))) tt
-  transcript_line told.End f =
-      from_row version TranscriptLine (codes "end") ([]) End
-      ([]) []
-      (search rules) tt tt
+  transcript_line told.End f = from_row version TranscriptLine (codes "end") ([]) End ([]) [] (search rules) tt tt
   transcript_line (told.Entry e) f = entry_spelled e f
   transcript_line (told.Hung h) f = hung_spelled h f.0 f.1
 
@@ -251,18 +225,10 @@ module _ (version : Version) where
           ctl_driver = b;
           ctl_minor = is_c.0;
           lower_driver = d;
-          lower_minor
-              = is_e.0;
+          lower_minor = is_e.0;
           kind = is_f.0;
         }),
-        record {
-          id = is_a.1;
-          ctl_driver = is_b;
-          ctl_minor = is_c.1;
-          lower_driver = is_d;
-          lower_minor =
-              is_e.1;
-        },
+        record { id = is_a.1; ctl_driver = is_b; ctl_minor = is_c.1; lower_driver = is_d; lower_minor = is_e.1 },
         cc (is.0, are, is_a.2, is_c.2, is_e.2, is_f.2),
       )
   transcript_row word values next words (inr (inr (inr (inr (inr (inl is)))))) h =
@@ -286,11 +252,7 @@ module _ (version : Version) where
           driver = a;
           minor = is_b.0;
           side = is_c.0;
-          message = record {
-            serial = is_d.0;
-            addr = is_e.0;
-            bytes = is_f.0;
-          };
+          message = record { serial = is_d.0; addr = is_e.0; bytes = is_f.0 };
         }),
         record { driver = is_a; minor = is_b.1; serial = is_d.1; addr = is_e.1; bytes = is_f.1 },
         cc (is.0, are, is_b.2, is_c.2, is_d.2, is_e.2, is_f.2),

@@ -37,16 +37,14 @@ whole_map f (x ∷ xs) = ap (λ (rest : List ℕ). (f x ++ LINE_FEED ∷ []) ++ 
 
 -- a line that both have first is not a difference
 no_first : (l told has more rest a b : List ℕ) → IsOneLine l → IsOneLine told → IsOneLine has → told ≢ has
-    → l ++ LINE_FEED ∷ a ≡ told ++ LINE_FEED ∷ more
-    → l ++ LINE_FEED ∷ b ≡ has ++ LINE_FEED ∷ rest → ⊥
+    → l ++ LINE_FEED ∷ a ≡ told ++ LINE_FEED ∷ more → l ++ LINE_FEED ∷ b ≡ has ++ LINE_FEED ∷ rest → ⊥
 no_first l told has more rest a b one one_told one_has differ e k =
     differ (sym (one_cut l told a more one one_told e).0 ∙ (one_cut l has b rest one one_has k).0)
 
 -- two ways to split both texts at lines that differ are one
 pub one_front : (ls ms : List (List ℕ)) (told has told_too has_too more rest more_too rest_too : List ℕ)
     → AllByRecursion IsOneLine ls → AllByRecursion IsOneLine ms → IsOneLine told → IsOneLine has → IsOneLine told_too
-    → IsOneLine has_too
-    → told ≢ has → told_too ≢ has_too
+    → IsOneLine has_too → told ≢ has → told_too ≢ has_too
     → lines_text ls ++ (told ++ LINE_FEED ∷ more) ≡ lines_text ms ++ (told_too ++ LINE_FEED ∷ more_too)
     → lines_text ls ++ (has ++ LINE_FEED ∷ rest) ≡ lines_text ms ++ (has_too ++ LINE_FEED ∷ rest_too)
     → (length ls ≡ length ms) × (told ≡ told_too) × (has ≡ has_too)
@@ -54,12 +52,10 @@ one_front [] [] told has told_too has_too more rest more_too rest_too all all_to
     (refl, (one_cut told told_too more more_too a c e).0, (one_cut has has_too rest rest_too b d k).0)
 one_front [] (m ∷ ms) told has told_too has_too more rest more_too rest_too all all_too a b c d differ differ_too e k =
     absurd (no_first m told has more rest _ _ all_too.0 a b differ
-    (sym (e ∙ cons m ms (told_too ++ LINE_FEED ∷ more_too)))
-    (sym (k ∙ cons m ms (has_too ++ LINE_FEED ∷ rest_too))))
+    (sym (e ∙ cons m ms (told_too ++ LINE_FEED ∷ more_too))) (sym (k ∙ cons m ms (has_too ++ LINE_FEED ∷ rest_too))))
 one_front (l ∷ ls) [] told has told_too has_too more rest more_too rest_too all all_too a b c d differ differ_too e k =
     absurd (no_first l told_too has_too more_too rest_too _ _ all.0 c d differ_too
-    (sym (cons l ls (told ++ LINE_FEED ∷ more)) ∙ e)
-    (sym (cons l ls (has ++ LINE_FEED ∷ rest)) ∙ k))
+    (sym (cons l ls (told ++ LINE_FEED ∷ more)) ∙ e) (sym (cons l ls (has ++ LINE_FEED ∷ rest)) ∙ k))
 one_front (l ∷ ls) (m ∷ ms) told has told_too has_too more rest more_too rest_too all all_too a b c d differ differ_too
     e k =
     let cut = one_cut l m _ _ all.0 all_too.0
@@ -74,8 +70,7 @@ one_front (l ∷ ls) (m ∷ ms) told has told_too has_too more rest more_too res
 pub past_front : (ps ls : List (List ℕ)) (told has more rest x y : List ℕ)
     → AllByRecursion IsOneLine ps → AllByRecursion IsOneLine ls → IsOneLine told → IsOneLine has → told ≢ has
     → lines_text ls ++ (told ++ LINE_FEED ∷ more) ≡ lines_text ps ++ x
-    → lines_text ls ++ (has ++ LINE_FEED ∷ rest) ≡ lines_text ps ++ y
-    → length ps ≤ length ls
+    → lines_text ls ++ (has ++ LINE_FEED ∷ rest) ≡ lines_text ps ++ y → length ps ≤ length ls
 past_front [] ls told has more rest x y all all_too a b differ e k = omega arith
 past_front (p ∷ ps) [] told has more rest x y all all_too a b differ e k =
     absurd (no_first p told has more rest _ _ all.0 a b differ (sym (e ∙ cons p ps x)) (sym (k ∙ cons p ps y)))
@@ -109,8 +104,7 @@ no_difference one other n told has h same =
 alike_before : (ps ls : List (List ℕ)) (told has more rest x y : List ℕ)
     → AllByRecursion IsOneLine ps → AllByRecursion IsOneLine ls → IsOneLine told → IsOneLine has → told ≢ has
     → lines_text ls ++ (told ++ LINE_FEED ∷ more) ≡ lines_text ps ++ x
-    → lines_text ls ++ (has ++ LINE_FEED ∷ rest) ≡ lines_text ps ++ y
-    → IsOneLine x ⊎ IsOneLine y → ⊥
+    → lines_text ls ++ (has ++ LINE_FEED ∷ rest) ≡ lines_text ps ++ y → IsOneLine x ⊎ IsOneLine y → ⊥
 alike_before [] [] told has more rest x y all all_too a b differ e k (inl one) =
     not_one told more (subst IsOneLine (sym e) one)
 alike_before [] [] told has more rest x y all all_too a b differ e k (inr one) =
@@ -156,8 +150,7 @@ IsFrom text number at bytes =
 
 -- after a whole line, the lines from the next number on follow
 pub one_further : (text : List ℕ) (number at : ℕ) (bytes line after : List ℕ) → IsFrom text number at bytes
-    → at < number → IsOneLine line
-    → bytes ≡ line ++ LINE_FEED ∷ after → IsFrom text number (at + 1) after
+    → at < number → IsOneLine line → bytes ≡ line ++ LINE_FEED ∷ after → IsFrom text number (at + 1) after
 one_further text number at bytes line after h less one is =
     λ before rest all count e. behind_one (h before rest all count e) where
       behind_one : {rest : List ℕ}

@@ -47,8 +47,7 @@ record GoesTo (front behind other : List (List ℕ)) : Type 0 where
   to : other ≡ (front ++ word ∷ []) ++ more
 
 -- two fronts of the same parts are the same, or one of them goes on to the other
-two_fronts : (xs ws ys bs : List (List ℕ)) → xs ++ ws ≡ ys ++ bs
-    → (xs ≡ ys) ⊎ (GoesTo xs ws ys ⊎ GoesTo ys bs xs)
+two_fronts : (xs ws ys bs : List (List ℕ)) → xs ++ ws ≡ ys ++ bs → (xs ≡ ys) ⊎ (GoesTo xs ws ys ⊎ GoesTo ys bs xs)
 two_fronts [] ws [] bs e = inl refl
 two_fronts [] ws (y ∷ ys) bs e = inr (inl (record { word = y; rest = ys ++ bs; more = ys; is = e; to = refl }))
 two_fronts (x ∷ xs) ws [] bs e = inr (inr (record { word = x; rest = xs ++ ws; more = xs; is = sym e; to = refl }))
@@ -105,14 +104,12 @@ one_part line column v w (xs, ws, parts, here, is) (ys, bs, parts_too, here_too,
 module _ (kind : LineKind) (version : Version) where
   -- a line begins with the front of its words
   begins_with : (front more : List (List ℕ)) → Begins kind version (front ++ more) → Begins kind version front
-  begins_with front more (rest, is) =
-      (more ++ rest, subst (IsLine kind version) (append_assoc front more rest) is)
+  begins_with front more (rest, is) = (more ++ rest, subst (IsLine kind version) (append_assoc front more rest) is)
 
   -- if no line goes on, none goes on any further
   stops_all : (front behind other : List (List ℕ)) → Stops kind version front behind → Begins kind version other
       → GoesTo front behind other → ⊥
-  stops_all front behind other stops begun h =
-      subst (Stops kind version front) h.is stops
+  stops_all front behind other stops begun h = subst (Stops kind version front) h.is stops
       (begins_with (front ++ h.word ∷ []) h.more (subst (Begins kind version) h.to begun))
 
   -- if no line goes on after a front, the line is not valid
@@ -125,15 +122,13 @@ module _ (kind : LineKind) (version : Version) where
   module _ (line : List ℕ) where
     -- a line that becomes invalid is not valid
     pub not_both : (at : LineColumn) → IsColumn kind version line at → IsWhole kind version line → ⊥
-    not_both at h (parts, are, is) =
-        stops_whole h.front h.behind h.stops
+    not_both at h (parts, are, is) = stops_whole h.front h.behind h.stops
         (subst (IsLine kind version) (one_line line parts (h.front ++ h.behind) are h.parts) is)
 
     -- the parts before both columns are the same
     module _ (one other : LineColumn) (h : IsColumn kind version line one) (k : IsColumn kind version line other) where
       same_front : h.front ≡ k.front
-      same_front =
-          elim (two_fronts h.front h.behind k.front k.behind
+      same_front = elim (two_fronts h.front h.behind k.front k.behind
           (one_line line (h.front ++ h.behind) (k.front ++ k.behind) h.parts k.parts)) [
             | inl same ↦ same
             | inr (inl goes) ↦ absurd (stops_all h.front h.behind k.front h.stops k.begun goes)
@@ -146,8 +141,7 @@ module _ (kind : LineKind) (version : Version) where
 
       -- the same is expected at both
       same_wanted : one.wanted ≡ other.wanted
-      same_wanted =
-          one_lead version [] (first_choice kind) k.front one.wanted other.wanted
+      same_wanted = one_lead version [] (first_choice kind) k.front one.wanted other.wanted
           (subst (λ (front : List (List ℕ)). LeadTo version [] (first_choice kind) front one.wanted) same_front h.led)
           k.led
 

@@ -31,6 +31,5 @@ one_explanation determined t one other h k = by_cases h.shown k.shown where
   by_cases (inl a) (inl b) = a.1 ∙ sym b.1
   by_cases (inl a) (inr d) = absurd (none_reported _ _ _ d (ap transcript_text (sym a.0 ∙ same)))
   by_cases (inr d) (inl b) = absurd (none_reported _ _ _ d (ap transcript_text (sym (same ∙ b.0))))
-  by_cases (inr d) (inr e) =
-      same_output (transcript_text t) (transcript_text k.replay) one other
+  by_cases (inr d) (inr e) = same_output (transcript_text t) (transcript_text k.replay) one other
       (subst (λ (r : Transcript). TellsDifference (transcript_text t) (transcript_text r) one) same d) e

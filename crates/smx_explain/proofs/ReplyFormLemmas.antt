@@ -66,8 +66,7 @@ module _ (version : Version) where
   -- the words of serials complete the line
   serials_spelled : (ns : List ℕ) → AllByRecursion FitsNumber ns → Spells version [] Serials (map decimal ns)
   serials_spelled [] all = tt
-  serials_spelled (n ∷ ns) all =
-      ([], Serials, inr (number n all.0, refl, refl), serials_spelled ns all.1)
+  serials_spelled (n ∷ ns) all = ([], Serials, inr (number n all.0, refl, refl), serials_spelled ns all.1)
 
   -- the words of a reply of a version complete a reply
   pub reply_spelled : (r : AnyReply) → FitsReplyIn version r → Spells version [] Reply (reply_words r)

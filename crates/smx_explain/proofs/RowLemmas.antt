@@ -12,8 +12,7 @@ use Rattle.smx_words.specs.LineReading.{IsSpelled}
 use Rattle.smx_words.specs.Spellable.{FitsNumber, FitsProcess}
 use Rattle.smx_types.specs.declared.version.Version.{Version}
 use Rattle.smx_types.specs.declared.version.Version.TheVariants.{V1, V2}
-use Rattle.smx_explain.specs.Rows.{IsFixed, IsNoRow, IsRow, rows_of, rows_in}
-use Rattle.smx_explain.specs.Rows.{WordRow}
+use Rattle.smx_explain.specs.Rows.{IsFixed, IsNoRow, IsRow, rows_of, rows_in, WordRow}
 use Rattle.smx_explain.specs.declared.kinds.Choice.{Choice}
 use Rattle.smx_explain.specs.declared.kinds.Choice.TheVariants.{Command, Equals}
 use Rattle.smx_explain.specs.declared.kinds.Value.{Value}

@@ -69,8 +69,7 @@ module _ (version : Version) where
       → (words ≡ codes "on" ∷ []) ⊎ (words ≡ codes "off" ∷ [])
   of_switch [] h = absurd h
   of_switch (word ∷ words) (values, next, inl is, h) = from (plain version Switch refl word values next is) where
-    from : IsRow (rows Switch) word values next
-        → (word ∷ words ≡ codes "on" ∷ []) ⊎ (word ∷ words ≡ codes "off" ∷ [])
+    from : IsRow (rows Switch) word values next → (word ∷ words ≡ codes "on" ∷ []) ⊎ (word ∷ words ≡ codes "off" ∷ [])
     from (inl is) = inl (cc (is.0, nothing values next words is.1 is.2 h))
     from (inr (inl is)) = inr (cc (is.0, nothing values next words is.1 is.2 h))
     from (inr (inr is)) = absurd is

@@ -27,10 +27,10 @@ use Rattle.smx_explain.specs.declared.kinds.LineKind.TheVariants.{Session}
 use Rattle.smx_explain.specs.declared.kinds.Value.TheVariants.{Bytes}
 use Rattle.smx_explain.specs.declared.kinds.Wanted.{Wanted}
 use Rattle.smx_explain.specs.declared.kinds.Wanted.TheVariants as wanted
-use Rattle.smx_explain.proofs.ColumnLemmas.{at_begin, spaced_both, stops_here}
+use Rattle.smx_explain.proofs.ColumnLemmas.{spaced_both, stops_here}
 use Rattle.smx_explain.proofs.DeterminedLemmas.{not_new}
 use Rattle.smx_explain.proofs.OneColumnLemmas.{first_part, not_both, one_part, same_column, some_bytes}
-use Rattle.smx_explain.proofs.WorkedColumnLemmas.{misspelt, neither, seen}
+use Rattle.smx_explain.proofs.WorkedColumnLemmas.{misspelt, neither, seen, session}
 
 -- ---- the part in a column
 
@@ -176,15 +176,12 @@ nothing_explained version line (inr (at, word, Some hint, h, part, on, is)) = ab
 
 -- `x` is no process, and no line begins with it
 no_request : IsColumn Session V2 (codes "x") (choice_at 1 choice.SessionLine)
-no_request =
-    stops_here Session V2 (codes "x") 1 (Some (seen (codes "x"))) [] choice.SessionLine
-    (at_begin Session V2 (seen (codes "x"))) (seen (codes "x")) refl (codes "x") None (search (rules, arith)) refl
+no_request = stops_here (session V2 (codes "x")) refl (codes "x") None (search (rules, arith)) refl
     (neither V2 choice.SessionLine (codes "x")
     (λ values then. not_new (rows_in V2 choice.SessionLine) (codes "x") values then refl)
     (λ values then is. no_digits_in_x is.0)) where
       no_digits_in_x : IsSpelled FitsProcess decimal (codes "x") → ⊥
-      no_digits_in_x (n, small, is) =
-          absurd (cc (subst (λ (w : List ℕ). all_ascii_digits w ≡ true) (sym is)
+      no_digits_in_x (n, small, is) = absurd (cc (subst (λ (w : List ℕ). all_ascii_digits w ≡ true) (sym is)
           (digits_decimal own n (omega (arith, small)))))
 
 -- nothing helps with `x`

@@ -36,8 +36,7 @@ module _ {V K : Type 0} (g : Grammar V K) where
       let split : g.header_words ∷ map g.line_words (g.body v) ++ g.line_words g.end ∷ [] ≡ before ++ rest =
       ap (λ (ks : List K). g.header_words ∷ map g.line_words ks ++ g.line_words g.end ∷ []) is
       ∙ ap (λ (ws : List (List (List ℕ))). g.header_words ∷ ws ++ g.line_words g.end ∷ [])
-      (map-append g.line_words lines more)
-      ∙ append_assoc before (map g.line_words more) (g.line_words g.end ∷ []) in
+      (map-append g.line_words lines more) ∙ append_assoc before (map g.line_words more) (g.line_words g.end ∷ []) in
       ap (λ (ws : List (List (List ℕ))). text_of ws) split ∙ texts_append before rest
       ∙ ap (λ (bytes : List ℕ). bytes ++ text_of rest) (whole_map line_of before)
 
@@ -57,8 +56,7 @@ module _ {V K : Type 0} (g : Grammar V K) where
 
   -- the header and some lines are one line each, if each of these lines is
   pub are_lines : IsOneLine (line_of g.header_words) → (lines : List K)
-      → AllByRecursion (λ k. IsOneLine (line_text g k)) lines
-      → AllByRecursion IsOneLine (lines_before lines)
+      → AllByRecursion (λ k. IsOneLine (line_text g k)) lines → AllByRecursion IsOneLine (lines_before lines)
   are_lines header lines all = (
     header,
     all_map IsOneLine line_of (map g.line_words lines)

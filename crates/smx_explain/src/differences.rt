@@ -1,11 +1,17 @@
-//! The first line in which two texts differ.
+//! The explanation below the verdict on a transcript: the first line in which it and its replay differ.
 
-ghost use Rattle.std.specs.Prelude.{◌≡◌, MatchOption, IfOk};
+ghost use Rattle.std.specs.Prelude.{◌≡◌, MatchOption, IfErr, IfOk};
+ghost use Rattle.smx_config.specs.DriverFaults.{RefusesDrivers};
 ghost use Rattle.smx_explain.specs.Differences.{AreAlike, IsFirstDifference};
-ghost use Rattle.smx_explain.specs.Explanations.{difference_text};
+ghost use Rattle.smx_explain.specs.Explanations.{IsExplanation, difference_text};
+ghost use Rattle.smx_text.specs.TranscriptText.{SpellsTranscript};
 
+use smx_config::ConfigFault;
+use smx_text::laws::one_transcript_has_one_reading;
 use smx_text::next_line;
-use smx_types::NoMemory;
+use smx_trace::laws_of_replays::replays_can_be_expressed;
+use smx_trace::replay;
+use smx_types::{NoMemory, Transcript};
 use std::alloc::Global;
 
 /// A line that differs between two texts. Lines are numbered from 1.
@@ -18,9 +24,26 @@ pub struct Difference<'a> {
     pub has: &'a [u8],
 }
 
-/// Finds the first line in which two texts differ. Returns `None` if no line differs before one of the texts has no
-/// further whole line, that is, none with a line feed. Takes no memory.
-pub fn first_difference<'a>(one: &'a [u8], other: &'a [u8]) -> Option<Difference<'a>>
+/// Returns the explanation of the transcript that a text spells. It is empty if the transcript is its own replay,
+/// which is so exactly if it is legal. Else it shows the first line in which the text and that of its replay differ,
+/// as each has it. Fails if the drivers are not valid, or if it is out of memory.
+pub fn explain(alloc: Global, text: &[u8], transcript: Transcript) -> Result<Vec<u8>, ConfigFault>
+    requires { SpellsTranscript text.now transcript }
+    ensures told { IfOk result (λ told. IsExplanation transcript told.items) }
+    ensures refused { IfErr result (RefusesDrivers transcript.drivers) }
+{
+    replays_can_be_expressed();
+    one_transcript_has_one_reading();
+    let replayed = replay(alloc, transcript, Vec::new(alloc))?;
+    match first_difference(text, replayed.as_slice()) {
+        Some(difference) => Ok(difference_text(alloc, &difference)?),
+        None => Ok(Vec::new(alloc)),
+    }
+}
+
+// Finds the first line in which two texts differ. Returns `None` if the whole lines of both are equal, one by one, up
+// to the point where one of them has no more. Takes no memory.
+fn first_difference<'a>(one: &'a [u8], other: &'a [u8]) -> Option<Difference<'a>>
     ensures { MatchOption result (AreAlike one.now other.now)
         (λ d. IsFirstDifference one.now other.now d.number d.told.now d.has.now) }
 {
@@ -43,8 +66,8 @@ pub fn first_difference<'a>(one: &'a [u8], other: &'a [u8]) -> Option<Difference
     }
 }
 
-/// Returns the two lines that show a difference. Fails only if it is out of memory.
-pub fn difference_text(alloc: Global, difference: &Difference) -> Result<Vec<u8>, NoMemory>
+// Returns the two lines that show a difference. Fails only if it is out of memory.
+fn difference_text(alloc: Global, difference: &Difference) -> Result<Vec<u8>, NoMemory>
     ensures { IfOk result (λ text. text.items
         ≡ difference_text difference.now.number difference.now.told.now difference.now.has.now) }
 {

@@ -5,8 +5,8 @@ ghost use Rattle.smx_explain.specs.Hints.{are_exchanged, first_near, is_near, me
 ghost use Rattle.smx_explain.specs.Rows.{rows_in, rows_of};
 ghost use Rattle.smx_explain.specs.declared.kinds.Choice.TheVariants.{ProgramsLine, SessionCommand};
 
-use crate::kinds::{Choice, Value};
-use crate::rows::{later_rows, rows};
+use crate::kinds::Choice;
+use crate::tables::{Row, later_rows, rows};
 use smx_types::Version;
 
 /// Returns the first fixed word of a choice into which at most one edit turns this word: a byte is replaced, added or
@@ -52,10 +52,7 @@ fn near_fixed(version: Version, choice: Choice, word: &[u8]) -> Option<&'static 
 }
 
 // Returns the first word of some rows that is near this word.
-fn near_row(
-    rows: &'static [(&'static str, &'static [Value], Choice)],
-    word: &[u8],
-) -> Option<&'static str>
+fn near_row(rows: &'static [Row], word: &[u8]) -> Option<&'static str>
     ensures { MatchOption result (first_near (rows_of rows.now) word.now ≡ None)
         (λ verb. first_near (rows_of rows.now) word.now ≡ Some verb.now) }
 {

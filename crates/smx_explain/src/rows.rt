@@ -1,12 +1,13 @@
-//! The words that may occur in each column of a line, and how the line goes on after each.
+//! How a line goes on after each word.
 
 ghost use Rattle.std.specs.Prelude.{◌≡◌, MatchBool, MatchOption, List, []};
 ghost use Rattle.smx_explain.specs.Rows.{GoesOn, IsChosen, IsFixed, IsNoRow, IsOther, IsRow, IsValue, MayEnd};
-ghost use Rattle.smx_explain.specs.Rows.{later_rows, rows, rows_of, rows_in};
+ghost use Rattle.smx_explain.specs.Rows.{rows_in, rows_of};
 ghost use Rattle.smx_explain.specs.declared.kinds.Choice.{Choice as AnyChoice};
 ghost use Rattle.smx_explain.specs.declared.kinds.Value.{Value as AnyValue};
 
 use crate::kinds::{Choice, Value};
+use crate::tables::{Row, later_rows, rows};
 use smx_types::{MAX_PROCESSES, Version};
 use smx_words::{driver_kind, link_kind, name, number, side, sides, spells_bytes, which};
 
@@ -17,202 +18,8 @@ pub struct FoundRow {
     pub next: Choice,
 }
 
-// The first words of the lines of programs, except commands.
-const PROGRAMS_LINES: [(&str, &[Value], Choice); 3] = [
-    (
-        "driver",
-        &[
-            Value::Name,
-            Value::DriverKind,
-            Value::Number,
-            Value::Number,
-            Value::Number,
-            Value::Number,
-        ],
-        Choice::End,
-    ),
-    ("process", &[Value::Number], Choice::End),
-    ("end", &[], Choice::End),
-];
-
-// The first words of the lines of a transcript, except entries.
-const TRANSCRIPT_LINES: [(&str, &[Value], Choice); 10] = [
-    (
-        "driver",
-        &[
-            Value::Name,
-            Value::DriverKind,
-            Value::Number,
-            Value::Number,
-            Value::Number,
-            Value::Number,
-        ],
-        Choice::End,
-    ),
-    ("config", &[], Choice::End),
-    ("next", &[Value::Number, Value::Number], Choice::End),
-    (
-        "fd",
-        &[Value::Process, Value::Number, Value::Name, Value::Number],
-        Choice::End,
-    ),
-    (
-        "link",
-        &[
-            Value::Number,
-            Value::Name,
-            Value::Number,
-            Value::Name,
-            Value::Number,
-            Value::LinkKind,
-        ],
-        Choice::End,
-    ),
-    (
-        "bind",
-        &[Value::Name, Value::Number, Value::Number],
-        Choice::End,
-    ),
-    (
-        "route",
-        &[Value::Name, Value::Number, Value::Number],
-        Choice::End,
-    ),
-    (
-        "msg",
-        &[
-            Value::Name,
-            Value::Number,
-            Value::Side,
-            Value::Number,
-            Value::Number,
-            Value::Bytes,
-        ],
-        Choice::End,
-    ),
-    (
-        "full",
-        &[Value::Name, Value::Number, Value::Side],
-        Choice::End,
-    ),
-    ("end", &[], Choice::End),
-];
-
-// The first words of the lines of a session, except processes.
-const SESSION_LINES: [(&str, &[Value], Choice); 3] = [
-    ("show", &[], Choice::End),
-    ("trace", &[], Choice::Switch),
-    ("end", &[], Choice::End),
-];
-
-// The words after `trace`.
-const SWITCHES: [(&str, &[Value], Choice); 2] = [
-    ("on", &[], Choice::End),
-    ("off", &[], Choice::End),
-];
-
-// The commands of an entry.
-const COMMANDS: [(&str, &[Value], Choice); 18] = [
-    ("clone", &[Value::Name], Choice::Equals),
-    ("open", &[Value::Name, Value::Number], Choice::Equals),
-    ("dup", &[Value::Number], Choice::Equals),
-    ("close", &[Value::Number], Choice::Equals),
-    ("exit", &[], Choice::Equals),
-    ("link", &[Value::Number, Value::Number], Choice::Equals),
-    ("plink", &[Value::Number, Value::Number], Choice::Equals),
-    ("unlink", &[Value::Number, Value::Which], Choice::Equals),
-    ("punlink", &[Value::Number, Value::Which], Choice::Equals),
-    ("bind", &[Value::Number, Value::Number], Choice::Equals),
-    ("unbind", &[Value::Number], Choice::Equals),
-    (
-        "route",
-        &[Value::Number, Value::Number, Value::Number],
-        Choice::Equals,
-    ),
-    ("unroute", &[Value::Number, Value::Number], Choice::Equals),
-    (
-        "write",
-        &[Value::Number, Value::Number, Value::Bytes],
-        Choice::Equals,
-    ),
-    ("read", &[Value::Number], Choice::Equals),
-    ("flush", &[Value::Number, Value::Sides], Choice::Equals),
-    (
-        "inject",
-        &[Value::Name, Value::Number, Value::Number, Value::Bytes],
-        Choice::Equals,
-    ),
-    ("transmit", &[Value::Name, Value::Number], Choice::Equals),
-];
-
-// The replies.
-const REPLIES: [(&str, &[Value], Choice); 12] = [
-    ("fd", &[Value::Number, Value::Number], Choice::End),
-    ("id", &[Value::Number], Choice::End),
-    ("took", &[Value::Number], Choice::End),
-    (
-        "got",
-        &[Value::Number, Value::Number, Value::Bytes],
-        Choice::End,
-    ),
-    ("done", &[], Choice::Serials),
-    ("EBADF", &[], Choice::BadDescriptor),
-    ("EINVAL", &[], Choice::Invalid),
-    ("EAGAIN", &[], Choice::Again),
-    ("ENXIO", &[], Choice::NoDevice),
-    ("EMFILE", &[], Choice::End),
-    ("EADDRINUSE", &[], Choice::End),
-    ("ERANGE", &[], Choice::End),
-];
-
-// The reasons after `EINVAL`.
-const INVALID: [(&str, &[Value], Choice); 7] = [
-    ("below", &[], Choice::End),
-    ("notmux", &[], Choice::End),
-    ("already", &[], Choice::End),
-    ("cycle", &[], Choice::End),
-    ("id", &[], Choice::End),
-    ("unbound", &[], Choice::End),
-    ("unrouted", &[], Choice::End),
-];
-
-// The sign before a reply.
-const EQUALS: [(&str, &[Value], Choice); 1] = [("=", &[], Choice::Reply)];
-
-// The reason after `EBADF`.
-const BAD_DESCRIPTOR: [(&str, &[Value], Choice); 1] = [("fd", &[], Choice::End)];
-
-// The reasons after `EAGAIN`.
-const AGAIN: [(&str, &[Value], Choice); 3] = [
-    ("links", &[], Choice::End),
-    ("full", &[], Choice::End),
-    ("empty", &[], Choice::End),
-];
-
-// The reasons after `ENXIO`.
-const NO_DEVICE: [(&str, &[Value], Choice); 2] = [
-    ("driver", &[], Choice::End),
-    ("minor", &[], Choice::End),
-];
-
-// The line that only version 2 has.
-const HUNG: [(&str, &[Value], Choice); 1] = [("hung", &[Value::Name, Value::Number], Choice::End)];
-
-// The command that only version 2 has.
-const HANGUP: [(&str, &[Value], Choice); 1] = [(
-    "hangup",
-    &[Value::Name, Value::Number],
-    Choice::Equals,
-)];
-
-// The reply that only version 2 has.
-const EOF: [(&str, &[Value], Choice); 1] = [("eof", &[], Choice::End)];
-
-// The reason after `ENXIO` that only version 2 has.
-const HUNG_UP: [(&str, &[Value], Choice); 1] = [("hangup", &[], Choice::End)];
-
 // Finds the row of a word.
-fn find(rows: &'static [(&'static str, &'static [Value], Choice)], word: &[u8]) -> Option<FoundRow>
+fn find(rows: &'static [Row], word: &[u8]) -> Option<FoundRow>
     ensures { MatchOption result (IsNoRow (rows_of rows.now) word.now)
         (λ row. IsRow (rows_of rows.now) word.now row.values.now row.next) }
 {
@@ -226,48 +33,6 @@ fn find(rows: &'static [(&'static str, &'static [Value], Choice)], word: &[u8]) 
         return find(more, word);
     }
     None
-}
-
-/// Returns the rows of a choice in both versions.
-pub fn rows(choice: Choice) -> &'static [(&'static str, &'static [Value], Choice)]
-    ensures { rows_of result.now ≡ rows choice }
-{
-    match choice {
-        Choice::ProgramsLine => &PROGRAMS_LINES,
-        Choice::TranscriptLine => &TRANSCRIPT_LINES,
-        Choice::SessionLine => &SESSION_LINES,
-        Choice::Command => &COMMANDS,
-        Choice::Switch => &SWITCHES,
-        Choice::Equals => &EQUALS,
-        Choice::Reply => &REPLIES,
-        Choice::BadDescriptor => &BAD_DESCRIPTOR,
-        Choice::Invalid => &INVALID,
-        Choice::Again => &AGAIN,
-        Choice::NoDevice => &NO_DEVICE,
-        Choice::SessionCommand | Choice::Serials | Choice::End => &[],
-    }
-}
-
-/// Returns the rows that only version 2 adds.
-pub fn later_rows(choice: Choice) -> &'static [(&'static str, &'static [Value], Choice)]
-    ensures { rows_of result.now ≡ later_rows choice }
-{
-    match choice {
-        Choice::TranscriptLine => &HUNG,
-        Choice::Command => &HANGUP,
-        Choice::Reply => &EOF,
-        Choice::NoDevice => &HUNG_UP,
-        Choice::ProgramsLine
-        | Choice::SessionLine
-        | Choice::SessionCommand
-        | Choice::Switch
-        | Choice::Equals
-        | Choice::BadDescriptor
-        | Choice::Invalid
-        | Choice::Again
-        | Choice::Serials
-        | Choice::End => &[],
-    }
 }
 
 // Returns how a line goes on after a fixed word.
@@ -333,15 +98,7 @@ fn other(version: Version, choice: Choice, word: &[u8]) -> Option<FoundRow>
         Choice::TranscriptLine => then(Value::Process, word, Choice::Command),
         Choice::SessionLine => then(Value::Process, word, Choice::SessionCommand),
         Choice::Serials => then(Value::Number, word, Choice::Serials),
-        Choice::Command
-        | Choice::Switch
-        | Choice::Equals
-        | Choice::Reply
-        | Choice::BadDescriptor
-        | Choice::Invalid
-        | Choice::Again
-        | Choice::NoDevice
-        | Choice::End => None,
+        _ => None,
     }
 }
 
@@ -399,19 +156,5 @@ pub fn go_on(
 pub fn may_end(choice: Choice) -> bool
     ensures { MatchBool result (MayEnd choice) (MayEnd choice → ⊥) }
 {
-    match choice {
-        Choice::Serials | Choice::End => true,
-        Choice::ProgramsLine
-        | Choice::TranscriptLine
-        | Choice::SessionLine
-        | Choice::Command
-        | Choice::SessionCommand
-        | Choice::Switch
-        | Choice::Equals
-        | Choice::Reply
-        | Choice::BadDescriptor
-        | Choice::Invalid
-        | Choice::Again
-        | Choice::NoDevice => false,
-    }
+    matches!(choice, Choice::Serials | Choice::End)
 }

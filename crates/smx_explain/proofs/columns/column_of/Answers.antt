@@ -4,24 +4,18 @@ use Rattle.smx_explain.proofs.columns.column_of.Goals as goal
 use Rattle.smx_explain.specs.Columns.{IsColumn}
 
 pub words-init : goal.words-init
-words-init c =
-    subst (λ next. HasCome c.args.kind c.args.version c.args.line.now 1 (Some c.args.line) [] next)
+words-init c = subst (λ next. HasCome c.args.kind c.args.version c.args.line.now 1 (Some c.args.line) [] next)
     (sym c.first_choice.ensures) (at_begin c.args.kind c.args.version c.args.line)
 
 pub returns-in_default-go_on : goal.returns-in_default-go_on
 returns-in_default-go_on c =
     subst (λ at. IsColumn c.args.kind c.args.version c.args.line.now at) (sym c.stopped.ensures)
-    (stops_here c.args.kind c.args.version c.args.line.now c.words.column c.words.rest c.words.row.values.now
-    c.words.row.next c.words.invariant c.in-Some.text c.in-Some.is _ _ c.first_word.ensures.free
-    c.first_word.ensures.cut c.in_default-go_on.ensures)
+    (stops_here c.words.invariant c.in-Some.is _ _ c.first_word.ensures.free c.first_word.ensures.cut
+    c.in_default-go_on.ensures)
 
 pub words-preserved : goal.words-preserved
-words-preserved c =
-    one_more c.args.kind c.args.version c.args.line.now c.words.column c.words.rest c.words.row.values.now
-    c.words.row.next c.words.invariant c.in-Some.text c.in-Some.is _ _ c.first_word.ensures.free
-    c.first_word.ensures.cut _ _ c.in-Some-go_on.ensures _ refl
+words-preserved c = one_more c.words.invariant c.in-Some.is _ _ c.first_word.ensures.free c.first_word.ensures.cut _ _
+    c.in-Some-go_on.ensures _ refl
 
 pub returns : goal.returns
-returns c =
-    at_end c.args.kind c.args.version c.args.line.now c.words.column c.words.rest c.words.row.values.now
-    c.words.row.next c.words.invariant c.in_default.is c.ended.result c.ended.ensures
+returns c = at_end c.words.invariant c.in_default.is c.ended.result c.ended.ensures

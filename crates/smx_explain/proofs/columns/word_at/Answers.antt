@@ -14,6 +14,5 @@ returns-in-Some c = λ word is.
     c.first_word.ensures.free (ap (λ xs. xs ++ SPACE ∷ []) (sym rest) ∙ c.first_word.ensures.cut)
 
 pub returns-in-None : goal.returns-in-None
-returns-in-None c = λ word is.
-    no_part c.args.line.now c.args.column word is
+returns-in-None c = λ word is. no_part c.args.line.now c.args.column word is
     (grind (arith, c.in-None.ensures.lookup.0, c.saturating_sub.ensures))

@@ -1,4 +1,4 @@
-use Rattle.std.proofs.Common.{[], ◌∷◌, inl, inr, refl}
+use Rattle.std.proofs.Common.{[], ◌∷◌, inl, refl}
 use Rattle.smx_explain.specs.declared.kinds.Choice.TheVariants as choice
 use Rattle.smx_explain.specs.declared.kinds.Value.TheVariants as value
 use Rattle.smx_explain.proofs.SessionLineLemmas.{of_a_misspelt_word, of_no_request}

@@ -1,7 +1,7 @@
 use Rattle.std.proofs.Common.{subst}
 use Rattle.smx_explain.proofs.ExplanationLemmas.{reports_nothing}
 use Rattle.smx_explain.specs.Differences.{AreAlike}
-use Rattle.smx_explain.proofs.explaining.explain.Goals as goal
+use Rattle.smx_explain.proofs.differences.explain.Goals as goal
 
 pub returns-clause-told : goal.returns-clause-told
 returns-clause-told c =
