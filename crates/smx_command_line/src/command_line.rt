@@ -62,8 +62,8 @@ fn job_of(alloc: Global, matches: &ArgMatches) -> Result<Job, Error>
     }
 }
 
-// Returns how many workers are asked for. clap has already rejected any number outside 1 to the most, so the last arm
-// is never reached.
+// Returns how many workers are asked for. clap gives 1 if the option is left out, and has already rejected any number
+// outside 1 to `MAX_WORKERS`, so the last arm is never reached.
 fn workers_of(run: &ArgMatches) -> usize
     ensures { (1 ≤ result) × (result ≤ MAX_WORKERS) }
 {

@@ -1,4 +1,4 @@
-//! Sets and clears the run marks and wanted marks (see `marks.rt`) when a change wakes places.
+//! Sets run marks and clears wanted marks (see `marks.rt`) when a change wakes places.
 
 ghost use Rattle.std.specs.Prelude.{◌≡◌, ℕ, ◌<◌, false, true, length, IfSome, IfNone, List};
 ghost use Rattle.smx_types.specs.declared.driver.DriverSpec.{DriverSpec};

@@ -125,7 +125,7 @@ pub fn a_table_has_one_fault()
 
 /// A table is too long only if more than 16,777,216 bytes were read, and a line only if it has more than that. A table
 /// that has ended and has at most that many bytes is not too long, whatever follows it. Nor is such a whole line, nor
-/// the table of a session, nor the rest of the buffer when a session has ended.
+/// the table of a session, nor the bytes that the inbox still holds when a session has ended.
 pub fn what_is_too_long()
     ensures table { (read : List ℕ) → IsEndlessTable read → MAX_INPUT < length read }
     ensures line { (held : List ℕ) → IsTooLong held → MAX_INPUT < length held }

@@ -146,7 +146,7 @@ impl Places {
         Some(row.first + 2 * minor + side_number(place.side))
     }
 
-    /// Returns the place with this number. The next number is below 2^64.
+    /// Returns the place with this number. `number + 1` is below 2^64, so a caller can compute it.
     pub fn at(&self, number: usize) -> Place
         requires { number < length (places_of self.now) }
         ensures place { slice_get (places_of self.now) number ≡ Some result }

@@ -144,7 +144,7 @@ impl Queues {
             ≡ with_queue self.old.queues p (with_arrival (queue_at self.old.queues p) message) }
         ensures spare { self.old.spare ≡ self.new.spare + 1 }
     {
-        // Opens the invariant, which bounds the bytes of a place that is not full.
+        // For the proof: opens the invariant, which bounds the bytes of a place that is not full.
         let _chains = &self.chains;
         let (message, size) = sized(message);
         self.append(p, message, size);
@@ -164,7 +164,7 @@ impl Queues {
     {
         let chain = self.chains[p];
         let key = self.nodes.insert_reserved(Node { message, next: 0 });
-        // No place has more messages than the store has nodes in use.
+        // For the proof: no place has more messages than the store has nodes in use.
         let _count = self.nodes.len();
         follow(&mut self.nodes, chain, key);
         self.chains[p].add_last(key, size);
@@ -207,7 +207,7 @@ impl Queues {
         let node = &self.nodes[source.first];
         let size = node.message.bytes.as_slice().len();
         let next = node.next;
-        // No place has more messages than the store has nodes in use.
+        // For the proof: no place has more messages than the store has nodes in use.
         let _count = self.nodes.len();
         self.chains[from].drop_first(next, size);
         let target = self.chains[to];

@@ -58,8 +58,8 @@ impl Session {
     }
 
     /// Performs the command of a line and keeps its entry, with the reply. The line is `PROCESS COMMAND`, as at the
-    /// start of an entry's line. Fails with `NoCommand` exactly if the version allows no such line. Otherwise fails
-    /// only because it is out of memory. A failure changes nothing.
+    /// start of an entry's line. Fails with `NoCommand` exactly if the line is not a process and a command of the
+    /// session's version. Otherwise fails only because it is out of memory. A failure changes nothing.
     pub fn perform(&mut self, alloc: Global, line: &[u8]) -> Result<(), LineFault>
         ensures ok { OnOk result (Performs self.old line.now self.new) }
         ensures err { OnErr result (self.new ≡ self.old) }

@@ -39,7 +39,7 @@ pub fn equal_views_have_no_changes()
     ensures { (v : ConfigView) → changes v v ≡ [] }
 {}
 
-/// Without the lines that are two spaces in, a trace of a replay has the lines of its transcript.
+/// Without the lines that begin with two spaces, a trace of a replay has the lines of its transcript.
 pub fn a_trace_has_the_lines_of_the_transcript()
     ensures { (each : Bool) (t r : Transcript) → IsReplayOf t r
         → plain_lines (trace_lines each r.drivers r.entries) ≡ body r ++ line.End ∷ [] }

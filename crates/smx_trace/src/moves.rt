@@ -14,7 +14,8 @@ use smx_text::Same;
 use smx_types::{MessageLine, NoMemory};
 use std::alloc::Global;
 
-// Returns the index of the line with each serial.
+// Returns a map from each serial to the position of its line: of the first, if several lines have one serial, since
+// the lines are inserted from the last to the first.
 fn index_of(alloc: Global, lines: &[MessageLine]) -> Result<IndexMap<u32, usize>, NoMemory>
     ensures { IfOk result (λ index. FindsBySerial (get nat_eq index) lines.now lines.now) }
 {

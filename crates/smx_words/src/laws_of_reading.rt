@@ -60,7 +60,7 @@ pub fn what_is_found_in_bytes()
     ensures too_large_to_be_spelled { IsSpelled FitsNumber decimal (codes "4294967296") → ⊥ }
 {}
 
-/// A line is read as the value whose words it is, with one space between two words.
+/// A line is read as the value that it spells: the words of this value, with one space between each and the next.
 pub fn what_a_line_is_read_as()
     ensures read { IsReadAs FitsNumber process_words (codes "process 7") (Some 7) }
     ensures not_without_its_first_word { IsReadAs FitsNumber process_words (codes "7") (Some 7) → ⊥ }
