@@ -42,7 +42,7 @@ pub fn one_worker_writes_one_transcript()
         → IsWrittenFor false 1 programs other → one ≡ other }
 {}
 
-/// The same of a check, which answers its verdict.
+/// The same of a check, which answers its verdict, but not that a failed writer leaves no input unread.
 pub fn checks_end_in_memory()
     ensures ends { (input left output : List ℕ) (ended flushed : Bool) (answer : Result Verdict MainFault)
         → ChecksText (Some input) (Some left) ended 0 (Some []) (Some output) flushed 0 answer

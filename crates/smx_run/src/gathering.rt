@@ -68,8 +68,8 @@ pub fn find_strange(history: &[Entry], transcripts: &[Entries]) -> Option<Proces
     None
 }
 
-// Returns for each process the number of entries of its transcript that the history has, or `None` if the history has
-// other entries of the process.
+// Returns for each process the number of its entries in the history, if these are a beginning of its transcript, and
+// otherwise `None`.
 fn meet_all(history: &[Entry], transcripts: &[Entries]) -> [Option<usize>; PROCESSES]
     ensures met { (p : ℕ) → p < MAX_PROCESSES
         → IsMet (slice_index_or transcripts.now p []) (entries_of p history.now) (slice_index_or result p None) }

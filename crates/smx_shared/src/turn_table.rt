@@ -66,9 +66,9 @@ fn front_word<K: EntrySink>(system: &System<K>) -> u64
     4096 * entries + 2 * links
 }
 
-// Lets other threads go on, after `tries` tries: yields at first, and sleeps later, longer each time. No call wakes the
-// sleeper: if it slept on the first word, each call of others would wake it, and many callers would hardly sleep.
-// Returns the number of tries plus one, up to the maximum.
+// Lets other threads go on, after `tries` tries: yields at first, and sleeps later, longer each time. It sleeps for its
+// whole time, and doesn't wait for a change of the first word: each call of another caller would then wake it, and many
+// callers would hardly sleep. Returns the number of tries plus one, up to the maximum.
 fn let_others_go_on<R: Wait>(rt: &R, tries: u32) -> u32
     requires { tries ≤ MOST_TRIES }
     ensures { result ≤ MOST_TRIES }
