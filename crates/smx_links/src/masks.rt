@@ -68,8 +68,8 @@ fn join(words: &mut [Word], upper: u8, lower: u8)
     }
 }
 
-/// Changes the masks of some links to the masks with one more link. If the upper driver already reaches the lower one,
-/// the link changes no mask.
+/// `words` are the masks of a list of links, one word for each driver. Changes them to the masks of this list with
+/// `link` added. If the upper driver already reaches the lower one, no mask changes.
 pub fn join_link(words: &mut [Word], link: Link)
     requires within { IsWithin (length words.old) link }
     requires few { length words.old ≤ WORD_BITS }

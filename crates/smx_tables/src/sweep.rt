@@ -36,7 +36,7 @@ fn unbind(binds: &mut Bindings, stream: StreamId)
     }
 }
 
-// Removes the binding, the messages and the full marks of the stream, unless the stream is in the table.
+// Removes the binding, the messages and the full marks of the stream, unless the table of streams has the stream.
 #[inline(always)]
 fn drop_if_dead(lists: &mut Lists, stream: StreamId, dropped: &mut Vec<u32>)
     requires { HasRoom dropped.old lists.old.queues.flow }
@@ -72,7 +72,7 @@ fn drop_dead(lists: &mut Lists, seen: &[StreamId], dropped: &mut Vec<u32>)
     }
 }
 
-// Returns whether each of the streams is in the table.
+// Returns whether the table of streams has each of these streams.
 fn are_there(streams: &Streams, touched: &[StreamId]) -> bool
     ensures { result ≡ list_all (is_there streams.now) touched.now }
 {
@@ -81,7 +81,8 @@ fn are_there(streams: &Streams, touched: &[StreamId]) -> bool
 
 /// The lists that a sweep fills.
 ///
-/// - `touched`: the streams that the change touches, and those that may cease to exist with them;
+/// - `touched`: the streams that the change before the sweep closes or releases, and those that may cease to exist with
+///   them;
 /// - `seen`: the same streams, once they are examined;
 /// - `orphaned`: the ids of the ordinary links that go;
 /// - `dropped`: the serials of dropped messages.
@@ -150,8 +151,8 @@ fn sweep(drivers: &[DriverSpec], lists: &mut Lists, room: &mut SweepReserve)
     drop_dead(lists, &room.seen, &mut room.dropped);
 }
 
-/// Makes these lists, with room for the sweep after a change that touches at most `streams` streams. Fails only if out
-/// of memory.
+/// Makes the lists of a `SweepReserve`, with room for the sweep after a change that touches at most `streams` streams.
+/// Fails only if out of memory.
 #[tactic(auto, using(crate::proofs::DropLemmas::none_dropped))]
 pub fn reserve_for_sweep(
     alloc: Global,

@@ -88,8 +88,8 @@ fn put_reason(out: &mut Vec<u8>, config: &Config, place: Place, addr: u32) -> Re
     }
 }
 
-/// Appends the line of the wait at a place, two spaces in, if it has messages: then the first of them can't move.
-/// Fails only if out of memory.
+/// If the place has messages, appends its `waits` line, indented by two spaces. The configuration is settled, so the
+/// first of these messages can't move. Fails only if out of memory.
 pub fn write_wait(out: &mut Vec<u8>, config: &Config, place: Place) -> Result<(), NoMemory>
     requires { IsSettled config.now.drivers config.now.configuration }
     ensures { OnOk result (out.new.items ≡ out.old.items
