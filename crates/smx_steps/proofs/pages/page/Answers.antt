@@ -29,6 +29,26 @@ returns-in_err-write_steps-clause-refused c =
     head c.in_ok-view.ensures.added c.as_slice-5.result.now c.in_err-write_steps.field-0.0 c.as_slice-5.ensures few
     c.in_err-write_steps.ensures.stopped)
 
+pub returns-in_err-put-clause-refused : goal.returns-in_err-put-clause-refused
+returns-in_err-put-clause-refused c =
+    let t = c.args.transcript in
+    let config = c.in_ok-config.ensures in
+    let same : c.in_ok-config.config.drivers ≡ t.drivers = search rules in
+    let can : IsDriverList t.drivers = subst IsDriverList (sym config.drivers.0 ∙ same) config.drivers.1 in
+    let few : length t.entries ≤ MAX_STEPS =
+    subst (λ (es : List Entry). length es ≤ MAX_STEPS) c.as_slice.ensures c.if-as_slice-gt-MAX_STEPS.false in
+    refuses_with t (Refused NoMemory) _ c.from_residual-in_err-put.ensures.1 (few, can)
+
+pub returns-in_err-view-clause-refused : goal.returns-in_err-view-clause-refused
+returns-in_err-view-clause-refused c =
+    let t = c.args.transcript in
+    let config = c.in_ok-config.ensures in
+    let same : c.in_ok-config.config.drivers ≡ t.drivers = search rules in
+    let can : IsDriverList t.drivers = subst IsDriverList (sym config.drivers.0 ∙ same) config.drivers.1 in
+    let few : length t.entries ≤ MAX_STEPS =
+    subst (λ (es : List Entry). length es ≤ MAX_STEPS) c.as_slice.ensures c.if-as_slice-gt-MAX_STEPS.false in
+    refuses_with t (Refused NoMemory) _ c.from_residual-in_err-view.ensures.1 (few, can)
+
 pub returns-in_err-put-2-clause-refused : goal.returns-in_err-put-2-clause-refused
 returns-in_err-put-2-clause-refused c =
     let t = c.args.transcript in

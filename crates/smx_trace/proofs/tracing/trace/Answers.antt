@@ -1,5 +1,7 @@
 use Rattle.std.proofs.Common.{rules, ◌≡◌, sym, subst, ◌∙◌}
+use Rattle.std.proofs.lemmas.Result.{err_from_is_err_and}
 use Rattle.smx_model.specs.DriverList.{IsDriverList}
+use Rattle.smx_config.specs.DriverFaults.{RefusesDrivers}
 use Rattle.smx_trace.proofs.TraceLemmas.{trace_begun, whole_trace}
 use Rattle.smx_trace.proofs.tracing.trace.Goals as goal
 
@@ -15,3 +17,13 @@ returns-clause-written c =
     (c.in_ok-view.ensures.traced t.drivers opening
     (trace_begun c.args.each t.drivers opening c.in_ok-config.config drivers config.empty))
     c.in_ok-view.ensures.now.is c.in_ok-write_configuration.ensures c.in_ok-put.ensures
+
+pub returns-in_err-put-clause-refused : goal.returns-in_err-put-clause-refused
+returns-in_err-put-clause-refused c =
+    let t = c.args.transcript in
+    let config = c.in_ok-config.ensures in
+    let drivers : c.in_ok-config.config.drivers ≡ t.drivers = search rules in
+    let can : IsDriverList t.drivers = subst IsDriverList (sym config.drivers.0 ∙ drivers) config.drivers.1 in
+    let back = c.from_residual-in_err-put in
+    let failed = err_from_is_err_and back.result back.ensures.1 in
+    rw failed.1 (subst (RefusesDrivers t.drivers) (sym failed.2) can)
