@@ -7,8 +7,8 @@ use smx_types::NoMemory;
 use std::alloc::Global;
 use std::marker::Model;
 
-/// There is one ring for each number below `count`. Each of these numbers is in one of the rings, or in none. Contracts
-/// see the ring that each number is in.
+/// There is one ring for each number below `count`. Each of these numbers is in at most one of the rings. Contracts see
+/// the ring that each number is in.
 #[derive(Debug, Drop)]
 pub struct Rings {
     count: usize,
