@@ -31,8 +31,9 @@ pub enum Sides {
     RW,
 }
 
-/// A command of a process. A descriptor, a minor or an id may be any number. If nothing has this number, the command is
-/// refused. docs/COMMANDS.md lists the refusals of each command, in order.
+/// A command of a process. In a command with a field `fd`, *the stream* is the stream that this descriptor names. A
+/// descriptor, a minor or an id may be any number. If nothing has this number, the command is refused.
+/// docs/COMMANDS.md lists the refusals of each command, in order.
 #[derive(Debug, Drop, PartialEq)]
 pub enum Command {
     /// Opens a new stream on the lowest minor that is not in use, as the lowest free descriptor of the process (SVR4
@@ -40,12 +41,12 @@ pub enum Command {
     OpenClone {
         driver: Name,
     },
-    /// Opens the stream of this minor, or shares it if it is open (open(2)).
+    /// Opens the stream of this minor. If the stream is open already, the new descriptor shares it (open(2)).
     OpenMinor {
         driver: Name,
         minor: u32,
     },
-    /// Makes another descriptor of the same stream (dup(2)).
+    /// Makes another descriptor of the stream (dup(2)).
     Dup {
         fd: u32,
     },
@@ -55,23 +56,23 @@ pub enum Command {
     },
     /// Closes all descriptors of the process (exit(2)).
     CloseAll,
-    /// Links the stream of `arg` below the driver of `fd` by an ordinary link, which exists until it is removed or the
-    /// stream of `fd` ends (streamio(7), I_LINK).
+    /// Links the stream of the descriptor `arg` below the driver of the stream, by an ordinary link. This link exists
+    /// until it is removed, or until the stream of `fd` ends (streamio(7), I_LINK).
     Link {
         fd: u32,
         arg: u32,
     },
-    /// Links in the same way by a persistent link, which exists until it is removed (I_PLINK).
+    /// Links as `Link` does, but by a persistent link, which exists until it is removed (I_PLINK).
     Plink {
         fd: u32,
         arg: u32,
     },
-    /// Removes ordinary links that were made on this stream (I_UNLINK).
+    /// Removes ordinary links that were made on the stream (I_UNLINK).
     Unlink {
         fd: u32,
         which: Which,
     },
-    /// Removes persistent links of the stream's driver (I_PUNLINK).
+    /// Removes persistent links that were made on any stream of the stream's driver (I_PUNLINK).
     Punlink {
         fd: u32,
         which: Which,
@@ -85,13 +86,14 @@ pub enum Command {
     Unbind {
         fd: u32,
     },
-    /// Sends messages for an address down this link of the stream's driver (specific to this project).
+    /// Makes a route: the stream's driver then sends messages for the address down its link with this id (specific to
+    /// this project).
     Route {
         fd: u32,
         addr: u32,
         id: u32,
     },
-    /// Removes the route for an address (specific to this project).
+    /// Removes the route of the stream's driver for an address (specific to this project).
     Unroute {
         fd: u32,
         addr: u32,
@@ -123,8 +125,8 @@ pub enum Command {
         driver: Name,
         minor: u32,
     },
-    /// The device of a leaf's stream hangs up: no more messages go out or come in. Those that came in before can still
-    /// be read (STREAMS guide, M_HANGUP).
+    /// The device of a leaf's stream hangs up: no more messages go out or come in. Messages that came in earlier can
+    /// still be read (STREAMS guide, M_HANGUP).
     Hangup {
         driver: Name,
         minor: u32,
@@ -206,7 +208,7 @@ impl Copied for Command {
 }
 
 impl Entry {
-    /// Returns whether the command is a hangup or the reply reports one. Does not allocate.
+    /// Returns whether the command is a hangup, or the reply reports a hangup. Does not allocate.
     pub fn is_of_hangup(&self) -> bool
         ensures { result ≡ is_of_hangup self.now }
     {

@@ -19,21 +19,21 @@ pub enum DriverKind {
     Mux,
 }
 
-/// A driver as a programs text specifies it. `check` says whether it is valid.
+/// A driver as a programs text (the input of a run) specifies it. `check` tests whether the specification is valid.
 #[derive(Clone, Copy, Debug, PartialEq, Eq)]
 pub struct DriverSpec {
     pub name: Name,
     pub kind: DriverKind,
     /// The number of its minors, 1 to 64. Minors are numbered from 0.
     pub minors: u32,
-    /// The high water mark of each of its queues, in bytes: above `low`, at most 4,096. A queue becomes full when an
-    /// arriving message brings it to this size (Programmer's Guide: STREAMS, flow control).
+    /// The high water mark of each of its queues, in bytes: above `low`, at most 4,096. A queue becomes full when a
+    /// message arrives and its bytes then reach this mark (Programmer's Guide: STREAMS, flow control).
     pub high: u32,
-    /// The low water mark of each of its queues, in bytes: below `high`. A full queue stops being full when a removal
-    /// brings it down to this size.
+    /// The low water mark of each of its queues, in bytes: below `high`. A full queue is no longer full when a message
+    /// leaves it and its bytes are then no more than this mark.
     pub low: u32,
-    /// The maximum number of bytes of a message that is written or injected to it, 1 to 1,024 (its
-    /// maximum packet size).
+    /// The maximum number of bytes of a message that is written or injected to a stream of the driver, 1 to 1,024 (the
+    /// driver's maximum packet size).
     pub max: u32,
 }
 
@@ -48,7 +48,7 @@ pub enum SpecFault {
     BadMax,
 }
 
-/// Drivers in order. Their numbers start from 0.
+/// Drivers in order. The drivers of a list are numbered from 0.
 pub type Drivers = Items<DriverSpec>;
 
 impl DriverSpec {

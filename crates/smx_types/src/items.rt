@@ -1,4 +1,4 @@
-//! The list type of all values: a `Vec` that contracts see as a list.
+//! The type of all lists in this crate: a `Vec` that contracts see as a list.
 
 ghost use Rattle.std.specs.Prelude.{◌≡◌, ◌++◌, ◌∷◌, [], IfOk, OnOk, OnErr};
 
@@ -14,7 +14,7 @@ pub trait Copied: Drop {
         Self: Sized,
         ensures { IfOk result (λ c. c ≡ self.now) };
 
-    /// Copies the values into a vector whose capacity is their number. Fails only if out of memory.
+    /// Copies the values into a vector whose capacity is the number of values. Fails only if out of memory.
     fn copies(alloc: Global, items: &[Self]) -> Result<Vec<Self>, NoMemory>
     where
         Self: Sized,
@@ -86,7 +86,7 @@ impl<T> Items<T> {
         self.items
     }
 
-    /// Frees the memory that the values don't need. The values don't change.
+    /// Frees the unused capacity of the list. The values don't change.
     pub fn shrink(&mut self)
         ensures { self.new ≡ self.old }
     {

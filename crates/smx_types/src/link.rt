@@ -2,7 +2,7 @@
 
 use crate::stream::StreamId;
 
-/// How a link was made, which decides how long it exists.
+/// The kind of a link, which decides how long the link exists. The command that made the link determines the kind.
 #[derive(Clone, Copy, Debug, PartialEq, Eq)]
 pub enum LinkKind {
     /// The link exists until it is removed or its controlling stream ends (streamio(7), I_LINK: the last close).
@@ -23,7 +23,7 @@ pub struct Link {
     pub kind: LinkKind,
 }
 
-/// An address that is bound to a stream of a driver: messages for the address go up that stream. The driver is 0 to
+/// An address to which a stream of a driver is bound: messages for the address go up that stream. The driver is 0 to
 /// 127, the minor 0 to 63.
 #[derive(Clone, Copy, Debug, PartialEq, Eq)]
 pub struct Binding {

@@ -3,7 +3,7 @@
 use std::alloc::{AllocError, AllocFailed};
 use std::fmt;
 
-/// An allocation failed. The contract of the call that returns this says what has then changed.
+/// An allocation failed. The contract of the call that returns `NoMemory` says what has then changed.
 #[derive(Clone, Copy, Debug, PartialEq, Eq)]
 pub struct NoMemory;
 

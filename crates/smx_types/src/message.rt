@@ -22,7 +22,7 @@ pub struct Message {
     pub bytes: Bytes,
 }
 
-/// Messages in order. The first message of a queue is at its front.
+/// Messages in order. The messages of a queue begin with the one that leaves it first.
 pub type Messages = Items<Message>;
 
 impl Message {

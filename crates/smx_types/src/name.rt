@@ -7,7 +7,8 @@ ghost use Rattle.smx_types.specs.Names.{is_name_byte, is_name, padded};
 
 use std::marker::Model;
 
-/// A driver's name: 1 to 8 of `a` to `z` and `0` to `9`; the first is a letter. Contracts see its bytes.
+/// A driver's name: 1 to 8 bytes from `a` to `z` and `0` to `9`, of which the first is a letter. Contracts see the
+/// bytes.
 #[derive(Clone, Copy, Debug)]
 pub struct Name {
     len: u8,
@@ -31,7 +32,7 @@ impl Model for Name {
     ghost inverse_ok = { padded_view };
 }
 
-// Returns whether both are equal. Compares them as two numbers, in one step.
+// Returns whether both arrays are equal. Compares them as two numbers, in one step.
 fn are_same(bytes: [u8; 8], others: [u8; 8]) -> bool
     ensures { result ≡ pointwise nat_eq bytes others }
 {
@@ -83,7 +84,7 @@ impl Name {
         })
     }
 
-    /// Returns its bytes, which always are a valid name. Does not allocate.
+    /// Returns the bytes of the name, which are always a valid name. Does not allocate.
     pub fn as_bytes(&self) -> &[u8]
         ensures value { result.now ≡ self.now }
         ensures name { IsTrue (is_name self.now) }
@@ -98,7 +99,7 @@ fn is_name_byte(byte: u8) -> bool
     byte.is_ascii_lowercase() || byte.is_ascii_digit()
 }
 
-// Returns the bytes, followed by zeros, if all of them are allowed in a name.
+// Returns the bytes, followed by zeros up to 8 bytes. Returns `None` if a byte is not allowed in a name.
 fn padded(bytes: &[u8]) -> Option<[u8; 8]>
     requires { length bytes.now ≤ 8 }
     ensures valid { IsSome result ↔ IsTrue (list_all is_name_byte bytes.now) }

@@ -38,7 +38,7 @@ impl Process {
         }
     }
 
-    /// Returns its number. Does not allocate.
+    /// Returns the number of the process. Does not allocate.
     pub fn get(&self) -> u32
         ensures value { result ≡ self.now }
         ensures range { self.now < MAX_PROCESSES }

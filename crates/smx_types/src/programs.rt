@@ -16,10 +16,11 @@ use std::alloc::Global;
 use std::fmt;
 use std::marker::Model;
 
-/// The commands of process 0, of process 1, and so on.
+/// The programs of all processes: the commands of process 0, then those of process 1, and so on.
 pub type ProgramList = Items<Commands>;
 
-/// The given lists, unchanged, if they exceed the limit for drivers, programs or commands.
+/// The error of `Programs::new`: the lists exceed the limit for drivers, programs or commands. Returns the lists that
+/// the caller gave.
 #[derive(Debug, Drop, PartialEq)]
 pub struct Many {
     pub drivers: Drivers,
@@ -51,8 +52,8 @@ impl fmt::Display for Many {
 
 impl std::error::Error for Many {}
 
-/// The drivers and programs of a run, within the limits: at most 128 drivers, 64 programs, and 100,000 commands in all
-/// programs. Their version can express them.
+/// The drivers and programs of a run, and the version of their text. There are at most 128 drivers, 64 programs, and
+/// 100,000 commands in all programs together. The version can express the drivers and programs.
 #[derive(Debug, Drop, PartialEq)]
 pub struct Programs {
     version: Version,
@@ -76,7 +77,7 @@ impl Model for Programs {
 
 impl Programs {
     /// Makes a `Programs` of these two lists, in the earliest version that can express them. Fails exactly if there
-    /// are over 128 drivers, 64 programs or 100,000 commands; `Many` then returns both lists. Does not allocate.
+    /// are over 128 drivers, over 64 programs or over 100,000 commands; the error has both lists. Does not allocate.
     pub fn new(drivers: Drivers, programs: ProgramList) -> Result<Programs, Many>
         ensures taken { IfOk result (λ p. p ≡ program_lists drivers programs) }
         ensures given_back { IfErr result (λ m. m ≡ record { drivers = drivers; programs = programs }) }
@@ -115,8 +116,8 @@ impl Programs {
         self.version
     }
 
-    /// Returns the earliest version that can express the programs: version 2 exactly if there are over 64 drivers or
-    /// a hangup. Does not allocate.
+    /// Returns the earliest version that can express the drivers and programs: version 2 exactly if there are over 64
+    /// drivers, or a command is a hangup. Does not allocate.
     pub fn least(&self) -> Version
         ensures { result ≡ least_of_programs self.now.drivers self.now.programs }
     {
@@ -162,7 +163,7 @@ impl Programs {
     }
 }
 
-// Returns whether there are at most 100,000 commands.
+// Returns whether the programs have at most 100,000 commands together.
 fn are_few(programs: &[Commands]) -> bool
     ensures { IsTrue result ↔ (sum_by length programs.now ≤ MAX_COMMANDS) }
 {
@@ -177,7 +178,7 @@ fn are_few(programs: &[Commands]) -> bool
     true
 }
 
-// Returns the earliest version that can express them.
+// Returns the earliest version that can express these drivers and programs.
 fn least_of(drivers: &[DriverSpec], programs: &[Commands]) -> Version
     ensures { result ≡ least_of_programs drivers.now programs.now }
 {

@@ -19,20 +19,22 @@ pub enum Fault {
     NotMux,
     /// `EINVAL already`: the stream to be linked is already linked below a driver.
     AlreadyBelow,
-    /// `EINVAL cycle`: both drivers are the same, or links lead from the lower one to the upper one.
+    /// `EINVAL cycle`: the upper and the lower driver of the new link are the same, or links already lead down from the
+    /// lower driver to the upper one.
     Cycle,
     /// `EAGAIN links`: there are 1,024 links, or no id is left.
     TooManyLinks,
-    /// `EINVAL id`: there is no link with that id which the command may remove or use.
+    /// `EINVAL id`: no link has that id, or the command may not remove or use the link with that id.
     NoLink,
     /// `ENXIO driver`: there is no driver with that name, or the command requires a device and the driver
     /// is a multiplexer.
     NoDriver,
-    /// `ENXIO minor`: the driver has no free minor, doesn't have this minor, or has no such stream.
+    /// `ENXIO minor`: the driver has no free minor, it doesn't have this minor, or the stream of this minor doesn't
+    /// exist.
     NoMinor,
     /// `EMFILE`: the process has 16 descriptors.
     TooManyDescriptors,
-    /// `EADDRINUSE`: the address is bound on the driver, or the stream has an address.
+    /// `EADDRINUSE`: a stream of the driver is bound to the address, or the stream is bound to some address.
     AddressInUse,
     /// `EINVAL unbound`: the stream has no address.
     Unbound,
@@ -42,7 +44,7 @@ pub enum Fault {
     Full,
     /// `EAGAIN empty`: the queue has no message.
     Empty,
-    /// `ERANGE`: the message has no bytes, or more than the driver's longest message.
+    /// `ERANGE`: the message has no bytes, or is longer than the driver allows.
     BadSize,
     /// `ENXIO hangup`: the stream's device has hung up.
     HungUp,
@@ -79,14 +81,14 @@ pub enum Reply {
 }
 
 impl Reply {
-    /// Returns whether the reply reports a hangup: end of file, or the refusal after a hangup. Does not allocate.
+    /// Returns whether the reply reports a hangup: it is `Eof`, or the refusal `HungUp`. Does not allocate.
     pub fn tells_of_hangup(&self) -> bool
         ensures { result ≡ tells_of_hangup self.now }
     {
         matches!(self, Reply::Eof | Reply::Fault(Fault::HungUp))
     }
 
-    /// Frees the memory that its serials don't need. The reply doesn't change.
+    /// Frees the unused capacity of the list of dropped serials. The value of the reply doesn't change.
     pub fn shrink(&mut self)
         ensures { self.new ≡ self.old }
     {

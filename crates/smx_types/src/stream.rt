@@ -2,8 +2,8 @@
 
 use crate::process::Process;
 
-/// A stream, identified by the number of its driver and its minor. In every configuration the driver is 0 to 127, and
-/// the minor 0 to 63.
+/// A stream, identified by its driver's number and its minor. In every configuration the number of the driver is 0 to
+/// 127, and the minor is 0 to 63.
 #[derive(Clone, Copy, Debug, PartialEq, Eq)]
 pub struct StreamId {
     pub driver: u8,
@@ -13,13 +13,13 @@ pub struct StreamId {
 /// A side of a stream. Each side has a queue of messages.
 #[derive(Clone, Copy, Debug, PartialEq, Eq)]
 pub enum Side {
-    /// The side on which messages go down: processes write to it, and it is drained towards the device.
+    /// The side on which messages go down: processes write them, and they leave towards the device.
     Write,
     /// The side on which messages come up: they arrive from the device, and processes read them.
     Read,
 }
 
-/// A side of a stream: the place of a queue.
+/// A side of a stream. Each place has one queue of messages.
 #[derive(Clone, Copy, Debug, PartialEq, Eq)]
 pub struct Place {
     pub stream: StreamId,

@@ -1,4 +1,4 @@
-//! The result of a run: its history and its final configuration.
+//! The result of a run: its drivers, its history and its final configuration.
 
 ghost use Rattle.std.specs.Prelude.{◌≡◌, IfOk};
 ghost use Rattle.std.specs.List.{list_any};
@@ -11,20 +11,21 @@ use crate::version::{Version, are_more_drivers, version_2_where};
 use crate::view::ConfigView;
 use std::alloc::Global;
 
-/// The drivers of a run, its history, and its final configuration, for a text of this version.
+/// The drivers of a run, its history and its final configuration, with the version of the text that states them.
 #[derive(Debug, Drop, PartialEq)]
 pub struct Transcript {
     pub version: Version,
     pub drivers: Drivers,
-    /// The history, in order.
+    /// The history: the commands that were performed, with their processes and replies, in order.
     pub entries: Entries,
     /// The configuration after the history, according to the transcript.
     pub view: ConfigView,
 }
 
 impl Transcript {
-    /// Returns the earliest version that can express the transcript: version 2 exactly if there are over 64 drivers,
-    /// a hangup, an end of file, a refusal after a hangup, or a hung-up stream. Does not allocate.
+    /// Returns the earliest version that can express the transcript. This is version 2 exactly if the transcript has
+    /// over 64 drivers, a command `hangup`, a reply `eof` or `ENXIO hangup`, or a hung-up stream in its configuration.
+    /// Does not allocate.
     pub fn least(&self) -> Version
         ensures { result ≡ least_of_transcript self.now }
     {
@@ -51,7 +52,7 @@ impl Transcript {
     }
 }
 
-// Returns whether an entry has a hangup, or a reply that reports one.
+// Returns whether the command of some entry is a hangup, or the reply of some entry reports a hangup.
 fn are_of_hangup(entries: &[Entry]) -> bool
     ensures { result ≡ list_any is_of_hangup entries.now }
 {

@@ -1,4 +1,4 @@
-//! The versions of the texts, and the values that each can express.
+//! The versions of the two texts (programs and transcripts), and the values that each version can express.
 
 ghost use Rattle.std.specs.Prelude.{◌≡◌};
 ghost use Rattle.smx_types.specs.Versions.{are_more_drivers, most_drivers, version_2_where};
@@ -6,7 +6,7 @@ ghost use Rattle.smx_types.specs.Versions.{are_more_drivers, most_drivers, versi
 use crate::driver::DriverSpec;
 use crate::limits::{MAX_DRIVERS, MAX_DRIVERS_OF_VERSION_1};
 
-/// A version of the texts. Version 2 adds hangups of devices, and allows more drivers.
+/// A version of the programs text and the transcript text. Version 2 adds hangups of devices, and allows more drivers.
 #[derive(Clone, Copy, Debug, PartialEq, Eq)]
 pub enum Version {
     /// Version 1, with at most 64 drivers.

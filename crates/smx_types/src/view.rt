@@ -1,4 +1,4 @@
-//! The view of a configuration: drivers by name, and the parts as groups of lines.
+//! The view of a configuration, as a transcript shows it: one line for each part, in which drivers have their names.
 
 ghost use Rattle.std.specs.Prelude.{◌≡◌, IfOk};
 
@@ -31,7 +31,7 @@ pub struct LinkLine {
     pub kind: LinkKind,
 }
 
-/// A binding: the driver, the bound address, and the minor of the stream that it is bound to.
+/// A binding: the driver, the address, and the minor of the stream that is bound to the address.
 #[derive(Clone, Copy, Debug, PartialEq, Eq)]
 pub struct BindingLine {
     pub driver: Name,
@@ -39,7 +39,7 @@ pub struct BindingLine {
     pub minor: u32,
 }
 
-/// A route: the driver, the address, and the id of the link that its messages go down.
+/// A route: the driver, the address, and the id of the link down which the messages for the address go.
 #[derive(Clone, Copy, Debug, PartialEq, Eq)]
 pub struct RouteLine {
     pub driver: Name,
@@ -71,25 +71,26 @@ pub struct HungLine {
     pub minor: u32,
 }
 
-/// The open descriptors in a view, by rising process and number.
+/// The open descriptors in a view, sorted by process, then by descriptor number.
 pub type DescriptorLines = Items<DescriptorLine>;
 
-/// The links in a view, by rising id.
+/// The links in a view, sorted by id.
 pub type LinkLines = Items<LinkLine>;
 
-/// The bindings in a view, by rising number of the driver, then address.
+/// The bindings in a view, sorted by driver number, then by address.
 pub type BindingLines = Items<BindingLine>;
 
-/// The routes in a view, by rising number of the driver, then address.
+/// The routes in a view, sorted by driver number, then by address.
 pub type RouteLines = Items<RouteLine>;
 
-/// The queued messages in a view, by rising place, and from the front of the queue within a place.
+/// The queued messages in a view, sorted by place: by driver number, then by minor, and the write side before the read
+/// side. The messages of one place are in the order of the queue.
 pub type MessageLines = Items<MessageLine>;
 
-/// The full places in a view, rising.
+/// The full places in a view, sorted as in `MessageLines`.
 pub type FullLines = Items<FullLine>;
 
-/// The hung-up streams in a view, rising.
+/// The hung-up streams in a view, sorted by driver number, then by minor.
 pub type HungLines = Items<HungLine>;
 
 /// The view of a configuration.
