@@ -1,4 +1,4 @@
-//! Laws of spellings: they are words, and a line determines its words and its value.
+//! Laws of spellings: a spelling consists of words, and a line determines its words and its value.
 
 ghost use Rattle.std.specs.Prelude.{◌≡◌, ◌∷◌, [], ℕ, List, codes};
 ghost use Rattle.std.specs.List.{AllByRecursion};
@@ -43,7 +43,7 @@ pub fn lines_tell_words_apart()
         → line_of words ≡ line_of others → words ≡ others }
 {}
 
-/// Two values that can be spelled and make the same line are equal.
+/// Two values of one kind that can be spelled are equal if their words make the same line.
 pub fn one_value_each()
     ensures driver { (x y : DriverSpec) → FitsDriver x → FitsDriver y
         → line_of (driver_words x) ≡ line_of (driver_words y) → x ≡ y }

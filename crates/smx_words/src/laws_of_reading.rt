@@ -1,4 +1,5 @@
-//! Laws of readings: any bytes have a reading as each kind of line. Examples show right readings, and wrong ones.
+//! Laws of readings, that is, of the results that a reader of a line may return. Any bytes have a reading as each kind
+//! of line. Examples show right readings and wrong readings.
 
 ghost use Rattle.std.specs.Fmt.{decimal};
 ghost use Rattle.std.specs.Prelude.{ℕ, List, Option, Some, None, codes};
@@ -46,8 +47,8 @@ pub fn each_line_has_a_reading()
     ensures hung { (line : List ℕ) → (o : Option HungLine) × IsReadAs FitsHung hung_words line o }
 {}
 
-/// A value that is found in bytes fits, and the bytes spell it. `None` is found only if the bytes spell no value that
-/// fits.
+/// A reader of a word may return a value only if the value fits (it can be spelled) and the bytes spell it. It may
+/// return `None` only if the bytes spell no value that fits.
 pub fn what_is_found_in_bytes()
     ensures found { IsFoundIn FitsNumber decimal (codes "7") (Some 7) }
     ensures not_another { IsFoundIn FitsNumber decimal (codes "7") (Some 8) → ⊥ }
@@ -60,7 +61,8 @@ pub fn what_is_found_in_bytes()
     ensures too_large_to_be_spelled { IsSpelled FitsNumber decimal (codes "4294967296") → ⊥ }
 {}
 
-/// A line is read as the value that it spells: the words of this value, with one space between each and the next.
+/// A line is read as the value whose words it is, with one space between each word and the next. It is read as `None`
+/// only if it is not the words of any value.
 pub fn what_a_line_is_read_as()
     ensures read { IsReadAs FitsNumber process_words (codes "process 7") (Some 7) }
     ensures not_without_its_first_word { IsReadAs FitsNumber process_words (codes "7") (Some 7) → ⊥ }
@@ -69,8 +71,8 @@ pub fn what_a_line_is_read_as()
     ensures none { IsReadAs FitsNumber process_words (codes "process 07") None }
 {}
 
-/// A line is the line of a command if it is the words of a command that can be spelled, and that the version can
-/// express.
+/// In a version of the texts, a line is the line of a command if two things hold: it is the words of a command that can
+/// be spelled, and the version can express this command.
 pub fn which_lines_are_commands()
     ensures dup { IsCommandLine V1 (codes "dup 0") }
     ensures hangup { IsCommandLine V2 (codes "hangup ip 0") }
@@ -79,7 +81,8 @@ pub fn which_lines_are_commands()
     ensures not_of_a_process { IsCommandLine V2 (codes "process 0") → ⊥ }
 {}
 
-/// A line is the line of a call if it is the words of a process and of a command that the version can express.
+/// In a version of the texts, a line is the line of a call if it is the words of a process and of a command that the
+/// version can express.
 pub fn which_lines_are_calls()
     ensures dup { IsCallLine V1 (codes "63 dup 0") }
     ensures hangup { IsCallLine V2 (codes "0 hangup ip 0") }

@@ -1,4 +1,4 @@
-//! The words of one line: the one spelling of each value, its reader and its writer.
+//! Reads and writes the words of one line of a text. Each value that can be on a line has exactly one spelling.
 #![tactic(auto)]
 
 pub mod laws;

@@ -18,20 +18,20 @@ pub use number::{write_next, write_process};
 pub use reply::write_reply;
 use smx_types::NoMemory;
 
-/// A value that is spelled as one line of a text.
+/// A type of values, each of which is spelled as one line of a text.
 pub trait Spell {
-    // The words of its line.
+    // The words of the value's line.
     ghost words: { Self → List (List ℕ) };
 
     // The value can be spelled.
     ghost Fits: { Self → Type 0 };
 
-    /// Appends the line of this value, with the line feed. If an allocation fails, `out` may contain a part of it.
+    /// Appends the line of this value and a line feed. If an allocation fails, `out` may contain a part of the line.
     fn write_line(&self, out: &mut Vec<u8>) -> Result<(), NoMemory>
         ensures written { OnOk result (out.new.items
             ≡ out.old.items ++ line_of (words self.now) ++ LINE_FEED ∷ []) }
-        // Each type that implements `Spell` can hold only values that fit, so this needs no test. The clause says that
-        // the line can be read back.
+        // So the line can be read back. The body needs no test: each type that implements `Spell` can hold only values
+        // that fit.
         ensures fits { OnOk result (Fits self.now) };
 }
 

@@ -10,8 +10,8 @@ use crate::reading::number::first_number;
 use smx_types::{Command, NoMemory, Process, Version};
 use std::alloc::Global;
 
-/// Parses a line `PROCESS COMMAND`. Returns `None` if `version` has no call with this line. Fails only if an allocation
-/// fails while it reads the line of such a call.
+/// Parses a line `PROCESS COMMAND`. Returns `None` if `version` has no call with this line. Fails only if `version` has
+/// a call with this line, and an allocation fails.
 pub fn call_of_line(
     alloc: Global,
     version: Version,

@@ -20,7 +20,7 @@ use smx_types::{Command, NoMemory, Version};
 use std::alloc::Global;
 
 /// Parses the line of a command. Returns `None` if `version` has no command with this line. Fails only if `version` has
-/// a command with this line, and an allocation fails while it is read.
+/// a command with this line, and an allocation fails.
 pub fn command_of(alloc: Global, version: Version, line: &[u8]) -> Result<Option<Command>, NoMemory>
     ensures reading { IfOk result (IsReadAs (FitsCommandIn version) command_words line.now) }
     ensures wanted { IfErr result (λ _. IsCommandLine version line.now) }
@@ -55,7 +55,7 @@ fn lone_command(line: &[u8]) -> Option<Command>
     None
 }
 
-// Parses the words after a verb.
+// Parses the words of a command after its verb (its first word).
 fn command_after(alloc: Global, verb: Verb, rest: &[u8]) -> Result<Option<Command>, NoMemory>
     ensures reading { IfOk result
         (IsReadAs FitsCommand command_words (line_of (verb_word verb ∷ rest.now ∷ []))) }

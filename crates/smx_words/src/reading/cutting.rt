@@ -5,7 +5,7 @@ ghost use Rattle.smx_words.specs.Words.{IsFree};
 
 use memchr::memchr;
 
-// Returns the bytes before the first separator, and those after it.
+// Returns the bytes before the first separator, and the bytes after this separator.
 pub fn cut(bytes: &[u8], separator: u8) -> Option<(&[u8], &[u8])>
     ensures { MatchOption result ((before after : List ℕ) → bytes.now ≢ before ++ separator ∷ after)
         (λ p. IsFree separator p.0.now × (bytes.now ≡ p.0.now ++ separator ∷ p.1.now)) }
@@ -24,7 +24,8 @@ pub fn after<'a>(bytes: &'a [u8], front: &[u8]) -> Option<&'a [u8]>
     bytes.strip_prefix(front)
 }
 
-// Compares bytes. A function of its own, so that each comparison is one fact in its caller's proof.
+// Returns whether `bytes` equal `text`. For the proof: this is a function, so that each comparison is a single fact in
+// the proof of the caller.
 pub fn is(bytes: &[u8], text: &[u8]) -> bool
     ensures { IsTrue result ↔ (bytes.now ≡ text.now) }
 {

@@ -12,8 +12,8 @@ use crate::reading::reply::reply_of;
 use smx_types::{Entry, NoMemory, Version};
 use std::alloc::Global;
 
-/// Parses the line of an entry. Returns `None` if `version` has no entry with this line. Fails only if an allocation
-/// fails while it reads the line of such an entry.
+/// Parses the line of an entry. Returns `None` if `version` has no entry with this line. Fails only if `version` has an
+/// entry with this line, and an allocation fails.
 pub fn entry_of(alloc: Global, version: Version, line: &[u8]) -> Result<Option<Entry>, NoMemory>
     ensures reading { IfOk result (IsReadAs (FitsEntryIn version) entry_words line.now) }
     ensures wanted { IfErr result (λ _. IsEntryLine version line.now) }

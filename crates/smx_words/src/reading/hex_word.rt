@@ -15,7 +15,8 @@ use crate::reading::number::first_number;
 use smx_types::{Bytes, NoMemory};
 use std::alloc::Global;
 
-// Parses a number and the word of some bytes. Fails only if an allocation fails while it reads such a pair.
+// Parses a number, a space and a word that spells bytes. Fails only if the text is such a number, space and word, and
+// an allocation fails.
 pub fn number_and_bytes(alloc: Global, text: &[u8]) -> Result<Option<(u32, Bytes)>, NoMemory>
     ensures reading { IfOk result (λ o. MatchOption o
         ((n : ℕ) (bytes : List ℕ) → FitsNumber n → FitsBytes bytes
@@ -33,7 +34,7 @@ pub fn number_and_bytes(alloc: Global, text: &[u8]) -> Result<Option<(u32, Bytes
     Ok(Some((number, bytes)))
 }
 
-// Parses a word of bytes. Fails only if an allocation fails while it reads such a word.
+// Parses a word that spells bytes. Fails only if the word spells bytes, and an allocation fails.
 fn bytes_of(alloc: Global, word: &[u8]) -> Result<Option<Bytes>, NoMemory>
     ensures reading { IfOk result (IsFoundIn FitsBytes hex_word word.now) }
     ensures wanted { IfErr result (λ _. IsSpelled FitsBytes hex_word word.now) }
@@ -48,8 +49,9 @@ fn bytes_of(alloc: Global, word: &[u8]) -> Result<Option<Bytes>, NoMemory>
     Ok(Some(Bytes::from_vec(bytes)))
 }
 
-// Returns the bytes that digits spell. It doesn't use `hex::decode`, which tests each digit: with it a run with 16 MB
-// of messages takes longer than bench/plain. This loop has no test, so the compiler decodes many digits at a time.
+// Returns the bytes that the digits spell. `hex::decode` would test each digit again, and a run with 16 MB of messages
+// would then take longer than bench/plain (the same program in plain Rust). The loop of `set_bytes` has no test, so the
+// compiler decodes many digits at a time.
 fn decode(alloc: Global, digits: &[u8]) -> Result<Vec<u8>, NoMemory>
     requires even { length digits.now % 2 ≡ 0 }
     requires digits { list_all is_digit digits.now ≡ true }
@@ -86,7 +88,7 @@ fn value_of(digit: u8) -> u8
     }
 }
 
-/// Returns whether a word spells bytes: two lower-case digits for each, or a dash for none.
+/// Returns whether a word spells bytes: it is two lower-case hex digits for each byte, or a dash for no byte.
 pub fn spells_bytes(word: &[u8]) -> bool
     ensures { MatchBool result (IsSpelled FitsBytes hex_word word.now)
         ((bytes : List ℕ) → FitsBytes bytes → word.now ≢ hex_word bytes) }
@@ -103,7 +105,8 @@ pub fn spells_bytes(word: &[u8]) -> bool
     false
 }
 
-// Tests each byte, whether or not an earlier one failed: long words are tested many bytes at a time.
+// Returns whether all bytes are hex digits. Doesn't stop at the first other byte, so that the compiler can test many
+// bytes at a time.
 fn are_digits(word: &[u8]) -> bool
     ensures { result ≡ list_all is_digit word.now }
 {

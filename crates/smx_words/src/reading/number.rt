@@ -1,4 +1,4 @@
-//! Numbers in words: decimal, below 2^32, without a sign or a leading zero.
+//! Reads numbers: decimal, below 2^32, without a sign or a leading zero.
 
 ghost use Rattle.std.specs.Prelude.{◌≡◌, ◌≢◌, ◌∷◌, ◌++◌, List, ℕ, take, drop, ◌≤◌, ◌==◌, ◌&&◌, ◌||◌, nat_lt};
 ghost use Rattle.std.specs.Prelude.{length, slice_index, MatchOption};
@@ -21,7 +21,7 @@ pub fn number(word: &[u8]) -> Option<u32>
     None
 }
 
-// Parses the number before the first space. Returns it and the bytes after the space.
+// Parses the number before the first space. Returns the number and the bytes after the space.
 pub fn first_number(text: &[u8]) -> Option<(u32, &[u8])>
     ensures { BeginsWith FitsNumber decimal text.now result }
 {
@@ -33,7 +33,7 @@ pub fn first_number(text: &[u8]) -> Option<(u32, &[u8])>
     }
 }
 
-// Parses two numbers.
+// Parses two numbers with a space between them.
 pub fn pair(text: &[u8]) -> Option<(u32, u32)>
     ensures { MatchOption result
         ((a b : ℕ) → FitsNumber a → FitsNumber b → text.now ≢ decimal a ++ SPACE ∷ decimal b)
@@ -44,7 +44,7 @@ pub fn pair(text: &[u8]) -> Option<(u32, u32)>
     Some((first, second))
 }
 
-// Parses the process before the first space. Returns it and the bytes after the space.
+// Parses the process before the first space. Returns the process and the bytes after the space.
 pub fn first_process(text: &[u8]) -> Option<(Process, &[u8])>
     ensures { BeginsWith FitsProcess decimal text.now result }
 {
@@ -53,7 +53,7 @@ pub fn first_process(text: &[u8]) -> Option<(Process, &[u8])>
     Some((process, rest))
 }
 
-// Parses the leading digits as a number. Returns it and the number of digits.
+// Parses the leading digits as a number. Returns the number, and how many digits there are.
 fn leading_number(text: &[u8]) -> Option<(u32, usize)>
     ensures { MatchOption result
         ((n : ℕ) (after : List ℕ) → FitsNumber n → NoDigitFirst after → text.now ≢ decimal n ++ after)
@@ -75,7 +75,8 @@ fn leading_number(text: &[u8]) -> Option<(u32, usize)>
     Some((value as u32, end))
 }
 
-// Returns whether the first `end` bytes, all digits, are not a number: `end` is 0, or a zero comes before other digits.
+// Takes the first `end` bytes, which are digits. Returns whether they don't spell a number: there are none, or a zero
+// comes before other digits.
 fn starts_wrong(text: &[u8], end: usize) -> bool
     requires { end ≤ length text.now }
     ensures { result ≡ ((end == 0) || ((slice_index text.now 0 == 48) && nat_lt 1 end)) }

@@ -16,8 +16,8 @@ use crate::reading::verb::{ReplyVerb, first_reply_verb};
 use smx_types::{Fault, NoMemory, Reply, Serials, Version};
 use std::alloc::Global;
 
-/// Parses the words of a reply. Returns `None` if `version` has no such reply. Fails only if an allocation fails while
-/// it reads the words of such a reply.
+/// Parses the words of a reply. Returns `None` if `version` has no reply with these words. Fails only if `version` has
+/// a reply with these words, and an allocation fails.
 pub fn reply_of(alloc: Global, version: Version, line: &[u8]) -> Result<Option<Reply>, NoMemory>
     ensures reading { IfOk result (IsReadAs (FitsReplyIn version) reply_words line.now) }
     ensures wanted { IfErr result (λ _. IsLineOf (FitsReplyIn version) reply_words line.now) }
@@ -42,7 +42,7 @@ fn reply_in(version: Version, reply: Reply) -> Option<Reply>
     }
 }
 
-// Parses the words after a verb.
+// Parses the words of a reply after its verb (its first word).
 fn reply_after(alloc: Global, verb: ReplyVerb, rest: &[u8]) -> Result<Option<Reply>, NoMemory>
     ensures reading { IfOk result (IsReadAs FitsReply reply_words (line_of (reply_verb_word verb ∷ rest.now ∷ []))) }
     ensures wanted { IfErr result (λ _.
@@ -74,7 +74,8 @@ fn got(alloc: Global, rest: &[u8]) -> Result<Option<Reply>, NoMemory>
     }))
 }
 
-// Parses one or more serials. Looks at all of them first, so that out of memory hides no malformed one.
+// Parses one or more serials. Tests all of them before the first allocation. So out of memory is never reported for a
+// line that has a malformed serial.
 fn serials(alloc: Global, line: &[u8]) -> Result<Option<Serials>, NoMemory>
     ensures reading { IfOk result (IsReadAs FitsSerials (map decimal) line.now) }
     ensures wanted { IfErr result (λ _. IsLineOf FitsSerials (map decimal) line.now) }

@@ -33,7 +33,8 @@ pub enum Verb {
     Hangup,
 }
 
-/// The verb of a reply: its first word, if other words follow. `done` alone, `eof` and faults have no verb.
+/// The verb of a reply: its first word, if it is one of these and other words follow. The reply `done` without other
+/// words, the reply `eof` and faults have no verb.
 #[derive(Clone, Copy)]
 pub enum ReplyVerb {
     Fd,
@@ -43,7 +44,7 @@ pub enum ReplyVerb {
     Done,
 }
 
-// Returns the only verb with which the bytes may start, by their first letters.
+// Guesses the verb from the first letters. If the bytes start with a verb and a space, the guess is this verb.
 fn candidate(text: &[u8]) -> Option<Verb>
     ensures { (verb : AnyVerb) (after : List ℕ) → text.now ≡ verb_word verb ++ SPACE ∷ after → result ≡ Some verb }
 {
@@ -71,7 +72,7 @@ fn candidate(text: &[u8]) -> Option<Verb>
     }
 }
 
-// Returns the bytes after the verb and a space, if the text starts with these.
+// Returns the bytes after the verb and a space. Returns `None` if the text doesn't start with the verb and a space.
 fn behind(text: &[u8], verb: Verb) -> Option<&[u8]>
     ensures { MatchOption result ((rest : List ℕ) → text.now ≢ verb_word verb ++ SPACE ∷ rest)
         (λ rest. text.now ≡ verb_word verb ++ SPACE ∷ rest.now) }
@@ -99,7 +100,7 @@ fn behind(text: &[u8], verb: Verb) -> Option<&[u8]>
     }
 }
 
-// Parses the verb of a command before the first space. Returns it and the bytes after the space.
+// Parses the verb of a command before the first space. Returns the verb and the bytes after the space.
 pub fn first_verb(text: &[u8]) -> Option<(Verb, &[u8])>
     ensures { BeginsWith FitsAlways verb_word text.now result }
 {
@@ -122,7 +123,7 @@ fn reply_verb_of(word: &[u8]) -> Option<ReplyVerb>
     }
 }
 
-// Parses the verb of a reply before the first space. Returns it and the bytes after the space.
+// Parses the verb of a reply before the first space. Returns the verb and the bytes after the space.
 pub fn first_reply_verb(text: &[u8]) -> Option<(ReplyVerb, &[u8])>
     ensures { BeginsWith FitsAlways reply_verb_word text.now result }
 {

@@ -1,4 +1,4 @@
-//! The lines of a view.
+//! Reads the lines of a view (a configuration, as a transcript shows it).
 
 ghost use Rattle.std.specs.Prelude.{IfOk, IfErr};
 ghost use Rattle.smx_words.specs.LineReading.{IsReadAs, IsLineOf};
@@ -114,7 +114,7 @@ pub fn hung_of(line: &[u8]) -> Option<HungLine>
     Some(HungLine { driver, minor })
 }
 
-/// Parses the line of a queued message. Fails only if an allocation fails while it reads the line of a message.
+/// Parses the line of a queued message. Fails only if the line is the line of a message, and an allocation fails.
 pub fn message_of(alloc: Global, line: &[u8]) -> Result<Option<MessageLine>, NoMemory>
     ensures reading { IfOk result (IsReadAs FitsMessage message_words line.now) }
     ensures wanted { IfErr result (λ _. IsLineOf FitsMessage message_words line.now) }

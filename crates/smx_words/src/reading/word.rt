@@ -1,4 +1,4 @@
-//! Words of enums, and names.
+//! Reads single words: names, and the words of enums such as kinds and sides.
 
 ghost use Rattle.std.specs.Prelude.{◌≡◌, ◌≢◌, ◌∷◌, ◌++◌, ℕ, List, MatchOption};
 ghost use Rattle.std.specs.Fmt.{decimal};
@@ -18,7 +18,7 @@ pub fn name(word: &[u8]) -> Option<Name>
     Name::from_bytes(word)
 }
 
-// Parses the name before the first space. Returns it and the bytes after the space.
+// Parses the name before the first space. Returns the name and the bytes after the space.
 pub fn first_name(text: &[u8]) -> Option<(Name, &[u8])>
     ensures { BeginsWith FitsName (λ n. n) text.now result }
 {
@@ -27,7 +27,7 @@ pub fn first_name(text: &[u8]) -> Option<(Name, &[u8])>
     Some((name, rest))
 }
 
-// Parses a name and a number.
+// Parses a name and a number with a space between them.
 pub fn name_and_number(text: &[u8]) -> Option<(Name, u32)>
     ensures { MatchOption result
         ((name : List ℕ) (n : ℕ) → FitsName name → FitsNumber n → text.now ≢ name ++ SPACE ∷ decimal n)
@@ -51,7 +51,7 @@ pub fn driver_kind(word: &[u8]) -> Option<DriverKind>
     }
 }
 
-// Parses the kind of driver before the first space. Returns it and the bytes after the space.
+// Parses the kind of driver before the first space. Returns the kind and the bytes after the space.
 pub fn first_kind(text: &[u8]) -> Option<(DriverKind, &[u8])>
     ensures { BeginsWith FitsAlways kind_word text.now result }
 {
@@ -60,7 +60,7 @@ pub fn first_kind(text: &[u8]) -> Option<(DriverKind, &[u8])>
     Some((kind, rest))
 }
 
-/// Parses a selection of links: one link by its id, or all.
+/// Parses the word that says which links a command removes: the id of one link, or `all`.
 pub fn which(word: &[u8]) -> Option<Which>
     ensures { IsFoundIn FitsWhich which_word word.now result }
 {
@@ -71,7 +71,7 @@ pub fn which(word: &[u8]) -> Option<Which>
     Some(Which::Id(id))
 }
 
-/// Parses the sides of a flush.
+/// Parses the word that says which sides of a stream a flush empties.
 pub fn sides(word: &[u8]) -> Option<Sides>
     ensures { IsFoundIn FitsAlways sides_word word.now result }
 {
@@ -94,7 +94,7 @@ pub fn side(word: &[u8]) -> Option<Side>
     }
 }
 
-// Parses the side of a place before the first space. Returns it and the bytes after the space.
+// Parses the side of a place before the first space. Returns the side and the bytes after the space.
 pub fn first_side(text: &[u8]) -> Option<(Side, &[u8])>
     ensures { BeginsWith FitsAlways side_word text.now result }
 {

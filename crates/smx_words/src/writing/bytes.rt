@@ -12,7 +12,8 @@ use super::word::{put_byte, put_text};
 use hex::encode_to_slice;
 use smx_types::NoMemory;
 
-/// Appends the serial, the address and the bytes of a message, each after a space, and a line feed.
+/// Appends the serial, the address and the bytes of a message, with a space before each of the three. Then appends a
+/// line feed.
 pub(super) fn put_message(
     out: &mut Vec<u8>,
     serial: u32,
@@ -30,7 +31,7 @@ pub(super) fn put_message(
     put_byte(out, b'\n')
 }
 
-/// Appends a space and the word of some bytes.
+/// Appends a space and the word that spells these bytes.
 pub(super) fn put_bytes(out: &mut Vec<u8>, bytes: &[u8]) -> Result<(), NoMemory>
     ensures written { OnOk result (out.new.items ≡ out.old.items ++ SPACE ∷ hex_word bytes.now) }
     ensures fits { FitsBytes bytes.now }

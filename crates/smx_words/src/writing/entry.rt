@@ -22,7 +22,7 @@ impl Spell for Entry {
     }
 }
 
-/// Appends the line of this entry, with its line feed. If an allocation fails, `out` may contain a part of it.
+/// Appends the line of this entry and a line feed. If an allocation fails, `out` may contain a part of the line.
 pub fn write_entry(
     out: &mut Vec<u8>,
     process: Process,

@@ -1,4 +1,4 @@
-//! Numbers, and the lines of a name and numbers.
+//! Appends numbers, and the lines `process` and `next`.
 
 ghost use Rattle.std.specs.Prelude.{◌≡◌, ◌∷◌, ◌++◌, [], OnOk};
 ghost use Rattle.std.specs.Fmt.{decimal};
@@ -10,7 +10,7 @@ use super::word::{put_byte, put_text};
 use itoa::Buffer;
 use smx_types::NoMemory;
 
-/// Appends the line `process NUMBER`. If an allocation fails, `out` may contain a part of it.
+/// Appends the line `process NUMBER`. If an allocation fails, `out` may contain a part of the line.
 pub fn write_process(out: &mut Vec<u8>, number: u32) -> Result<(), NoMemory>
     ensures written { OnOk result (out.new.items
         ≡ out.old.items ++ line_of (process_words number) ++ LINE_FEED ∷ []) }
@@ -20,7 +20,7 @@ pub fn write_process(out: &mut Vec<u8>, number: u32) -> Result<(), NoMemory>
     put_last(out, number)
 }
 
-/// Appends the line `next ID SERIAL`. If an allocation fails, `out` may contain a part of it.
+/// Appends the line `next ID SERIAL`. If an allocation fails, `out` may contain a part of the line.
 pub fn write_next(out: &mut Vec<u8>, id: u32, serial: u32) -> Result<(), NoMemory>
     ensures written { OnOk result (out.new.items
         ≡ out.old.items ++ line_of (next_words (id, serial)) ++ LINE_FEED ∷ []) }
@@ -31,7 +31,8 @@ pub fn write_next(out: &mut Vec<u8>, id: u32, serial: u32) -> Result<(), NoMemor
     put_last(out, serial)
 }
 
-/// Appends a space and the digits of a number. Inlined: otherwise short commands take longer than in bench/plain.
+/// Appends a space and the digits of a number. Inlined: otherwise short commands take longer than in bench/plain (the
+/// same program in plain Rust).
 #[inline(always)]
 pub(super) fn put_spaced(out: &mut Vec<u8>, n: u32) -> Result<(), NoMemory>
     ensures written { OnOk result (out.new.items ≡ out.old.items ++ SPACE ∷ decimal n) }
@@ -51,8 +52,8 @@ pub(super) fn put_last(out: &mut Vec<u8>, n: u32) -> Result<(), NoMemory>
     put_byte(out, b'\n')
 }
 
-/// Appends the digits of a number. A single digit needs no buffer: the buffer would take a tenth of the time of a run
-/// of short commands.
+/// Appends the digits of a number. A single digit is appended without a buffer. With the buffer, this would take a
+/// tenth of the time of a run of short commands.
 pub(super) fn put_digits(out: &mut Vec<u8>, n: u32) -> Result<(), NoMemory>
     ensures written { OnOk result (out.new.items ≡ out.old.items ++ decimal n) }
     ensures fits { FitsNumber n }
@@ -64,8 +65,8 @@ pub(super) fn put_digits(out: &mut Vec<u8>, n: u32) -> Result<(), NoMemory>
     }
 }
 
-// Appends the digits of a number by a buffer. Not inlined, so that a single digit, the usual case, needs no saved
-// registers.
+// Appends the digits of a number by way of a buffer. Not inlined, so that `put_digits` saves no registers for a single
+// digit, which is the usual case.
 #[inline(never)]
 fn put_long(out: &mut Vec<u8>, n: u32) -> Result<(), NoMemory>
     ensures { OnOk result (out.new.items ≡ out.old.items ++ decimal n) }

@@ -12,8 +12,8 @@ use super::number::{put_last, put_spaced};
 use super::word::{put_byte, put_text};
 use smx_types::{Fault, NoMemory, Reply};
 
-/// Appends an equals sign between spaces, the words of a reply, and a line feed: the end of an entry's line. If an
-/// allocation fails, `out` may contain a part of it.
+/// Appends the end of an entry's line: an equals sign between spaces, the words of a reply, and a line feed. If an
+/// allocation fails, `out` may contain a part of this.
 pub fn write_reply(out: &mut Vec<u8>, reply: &Reply) -> Result<(), NoMemory>
     ensures written { OnOk result (out.new.items
         ≡ out.old.items ++ codes " = " ++ line_of (reply_words reply.now) ++ LINE_FEED ∷ []) }
@@ -65,7 +65,7 @@ fn put_done(out: &mut Vec<u8>, dropped: &[u32]) -> Result<(), NoMemory>
     put_byte(out, b'\n')
 }
 
-// Appends a space and the digits for each serial.
+// For each serial, appends a space and the digits of the serial.
 fn put_serials(out: &mut Vec<u8>, serials: &[u32]) -> Result<(), NoMemory>
     ensures written { OnOk result (out.new.items
         ≡ out.old.items ++ flat_map (λ n. SPACE ∷ decimal n) serials.now) }

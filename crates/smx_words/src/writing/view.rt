@@ -1,4 +1,4 @@
-//! The lines of a view.
+//! Writes the lines of a view (a configuration, as a transcript shows it).
 
 ghost use Rattle.std.specs.Prelude.{◌≡◌, ◌∷◌, ◌++◌, OnOk};
 ghost use Rattle.std.specs.Fmt.{decimal};

@@ -1,4 +1,4 @@
-//! Names, and bytes as they are.
+//! Appends names, and bytes without a change.
 
 ghost use Rattle.std.specs.Prelude.{◌≡◌, ◌∷◌, ◌++◌, [], OnOk};
 ghost use Rattle.smx_words.specs.Spellable.{FitsName};
