@@ -1,4 +1,4 @@
-//! The laws of both texts, in each version.
+//! The laws of both texts (programs and transcripts), in each version.
 
 ghost use Rattle.std.specs.Prelude.{◌≡◌, ◌≢◌, ◌<◌, ◌≤◌, List, ℕ, Result, Ok, MatchResult, IfErr, length};
 ghost use Rattle.smx_types.specs.ProgramLists.{AreWithinLimits, ProgramLists};
@@ -34,14 +34,14 @@ pub fn one_text_has_one_reading()
         → IfErr r (λ f. f.cause ≢ NoMemory) → IfErr s (λ f. f.cause ≢ NoMemory) → r ≡ s }
 {}
 
-/// A reader can return a result other than out of memory for any bytes.
+/// For any bytes, there is a result other than out of memory that a reader may return.
 pub fn each_text_has_a_reading()
     ensures { (bytes : List ℕ) → (r : Result ProgramLists TextFault)
         × ReadsAny programs_grammar bytes r × IfErr r (λ f. f.cause ≢ NoMemory) }
 {}
 
-/// A reader reports out of memory only at a line before the fault or, if the text spells some programs, before the line
-/// `end`. So out of memory hides no fault.
+/// If a text has a fault, a reader may report out of memory only at an earlier line. If a text spells some programs, a
+/// reader may report out of memory only at a line before `end`. So out of memory hides no fault.
 pub fn want_of_memory_comes_before()
     ensures { (version : Version) (bytes : List ℕ) (line : ℕ) (r : Result ProgramLists TextFault)
         → IsFault (programs_grammar version) bytes line NoMemory → ReadsAny programs_grammar bytes r
@@ -80,14 +80,14 @@ pub fn one_transcript_has_one_reading()
         → IfErr r (λ f. f.cause ≢ NoMemory) → IfErr s (λ f. f.cause ≢ NoMemory) → r ≡ s }
 {}
 
-/// A reader can return a result other than out of memory for any bytes.
+/// For any bytes, there is a result other than out of memory that a reader may return.
 pub fn each_transcript_has_a_reading()
     ensures { (bytes : List ℕ) → (r : Result Transcript TextFault)
         × ReadsAny transcript_grammar bytes r × IfErr r (λ f. f.cause ≢ NoMemory) }
 {}
 
-/// A reader reports out of memory only at a line before the fault or, if the text spells a transcript, before the line
-/// `end`. So out of memory hides no fault.
+/// If a text has a fault, a reader may report out of memory only at an earlier line. If a text spells a transcript, a
+/// reader may report out of memory only at a line before `end`. So out of memory hides no fault.
 pub fn transcript_want_of_memory_comes_before()
     ensures { (version : Version) (bytes : List ℕ) (line : ℕ) (r : Result Transcript TextFault)
         → IsFault (transcript_grammar version) bytes line NoMemory → ReadsAny transcript_grammar bytes r

@@ -1,4 +1,4 @@
-//! The texts of a STREAMS multiplexer: the one spelling of each value, its reader and its writer.
+//! Reads and writes the two texts of muxsim, programs and transcripts. Each value has exactly one text.
 #![tactic(auto)]
 
 pub mod laws;

@@ -13,9 +13,9 @@ use memchr::memchr;
 use smx_types::Version;
 use std::alloc::Global;
 
-// A value that grows line by line. The lines that have been read so far spell it.
+// The value of the lines of a text that were read so far. It grows line by line.
 pub trait Draft: Drop {
-    // The value of a whole text.
+    // The type of the value of a whole text.
     type Whole: Drop;
 
     ghost Line: { Type 0 };
@@ -33,7 +33,7 @@ pub trait Draft: Drop {
     fn header(version: Version) -> &'static [u8]
         ensures { result.now ≡ header (grammar version) };
 
-    // Begins a text of this version.
+    // Makes a draft without lines, for a text of this version.
     fn begin(alloc: Global, version: Version) -> Self
         ensures none { lines result ≡ [] }
         ensures version { version_of result ≡ version };
@@ -88,7 +88,7 @@ pub fn read<D: Draft>(alloc: Global, bytes: &[u8]) -> Result<D::Whole, TextFault
     }
 }
 
-// Parses the header. Returns its version and the bytes after it.
+// Parses the header. Returns the version that it names, and the bytes after the line of the header.
 fn after_header<D: Draft>(bytes: &[u8]) -> Result<(Version, &[u8]), TextFault>
     ensures ok { IfOk result (λ x. bytes.now ≡ header (D.grammar x.0) ++ LINE_FEED ∷ x.1.now) }
     ensures err { IfErr result (λ f. (v : AnyVersion) → IsFault (D.grammar v) bytes.now f.line f.cause) }
@@ -105,7 +105,8 @@ fn after_header<D: Draft>(bytes: &[u8]) -> Result<(Version, &[u8]), TextFault>
     Err(Cause::Header.at(1))
 }
 
-// Returns the value of a text, if it may end at this line and no byte follows it.
+// Ends a text at line `number`, which is `end`. Returns the value of the text. Fails if the text may not end there, or
+// if a byte follows the line.
 fn ended<D: Draft>(draft: D, after: &[u8], number: usize) -> Result<D::Whole, TextFault>
     requires begun { IsBegun (D.grammar (D.version_of draft)) (D.lines draft) }
     requires room { number < 2 ^ 64 - 1 }

@@ -10,18 +10,18 @@ use std::fmt;
 /// The cause of a fault at a line of a text.
 #[derive(Clone, Copy, Debug, PartialEq, Eq)]
 pub enum Cause {
-    /// The first line is whole and is not the header.
+    /// The first line ends with a line feed, and is not the header.
     Header,
-    /// The line is whole, but it is not one of the lines allowed there.
+    /// The line ends with a line feed, but is not one of the lines that are allowed there.
     Form,
     /// The line is well-formed, but the limit for lines of its kind is reached.
     Many,
-    /// The line has no line feed: the input ends within the line, or at its start, before the line `end`.
+    /// The line has no line feed: the input ends within the line, or at its start. No earlier line is `end`.
     Cut,
     /// A byte follows the line `end`.
     Trailing,
-    /// An allocation failed while the line was read. The line is well-formed, allowed there and within the limit, so
-    /// that out of memory hides no other cause.
+    /// An allocation failed while the line was read. The line is well-formed, allowed there and within the limit. So
+    /// out of memory hides no other cause.
     NoMemory,
 }
 

@@ -1,4 +1,5 @@
-//! The pieces of a transcript's text: its opening, its view, and the text around the lines of its entries.
+//! Writes the pieces of a transcript's text: its opening (header and drivers), the lines of its entries, and its view
+//! (the configuration at the end).
 
 ghost use Rattle.std.specs.Prelude.{◌≡◌, ◌∷◌, ◌++◌, [], List, IfOk, OnOk};
 ghost use Rattle.std.specs.List.{AllByRecursion};
@@ -13,8 +14,8 @@ ghost use Rattle.smx_words.specs.Words.{LINE_FEED};
 use smx_types::{Command, ConfigView, DriverSpec, NoMemory, Process, Reply, Version};
 use smx_words::{write_entry, write_lines, write_next};
 
-/// Appends the line of one more entry to the lines of the earlier entries. Fails only if out of memory; `lines` may
-/// then contain a part of the line.
+/// Appends the line of one more entry to the lines of the earlier entries. Fails only if out of memory. `lines` may
+/// then contain a part of the new line.
 pub fn add_entry_line(
     lines: &mut Vec<u8>,
     process: Process,
@@ -38,7 +39,7 @@ pub fn finish_transcript(
 ) -> Result<Vec<u8>, NoMemory>
     ensures written { IfOk result (λ v. (entries : List AnyEntry) → AreEntryLines entries lines.items
         → v.items ≡ transcript_text (transcript_with version drivers.now entries view.now)) }
-    // The text can be read back, if the transcript is within the limits and its version can express it.
+    // So the text can be read back if the transcript is within the limits and its version can express it.
     ensures spellable { OnOk result ((entries : List AnyEntry) → AreEntryLines entries lines.items
         → IsSpellable (transcript_with version drivers.now entries view.now)) }
 {
@@ -51,8 +52,8 @@ pub fn finish_transcript(
     Ok(text)
 }
 
-/// Writes the opening of a transcript, which is its header and a line for each driver. Reuses the allocation of
-/// `room` and discards its bytes. Fails only if out of memory.
+/// Writes the opening of a transcript: its header and a line for each driver. Discards the bytes of `room`, and writes
+/// into its allocation. Fails only if out of memory.
 pub fn transcript_opening(
     room: Vec<u8>,
     version: Version,
@@ -90,8 +91,8 @@ fn transcript_header(version: Version) -> &'static [u8]
     }
 }
 
-/// Appends the lines of a view to `out`: first `config`, then its groups in their order. Fails only if out of memory;
-/// `out` may then contain some of the lines.
+/// Appends the lines of a view to `out`: first `config` and `next`, then the groups of lines (descriptors, links and so
+/// on) in their order. Fails only if out of memory. `out` may then contain some of the lines.
 pub fn write_view(out: &mut Vec<u8>, view: &ConfigView) -> Result<(), NoMemory>
     ensures written { OnOk result (out.new.items ≡ out.old.items ++ view_lines view.now) }
     ensures spellable { OnOk result (IsSpellableView view.now) }

@@ -1,5 +1,5 @@
-//! Worked texts: some with the values that they spell, and others with their faults, as in the examples of
-//! `docs/FORMATS.md`.
+//! Example texts, which are proved by computation: valid texts with the values that they spell, and invalid texts with
+//! their faults, as in the examples of `docs/FORMATS.md`.
 
 ghost use Rattle.std.specs.Prelude.{[], codes};
 ghost use Rattle.smx_text.specs.declared.text_fault.Cause.TheVariants.{Header, Form, Many, Cut, Trailing};
@@ -12,14 +12,15 @@ ghost use Rattle.smx_text.specs.WorkedTexts.{transcript_of_hangups_bytes, shorte
 ghost use Rattle.smx_text.specs.WorkedFaults.{AreWrongPrograms, IsWrongTranscript, with_line_3, with_line_4};
 ghost use Rattle.smx_text.specs.WorkedFaults.{with_line_5, with_processes, with_drivers};
 
-/// Texts with each kind of line, command and reply of version 1, and the shortest text of programs.
+/// Valid texts that have each kind of line, command and reply of version 1, and the shortest programs text.
 pub fn right_texts()
     ensures each_command { SpellsPrograms programs_bytes programs }
     ensures shortest { SpellsPrograms (codes "programs 1\nend\n") (program_lists [] []) }
     ensures each_reply { SpellsTranscript transcript_bytes transcript }
 {}
 
-/// Texts of version 2: with each kind of line, command and reply that only version 2 has, and without any of these.
+/// Valid texts of version 2. Two of them have each kind of line, command and reply that only version 2 has. The
+/// shortest texts have none of these.
 pub fn right_texts_of_version_2()
     ensures hangups { SpellsPrograms hangups_bytes hangups }
     ensures shortest { SpellsPrograms (codes "programs 2\nend\n") (raised (program_lists [] [])) }
@@ -28,8 +29,9 @@ pub fn right_texts_of_version_2()
         (codes "transcript 2\nconfig\nnext 1 1\nend\n") shortest_transcript }
 {}
 
-/// A number has no leading zero, no sign and at most 32 bits. A name begins with a letter and is not too long. Bytes
-/// are pairs of lower-case digits. Each word is at its place, with exactly one space between two words.
+/// Programs texts with a malformed command line. A number has no leading zero, no sign and at most 32 bits. A name
+/// begins with a letter, and nine letters are too many. Bytes are pairs of lower-case hex digits. No word is missing,
+/// and there is exactly one space between two words.
 pub fn wrong_commands()
     ensures two_zeros { AreWrongPrograms (with_line_4 (codes "dup 00")) 4 Form }
     ensures a_sign { AreWrongPrograms (with_line_4 (codes "dup +1")) 4 Form }
@@ -47,7 +49,8 @@ pub fn wrong_commands()
     ensures no_word { AreWrongPrograms (with_line_4 []) 4 Form }
 {}
 
-/// Each line is at its place; a text has its header and its end, and nothing after the end.
+/// Invalid programs texts. Each line must be allowed where it is. A text needs its header and the line `end`, and
+/// nothing may follow `end`.
 pub fn wrong_programs()
     ensures nothing { AreWrongPrograms [] 1 Cut }
     ensures cut_header { AreWrongPrograms (codes "programs 1") 1 Cut }
@@ -65,8 +68,8 @@ pub fn wrong_programs()
     ensures a_space_behind { AreWrongPrograms (codes "programs 1\nprocess 0\nend\n ") 4 Trailing }
 {}
 
-/// A process is below 64, and a reply is one of the replies. Entries come before the configuration, and
-/// groups in order.
+/// Invalid transcripts. The number of a process is below 64. A reply is one of the replies that exist.
+/// Entries come before the configuration, and the groups of the configuration come in their order.
 pub fn wrong_transcripts()
     ensures other_header { IsWrongTranscript (codes "programs 1\nend\n") 1 Header }
     ensures version_3 { IsWrongTranscript (codes "transcript 3\n") 1 Header }
@@ -83,7 +86,8 @@ pub fn wrong_transcripts()
     ensures no_end { IsWrongTranscript (codes "transcript 1\nconfig\nnext 1 1\n") 4 Cut }
 {}
 
-/// No text of version 1 has a hangup, or a 65th driver. In version 2 the 129th driver is over the limit.
+/// Texts that are invalid in their version. No text of version 1 has a hangup, a reply that reports one, or a hung-up
+/// stream. In version 1 the 65th driver is over the limit, and in version 2 the 129th.
 pub fn wrong_for_their_version()
     ensures hangup { AreWrongPrograms (with_line_4 (codes "hangup ip 0")) 4 Form }
     ensures hangup_in_version_1 { IsWrongTranscript (with_line_3 (codes "0 hangup ip 0 = done")) 3 Form }

@@ -1,4 +1,4 @@
-//! Writing texts.
+//! Writes programs and transcripts as texts.
 
 ghost use Rattle.std.specs.Prelude.{◌≡◌, ◌<◌, ◌^◌, ◌∷◌, ◌++◌, [], length, map, IfOk, OnOk};
 ghost use Rattle.std.specs.List.{AllByRecursion};
@@ -15,10 +15,10 @@ use smx_types::{Commands, NoMemory, Programs, Transcript, Version};
 use smx_words::{write_lines, write_process};
 use std::alloc::Global;
 
-/// Writes the one text of these programs. Fails only if out of memory.
+/// Writes the text of these programs. (Each value has exactly one text.) Fails only if out of memory.
 pub fn write_programs(alloc: Global, programs: &Programs) -> Result<Vec<u8>, NoMemory>
     ensures written { IfOk result (λ v. v.items ≡ programs_text programs.now) }
-    // The text can be read back, whatever these programs are.
+    // So the text of any programs can be read back.
     ensures allowed { OnOk result (IsAllowed programs.now.version programs.now) }
 {
     let mut out = Vec::from_slice(alloc, first_line(programs.version()))?;
@@ -38,11 +38,12 @@ fn first_line(version: Version) -> &'static [u8]
     }
 }
 
-/// Writes the one text of this transcript, which its version must be able to express. Fails only if out of memory.
+/// Writes the text of this transcript. (Each value has exactly one text.) The version of the transcript must be able to
+/// express the transcript. Fails only if out of memory.
 pub fn write_transcript(alloc: Global, transcript: &Transcript) -> Result<Vec<u8>, NoMemory>
     requires { transcript.now.version ≡ V1 → least_of_transcript transcript.now ≡ V1 }
     ensures written { IfOk result (λ v. v.items ≡ transcript_text transcript.now) }
-    // The text can be read back, if the transcript is within the limits.
+    // So the text can be read back if the transcript is within the limits.
     ensures spellable { OnOk result (IsSpellable transcript.now) }
 {
     let mut lines = Vec::new(alloc);
@@ -52,7 +53,7 @@ pub fn write_transcript(alloc: Global, transcript: &Transcript) -> Result<Vec<u8
     Ok(text)
 }
 
-// Writes each program after the line of its process.
+// For each program, appends the line of its process and then the lines of its commands.
 fn write_each(out: &mut Vec<u8>, programs: &[Commands]) -> Result<(), NoMemory>
     requires { length programs.now < 2 ^ 32 }
     ensures written { OnOk result (out.new.items

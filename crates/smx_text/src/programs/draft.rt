@@ -1,4 +1,4 @@
-//! Programs that are being read.
+//! The draft of a programs text: the value of the lines read so far, to which lines are added one by one.
 
 ghost use Rattle.std.specs.Prelude.{◌≡◌, ◌≢◌, ◌<◌, codes, length, OnOk, IfErr};
 ghost use Rattle.std.specs.List.{sum_by};
@@ -22,7 +22,7 @@ use smx_words::{command_of, driver_of, process_of};
 use std::alloc::Global;
 use std::marker::Model;
 
-// The drivers and programs read so far, and the number of their commands.
+// The drivers and programs read so far, and the number of commands in all these programs.
 #[derive(Debug, Drop)]
 pub struct ProgramsDraft {
     version: Version,
@@ -96,7 +96,7 @@ impl Draft for ProgramsDraft {
     ghost end_is = { λ v. refl };
 }
 
-// Makes programs of this version.
+// Makes a `Programs` of this version from the two lists.
 fn in_version(version: Version, drivers: Drivers, programs: ProgramList) -> Programs
     requires { AreWithinLimits (record { version = version; drivers = drivers; programs = programs }) }
     ensures { result ≡ record { version = version; drivers = drivers; programs = programs } }
@@ -111,7 +111,7 @@ fn in_version(version: Version, drivers: Drivers, programs: ProgramList) -> Prog
 }
 
 impl ProgramsDraft {
-    // Adds a line other than a command.
+    // Adds a line that is not a command.
     fn add_other(&mut self, alloc: Global, text: &[u8]) -> Result<(), Cause>
         requires begun { IsBegun (programs_grammar self.old.version) (body self.old) }
         requires no_command { IsNoCommandLine self.old.version text.now }
@@ -129,7 +129,7 @@ impl ProgramsDraft {
         }
     }
 
-    // Drivers come before all processes.
+    // Adds a driver. All drivers come before all processes.
     fn add_driver(&mut self, driver: DriverSpec) -> Result<(), Cause>
         requires begun { IsBegun (programs_grammar self.old.version) (body self.old) }
         requires fits { FitsDriver driver }
@@ -147,7 +147,7 @@ impl ProgramsDraft {
         Ok(())
     }
 
-    // Processes are numbered from 0 on, in order.
+    // Adds a process without commands. Processes are numbered from 0, in order.
     fn add_process(&mut self, alloc: Global, number: u32) -> Result<(), Cause>
         requires begun { IsBegun (programs_grammar self.old.version) (body self.old) }
         ensures answers { AnswersLine (programs_grammar self.old.version) (body self.old) (ProcessLine number)
@@ -164,7 +164,7 @@ impl ProgramsDraft {
         Ok(())
     }
 
-    // A command belongs to the process whose line came last.
+    // Adds a command to the process whose line came last.
     fn add_command(&mut self, command: Command) -> Result<(), Cause>
         requires begun { IsBegun (programs_grammar self.old.version) (body self.old) }
         requires fits { FitsCommandIn self.old.version command }
@@ -179,7 +179,7 @@ impl ProgramsDraft {
         Ok(())
     }
 
-    // Fails if no command may follow, or if one would be over the limit.
+    // Fails if the next line may not be a command, or if one more command would be over the limit.
     fn room_for_command(&self) -> Result<(), Cause>
         ensures some { OnOk result (0 < length self.now.programs) }
         ensures few { OnOk result (sum_by length self.now.programs < MAX_COMMANDS) }

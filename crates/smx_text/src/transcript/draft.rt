@@ -1,4 +1,4 @@
-//! A transcript that is being read.
+//! The draft of a transcript: the value of the lines read so far, to which lines are added one by one.
 
 ghost use Rattle.std.specs.Prelude.{◌≡◌, ◌≢◌, ◌<◌, [], length, OnOk, IfErr};
 ghost use Rattle.smx_types.specs.declared.command.Entry.{Entry as AnyEntry};
@@ -21,12 +21,12 @@ use smx_types::{
 use smx_words::{driver_of, entry_of, message_of, next_of};
 use std::alloc::Global;
 
-// How much of a transcript was read.
+// How far a transcript was read.
 #[derive(Clone, Copy, Debug, PartialEq, Eq)]
 pub enum Stage {
-    // Drivers and entries may follow.
+    // The line `config` was not read yet: drivers and entries may follow.
     History,
-    // The line `config` was the last one.
+    // The line read last is `config`.
     Config,
     // The line `next` was read.
     View,
@@ -122,7 +122,7 @@ fn new_view(alloc: Global, next_id: u32, next_serial: u32) -> ConfigView
 }
 
 impl TranscriptDraft {
-    // Adds a line other than an entry.
+    // Adds a line that is not an entry.
     fn add_other(&mut self, alloc: Global, text: &[u8]) -> Result<(), Cause>
         requires begun { IsBegun (grammar_of self.old) (lines self.old) }
         requires no_entry { (e : AnyEntry) → FitsEntryIn self.old.transcript.version e
@@ -150,7 +150,7 @@ impl TranscriptDraft {
         }
     }
 
-    // Drivers come before all entries.
+    // Adds a driver. All drivers come before all entries.
     fn add_driver(&mut self, driver: DriverSpec) -> Result<(), Cause>
         requires begun { IsBegun (grammar_of self.old) (lines self.old) }
         requires fits { FitsDriver driver }
@@ -168,7 +168,7 @@ impl TranscriptDraft {
         Ok(())
     }
 
-    // Entries come before the configuration.
+    // Adds an entry. All entries come before the configuration.
     fn add_entry(&mut self, entry: Entry) -> Result<(), Cause>
         requires begun { IsBegun (grammar_of self.old) (lines self.old) }
         requires fits { FitsEntryIn self.old.transcript.version entry }
@@ -181,7 +181,7 @@ impl TranscriptDraft {
         Ok(())
     }
 
-    // Fails if no entry may follow, or if one would be over the limit.
+    // Fails if the next line may not be an entry, or if one more entry would be over the limit.
     fn room_for_entry(&self) -> Result<(), Cause>
         ensures history { OnOk result (self.now.stage ≡ History) }
         ensures few { OnOk result (length self.now.transcript.entries < MAX_COMMANDS) }
@@ -197,7 +197,7 @@ impl TranscriptDraft {
         Ok(())
     }
 
-    // The configuration comes after the entries.
+    // Adds the line `config`, which comes after all entries.
     fn add_config(&mut self) -> Result<(), Cause>
         requires begun { IsBegun (grammar_of self.old) (lines self.old) }
         ensures answers { AnswersLine (grammar_of self.old) (lines self.old) ConfigLine
@@ -211,7 +211,7 @@ impl TranscriptDraft {
         Ok(())
     }
 
-    // The view starts with the next id and serial.
+    // Adds the line `next` (the next id and the next serial), which comes right after `config`.
     fn add_next(&mut self, alloc: Global, next_id: u32, next_serial: u32) -> Result<(), Cause>
         requires begun { IsBegun (grammar_of self.old) (lines self.old) }
         ensures answers { AnswersLine (grammar_of self.old) (lines self.old) (NextLine next_id next_serial)

@@ -1,4 +1,5 @@
-//! The groups of the configuration in a transcript that is being read: each group comes after the ones before it.
+//! Adds the lines after `next` to the draft of a transcript. They come in groups, in this order: descriptors, links,
+//! bindings, routes, messages, full places, hung-up streams.
 
 ghost use Rattle.std.specs.Prelude.{◌≡◌, ◌≢◌, ◌∷◌, ◌++◌, [], ℕ, true, OnOk, IfErr, if◌then◌else◌};
 ghost use Rattle.smx_types.specs.declared.command.Entry.{Entry as AnyEntry};
@@ -32,7 +33,7 @@ impl TranscriptDraft {
         }
     }
 
-    // Adds a line of a group of the view, except a message.
+    // Adds a line of one of the groups, except the group of messages.
     pub fn add_to_group(&mut self, text: &[u8]) -> Result<(), Cause>
         requires begun { IsBegun (grammar_of self.old) (lines self.old) }
         requires no_entry { (e : AnyEntry) → FitsEntryIn self.old.transcript.version e
@@ -77,49 +78,49 @@ impl TranscriptDraft {
         push_if(self.takes_msgs(), &mut self.transcript.view.msgs, message)
     }
 
-    // Returns whether a hung-up stream may follow: `next` was read, and this is the last group.
+    // Returns whether a hung-up stream may follow: `next` was read. (No group comes after the hung-up streams.)
     fn takes_hungs(&self) -> bool
         ensures { result ≡ takes_hungs self.now }
     {
         self.stage == Stage::View
     }
 
-    // Returns whether a full place may follow: the later group is empty.
+    // Returns whether a full place may follow: `next` was read, and the later group has no line yet.
     fn takes_fulls(&self) -> bool
         ensures { result ≡ takes_fulls self.now }
     {
         self.takes_hungs() && self.transcript.view.hungs.as_slice().is_empty()
     }
 
-    // Returns whether a message may follow: the later groups are empty.
+    // Returns whether a message may follow: `next` was read, and the later groups have no line yet.
     pub fn takes_msgs(&self) -> bool
         ensures { result ≡ takes_msgs self.now }
     {
         self.takes_fulls() && self.transcript.view.fulls.as_slice().is_empty()
     }
 
-    // Returns whether a route may follow: the later groups are empty.
+    // Returns whether a route may follow: `next` was read, and the later groups have no line yet.
     fn takes_routes(&self) -> bool
         ensures { result ≡ takes_routes self.now }
     {
         self.takes_msgs() && self.transcript.view.msgs.as_slice().is_empty()
     }
 
-    // Returns whether a binding may follow: the later groups are empty.
+    // Returns whether a binding may follow: `next` was read, and the later groups have no line yet.
     fn takes_binds(&self) -> bool
         ensures { result ≡ takes_binds self.now }
     {
         self.takes_routes() && self.transcript.view.routes.as_slice().is_empty()
     }
 
-    // Returns whether a link may follow: the later groups are empty.
+    // Returns whether a link may follow: `next` was read, and the later groups have no line yet.
     fn takes_links(&self) -> bool
         ensures { result ≡ takes_links self.now }
     {
         self.takes_binds() && self.transcript.view.binds.as_slice().is_empty()
     }
 
-    // Returns whether a descriptor may follow: the later groups are empty.
+    // Returns whether a descriptor may follow: `next` was read, and the later groups have no line yet.
     fn takes_fds(&self) -> bool
         ensures { result ≡ takes_fds self.now }
     {
@@ -127,7 +128,7 @@ impl TranscriptDraft {
     }
 }
 
-// Appends a line to its group, if it may follow.
+// Appends a line to its group if `takes` is true. Otherwise fails with `Form`.
 fn push_if<T: Drop>(takes: bool, group: &mut Items<T>, line: T) -> Result<(), Cause>
     ensures pushed { OnOk result ((takes ≡ true) × (group.new ≡ group.old ++ line ∷ [])) }
     ensures refused { IfErr result (λ why. why ≡ if takes then NoMemory else Form) }
