@@ -14,8 +14,8 @@ pub fn prefixes_are_legal()
         → IsLegal drivers early }
 {}
 
-/// After one more entry, the configuration is one step further, and the history stays legal if the entry has the
-/// reply of its command.
+/// If an entry is appended to a history, the configuration is one step further. A legal history stays legal if the
+/// reply of the entry is the one that this step gives.
 #[tactic(auto, using(crate::proofs::HistoryLemmas::after_push, crate::proofs::HistoryLemmas::legal_push))]
 pub fn one_entry_more()
     ensures after { (drivers : List DriverSpec) (history : List Entry) (e : Entry)
@@ -24,15 +24,15 @@ pub fn one_entry_more()
         → (step drivers (after drivers history) e.process e.command).1 ≡ e.reply → IsLegal drivers (history ++ e ∷ []) }
 {}
 
-/// Commands in a given order have only one legal history: they determine their replies.
+/// Commands in a given order have at most one legal history: the commands determine the replies.
 #[tactic(auto, using(crate::proofs::HistoryLemmas::determined))]
 pub fn histories_are_determined()
     ensures { (drivers : List DriverSpec) (one other : List Entry) → IsLegal drivers one → IsLegal drivers other
         → map call_of one ≡ map call_of other → one ≡ other }
 {}
 
-/// A legal history is lawful after each entry. Then there is no cycle, and no stream is below two links. Each message
-/// that was accepted was delivered, was dropped or is queued, exactly one of these, once.
+/// A legal history is lawful after each entry: there is no cycle, and no stream is below two links. Each message that
+/// was accepted was delivered, was dropped or is queued: exactly one of the three, and once.
 pub fn lawful_after_each_entry()
     ensures { (drivers : List DriverSpec) (history : List Entry) → IsLegal drivers history
         → IsLawfulThroughout drivers history }

@@ -9,9 +9,9 @@ ghost use Rattle.smx_model.specs.Histories.{after, IsLegal};
 ghost use Rattle.smx_model.specs.LawfulHistories.{IsTakenIn};
 ghost use Rattle.smx_model.specs.Worked.Unlawful.{opened, wrote};
 
-/// A message arrives whole: a delivered message has the serial, the address and the bytes of an earlier entry. The
-/// command of that entry wrote or injected these bytes to this address, and the reply has this serial. The same holds
-/// of queued messages.
+/// In a legal history, messages arrive whole. For each delivered message, an earlier entry accepted it: the command of
+/// that entry wrote or injected the bytes of the message to its address, and the reply has its serial. Some entry also
+/// accepted each message that is queued at the end.
 pub fn messages_arrive_whole()
     ensures delivered { (drivers : List DriverSpec) (early late : List Entry) (e : Entry) (serial addr : ℕ)
         (bytes : List ℕ)
@@ -21,8 +21,8 @@ pub fn messages_arrive_whole()
         → All (λ h. IsTakenIn history h.message) (after drivers history).flow }
 {}
 
-/// No entry of the example accepted a message whose serial, address or bytes differ from those of the message that was
-/// written. Nor was that message accepted before it was written.
+/// In the example, one message is written. No entry accepted a message with another serial, another address or other
+/// bytes. Nor did an entry accept the message before it was written.
 pub fn others_were_not_taken_in()
     ensures other_serial { IsTakenIn (opened ∷ wrote ∷ []) (record { serial = 2; addr = 5; bytes = 170 ∷ [] }) → ⊥ }
     ensures other_address { IsTakenIn (opened ∷ wrote ∷ []) (record { serial = 1; addr = 6; bytes = 170 ∷ [] }) → ⊥ }

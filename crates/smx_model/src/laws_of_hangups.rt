@@ -21,7 +21,7 @@ ghost use Rattle.smx_model.specs.KeptConfigurations.{IsKept};
 ghost use Rattle.smx_model.specs.Lookups.{leaf_stream};
 ghost use Rattle.smx_model.specs.Standing.{exists};
 
-/// A hangup drops and moves nothing: afterwards its stream is hung up, and everything else is unchanged. A second
+/// A hangup drops and moves no message: afterwards the stream is hung up, and everything else is unchanged. A second
 /// hangup of the stream changes nothing at all.
 pub fn hangups_change_nothing_else()
     ensures first { (drivers : List DriverSpec) (c : Configuration) (process : ℕ) (name : List ℕ) (minor : ℕ)
@@ -33,15 +33,16 @@ pub fn hangups_change_nothing_else()
         → step drivers c process (command.Hangup name minor) ≡ (c, reply.Done []) }
 {}
 
-/// No other command hangs up a stream. After such a command, exactly those streams are hung up that were so before and
-/// still exist.
+/// A command other than `hangup` hangs up no stream. After the command, a stream is hung up exactly if it was hung up
+/// before and still exists.
 pub fn hung_up_streams_go_with_their_end()
     ensures { (drivers : List DriverSpec) (c : Configuration) (process : ℕ) (k : Command) → IsKept drivers c
         → is_hangup k ≡ false → (step drivers c process k).0.hungs
         ≡ filter (λ s. exists drivers (step drivers c process k).0 s) c.hungs }
 {}
 
-/// A history without a hangup has no end of file, and no refusal because of a hangup. At its end no stream is hung up.
+/// A legal history without a command `hangup` has no reply `Eof` and no refusal `HungUp`. At the end of any history
+/// without a command `hangup`, no stream is hung up.
 pub fn without_a_hangup_none_is_reported()
     ensures replies { (drivers : List DriverSpec) (history : List Entry) → IsLegal drivers history
         → list_any (λ e. is_hangup e.command) history ≡ false → list_any is_of_hangup history ≡ false }
@@ -49,7 +50,7 @@ pub fn without_a_hangup_none_is_reported()
         → list_any (λ e. is_hangup e.command) history ≡ false → (after drivers history).hungs ≡ [] }
 {}
 
-/// So version 1 can express a report if it can express the programs.
+/// So version 1 of the texts can express a report if it can express the programs.
 #[tactic(auto, using(crate::proofs::QuietHistoryLemmas::report_is_quiet))]
 pub fn reports_need_no_later_version()
     ensures { (programs : ProgramLists) (report : Transcript) → IsReportOf programs report

@@ -7,7 +7,7 @@ ghost use Rattle.smx_model.specs.Histories.{IsLegal};
 ghost use Rattle.smx_model.specs.IllegalEntries.{IsFirstIllegal};
 ghost use Rattle.smx_model.specs.Worked.SecondIsIllegal.{drivers, history};
 
-/// A history is legal or has a first illegal entry, and not both. The number of that entry is unique.
+/// A history is legal, or it has a first illegal entry, and never both. It has at most one first illegal entry.
 pub fn legal_or_first_illegal()
     ensures either { (drivers : List DriverSpec) (entries : List Entry)
         → IsLegal drivers entries ⊎ ((number : ℕ) × IsFirstIllegal drivers entries number) }
@@ -17,8 +17,8 @@ pub fn legal_or_first_illegal()
         → IsFirstIllegal drivers entries n → m ≡ n }
 {}
 
-/// In the example it is the second entry: the first and the fourth are correct, and the third is wrong too,
-/// but not first.
+/// In the example, the second entry is the first illegal one. The first and the fourth entry have the correct replies.
+/// The third entry is wrong too, but it is not the first wrong one.
 #[tactic(auto, using(crate::proofs::IllegalEntryLemmas::second_is))]
 pub fn the_second_is_the_first_illegal()
     ensures second { IsFirstIllegal drivers history 2 }

@@ -1,4 +1,5 @@
-//! Laws of the water marks, each the contract of a function that does nothing.
+//! A law of full places (whose queues have reached the high water mark), as the contract of a function that does
+//! nothing.
 
 ghost use Rattle.std.specs.Prelude.{ℕ, List};
 ghost use Rattle.smx_types.specs.declared.command.Command.{Command};
@@ -7,7 +8,7 @@ ghost use Rattle.smx_model.specs.Commands.{step};
 ghost use Rattle.smx_model.specs.Configuration.{Configuration, empty};
 ghost use Rattle.smx_model.specs.FreedPlaces.{HaveFullPlacesMessages};
 
-/// A full place has messages: this holds of the empty configuration, and each command preserves it.
+/// A full place has messages. This is so in the empty configuration, and each command preserves it.
 #[tactic(auto, using(crate::proofs::FullPlaceLemmas::empty_filled, crate::proofs::FullPlaceLemmas::step_filled))]
 pub fn full_places_have_messages()
     ensures empty { HaveFullPlacesMessages empty }

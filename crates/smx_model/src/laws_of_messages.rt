@@ -8,20 +8,20 @@ ghost use Rattle.smx_model.specs.Histories.{after, IsLegal};
 ghost use Rattle.smx_model.specs.LawfulHistories.{taken_serials, AreDropsAllowed};
 ghost use Rattle.smx_model.specs.Settling.{IsSettled};
 
-/// In a legal history serials count from 1.
+/// In a legal history, the accepted messages have the serials 1, 2, 3 and so on, in order.
 #[tactic(auto, using(crate::proofs::ConservationLemmas::numbered_from_one))]
 pub fn serials_count_from_one()
     ensures { (drivers : List DriverSpec) (history : List Entry) → IsLegal drivers history
         → taken_serials history ≡ range_with_len 1 (length (taken_serials history)) }
 {}
 
-/// In a legal history only unlink, punlink, close, exit and flush name dropped messages.
+/// In a legal history, only the replies to `unlink`, `punlink`, `close`, `exit` and `flush` name dropped messages.
 #[tactic(auto, using(crate::proofs::DropLemmas::few_drop))]
 pub fn few_commands_drop()
     ensures { (drivers : List DriverSpec) (history : List Entry) → IsLegal drivers history → AreDropsAllowed history }
 {}
 
-/// After any commands no message can move: the moves of settling suffice.
+/// After any commands no message can move: settling makes enough moves.
 pub fn settling_ends()
     ensures { (drivers : List DriverSpec) (history : List Entry) → IsSettled drivers (after drivers history) }
 {}

@@ -11,9 +11,10 @@ ghost use Rattle.smx_model.specs.Views.{view};
 ghost use Rattle.smx_model.specs.Worked.Reports.{another_exited, copied, exited, once_more, one, opened};
 ghost use Rattle.smx_model.specs.Worked.Reports.{programs, report_with, three, too_early, two};
 
-/// A report has the drivers of the programs, which are valid. It has a legal history that holds the programs, and the
-/// view of the final configuration. It follows that the history is lawful after each entry, and that only a few
-/// commands drop messages.
+/// A report has the drivers of the programs, which are valid. Its history is legal and holds the programs: it has the
+/// commands of each program, each once, in order, and no others. Its view is that of the final configuration. It
+/// follows that the history is lawful after each entry, and that only commands that may drop messages name dropped
+/// messages. A transcript is a report if everything before "It follows" holds (`enough`).
 pub fn reports_are_legal()
     ensures drivers { (programs : ProgramLists) (report : Transcript) → IsReportOf programs report
         → (report.drivers ≡ programs.drivers) × IsDriverList programs.drivers }
@@ -34,8 +35,8 @@ pub fn reports_are_legal()
         → IsReportOf programs report }
 {}
 
-/// Programs have at most one report for each order of their commands, apart from the version of its text: the order
-/// determines the drivers, replies and view.
+/// Programs have at most one report for each order of their commands, apart from the version of the report's text: the
+/// order determines the drivers, the replies and the view.
 #[tactic(auto, using(crate::proofs::ReportLemmas::one_report))]
 pub fn reports_are_determined()
     ensures { (programs : ProgramLists) (one other : Transcript) → IsReportOf programs one → IsReportOf programs other
@@ -48,8 +49,8 @@ pub fn the_example_is_a_report()
     ensures { IsReportOf programs (report_with (opened ∷ exited ∷ copied ∷ []) two) }
 {}
 
-/// A transcript that is wrong in one thing is not a report of the programs: a command is missing, done twice, exchanged
-/// or of another process, or there is another reply or another view.
+/// None of these transcripts is a report of the programs. Each is wrong in one thing: a command is missing, is done
+/// twice, has changed places with another one, or is of another process; or a reply or the view is another one.
 pub fn others_are_none()
     ensures left_out { IsReportOf programs (report_with (opened ∷ exited ∷ []) one) → ⊥ }
     ensures done_twice { IsReportOf programs (report_with (opened ∷ copied ∷ once_more ∷ exited ∷ []) three) → ⊥ }

@@ -15,14 +15,17 @@ ghost use Rattle.smx_model.specs.Removal.{after_sweep};
 ghost use Rattle.smx_model.specs.Settling.{after_settling};
 ghost use Rattle.smx_model.specs.Swept.{IsSwept};
 
-/// The outcome of an accepted command is sound before settling.
+/// If a configuration is sound, the outcome of an accepted command is sound too. The outcome is the new configuration
+/// before settling, that is, before its messages move on. Sound means: it satisfies the invariant of configurations,
+/// except that messages may be movable.
 #[tactic(auto, using(crate::proofs::KeptLemmas::outcome_sound))]
 pub fn outcomes_are_sound()
     ensures { (drivers : List DriverSpec) (c : Configuration) (process : ℕ) (command : Command) → IsSound drivers c
         → IfOk (outcome drivers c process command) (λ x. IsSound drivers x.0) }
 {}
 
-/// The outcome of an accepted command needs no further sweep.
+/// If a configuration is sound, another sweep of the outcome of an accepted command changes nothing. (A sweep removes
+/// everything that belongs to streams that don't exist.)
 pub fn outcomes_are_swept()
     ensures { (drivers : List DriverSpec) (c : Configuration) (process : ℕ) (command : Command) → IsSound drivers c
         → IfOk (outcome drivers c process command) (λ x. after_sweep drivers x.0 ≡ x.0) }
@@ -35,21 +38,24 @@ pub fn refusals_change_nothing()
         → (step drivers c process command).1 ≡ reply.Fault f → (step drivers c process command).0 ≡ c }
 {}
 
-/// If nothing belongs to streams that don't exist, only the commands that may drop messages name dropped ones.
+/// If nothing belongs to streams that don't exist, only the replies to commands that may drop messages name dropped
+/// messages.
 #[tactic(auto, using(crate::proofs::DropLemmas::step_drops))]
 pub fn other_commands_drop_none()
     ensures { (drivers : List DriverSpec) (c : Configuration) (process : ℕ) (command : Command) → IsSwept drivers c
         → dropped_by (step drivers c process command).1 ≢ [] → IsTrue (may_drop command) }
 {}
 
-/// If a change leaves nothing to sweep and keeps the flow, its command is done and no message is dropped.
+/// If a change leaves nothing to sweep and keeps the flow (all queued messages), its outcome is the changed
+/// configuration with the reply `Done`, which names no dropped message.
 #[tactic(auto, using(crate::proofs::DropLemmas::done_idle))]
 pub fn idle_changes_drop_none()
     ensures { (drivers : List DriverSpec) (c new : Configuration) → IsSwept drivers new → new.flow ≡ c.flow
         → done_outcome drivers c new ≡ Ok (new, reply.Done []) }
 {}
 
-/// Settling ends: after as many moves as there are messages times drivers no message can move.
+/// Settling a sound configuration makes at most as many moves as there are messages times drivers. Afterwards no
+/// message can move, and the configuration is still sound.
 #[tactic(auto, using(crate::proofs::KeptLemmas::settled_kept))]
 pub fn settling_suffices()
     ensures { (drivers : List DriverSpec) (c : Configuration) → IsSound drivers c

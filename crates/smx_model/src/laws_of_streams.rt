@@ -1,4 +1,4 @@
-//! Laws of streams and their parts, each the contract of a function that does nothing.
+//! Laws of the streams that exist, each the contract of a function that does nothing.
 
 ghost use Rattle.std.specs.Prelude.{◌≡◌, ◌↔◌, List, IsTrue};
 ghost use Rattle.smx_types.specs.declared.command.Entry.{Entry};
@@ -12,8 +12,10 @@ ghost use Rattle.smx_model.specs.SoundLinks.{AreLinksSound};
 ghost use Rattle.smx_model.specs.Standing.{exists, Stands};
 ghost use Rattle.smx_model.specs.Swept.{IsSwept};
 
-/// If there is no cycle, as many climbs as there are drivers find each stream that exists: no larger number of climbs
-/// finds another one. This also holds before a sweep.
+/// A climb is one step up, from a stream below an ordinary link to the controlling stream of the link. If links are
+/// sound (no cycle, no stream below two links) and the drivers have their controlling streams, as many climbs as there
+/// are drivers find each stream that exists: more climbs find no other stream. This also holds before a sweep, which
+/// removes everything that belongs to streams that don't exist.
 #[tactic(auto, using(crate::proofs::KeptLemmas::exists_is_stands))]
 pub fn climbs_suffice()
     ensures { (drivers : List DriverSpec) (c : Configuration) (s : StreamId) → AreLinksSound c.links
@@ -21,14 +23,14 @@ pub fn climbs_suffice()
         → (IsTrue (exists drivers c s) ↔ Stands c s) }
 {}
 
-/// The same holds after any commands.
+/// After any commands, as many climbs as there are drivers find each stream that exists.
 #[tactic(auto, using(crate::proofs::KeptLemmas::always_exists_is_stands))]
 pub fn climbs_always_suffice()
     ensures { (drivers : List DriverSpec) (history : List Entry) (s : StreamId)
         → (IsTrue (exists drivers (after drivers history) s) ↔ Stands (after drivers history) s) }
 {}
 
-/// Sweeping a swept configuration changes nothing.
+/// In a swept configuration, nothing belongs to streams that don't exist. Another sweep changes nothing in it.
 #[tactic(auto, using(crate::proofs::IdleSweepLemmas::swept_idle))]
 pub fn sweeping_again_changes_nothing()
     ensures { (drivers : List DriverSpec) (c : Configuration) → IsSwept drivers c → after_sweep drivers c ≡ c }

@@ -1,4 +1,4 @@
-//! Laws of unlawful histories, each the contract of a function that does nothing: examples that are wrong in one thing.
+//! Laws of unlawful histories, each the contract of a function that does nothing. Each example is wrong in one thing.
 
 ghost use Rattle.std.specs.Prelude.{[]};
 ghost use Rattle.smx_model.specs.LawfulHistories.{AreDropsAllowed, IsLawful, IsLawfulEnd, IsLawfulThroughout};
@@ -6,20 +6,22 @@ ghost use Rattle.smx_model.specs.Worked.Unlawful.{below_itself, below_two, deliv
 ghost use Rattle.smx_model.specs.Worked.Unlawful.{doubled, drivers, dropped_by_dup, dropped_twice, end_with};
 ghost use Rattle.smx_model.specs.Worked.Unlawful.{in_a_round, lost, never_taken, one_serial, renumbered, too_early};
 
-/// No history may end with a cycle: a driver below itself, or a cycle of three drivers.
+/// A final configuration with a cycle is unlawful. The examples are a driver below itself, and a cycle of three
+/// drivers.
 #[tactic(auto, using(crate::proofs::UnlawfulLemmas::alone, crate::proofs::UnlawfulLemmas::round))]
 pub fn cycles_are_unlawful()
     ensures alone { IsLawfulEnd [] (end_with below_itself) → ⊥ }
     ensures round { IsLawfulEnd [] (end_with in_a_round) → ⊥ }
 {}
 
-/// No history may end with a stream that is below two links.
+/// A final configuration in which a stream is below two links is unlawful.
 #[tactic(auto, using(crate::proofs::UnlawfulLemmas::below_two))]
 pub fn a_stream_below_two_links_is_unlawful()
     ensures { IsLawfulEnd [] (end_with below_two) → ⊥ }
 {}
 
-/// A history is unlawful if it loses or duplicates a message, or delivers or drops one that was not accepted before.
+/// A history is unlawful if it loses or duplicates a message, if it delivers or drops a message again after it has
+/// left, or if it delivers a message under another serial or one that was never accepted.
 pub fn messages_lost_or_doubled_are_unlawful()
     ensures lost { IsLawful drivers lost → ⊥ }
     ensures doubled { IsLawful drivers doubled → ⊥ }
@@ -36,14 +38,14 @@ pub fn one_serial_for_two_is_unlawful()
     ensures { IsLawful drivers one_serial → ⊥ }
 {}
 
-/// A history with an unlawful prefix is not lawful after each entry, even if its end is lawful.
+/// A history with an unlawful prefix is not lawful after each entry, even if its final configuration is lawful.
 #[tactic(auto, using(crate::proofs::UnlawfulLemmas::lawful_end, crate::proofs::UnlawfulLemmas::too_early))]
 pub fn prefixes_count()
     ensures end { IsLawful drivers too_early }
     ensures throughout { IsLawfulThroughout drivers too_early → ⊥ }
 {}
 
-/// A dup may not name a dropped message.
+/// The reply to a `dup` may not name a dropped message.
 #[tactic(auto, using(crate::proofs::UnlawfulLemmas::dropped_by_dup))]
 pub fn a_dup_drops_nothing()
     ensures { AreDropsAllowed dropped_by_dup → ⊥ }

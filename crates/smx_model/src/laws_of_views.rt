@@ -7,7 +7,8 @@ ghost use Rattle.smx_model.specs.DriverList.{IsDriverList};
 ghost use Rattle.smx_model.specs.KeptConfigurations.{IsSound};
 ghost use Rattle.smx_model.specs.Views.{view};
 
-/// Two sound configurations over the same valid drivers are equal if they have the same view.
+/// Two sound configurations of the same valid drivers are equal if they have the same view. Sound means: they satisfy
+/// the invariant of configurations, except that messages may be movable.
 #[tactic(auto, using(crate::proofs::KeptLemmas::view_is_of_one))]
 pub fn views_tell_configurations_apart()
     ensures { (drivers : List DriverSpec) (c d : Configuration) → IsDriverList drivers

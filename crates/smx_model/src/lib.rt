@@ -1,5 +1,5 @@
-//! The sequential configuration as lists: all definitions that contracts use for it, and laws about it.
-//! No running code.
+//! The model: all definitions that contracts use for a configuration, and laws about them. A configuration is a record
+//! of lists, and commands change it one after another. The crate has no running code.
 #![tactic(auto)]
 
 pub mod laws;
