@@ -15,7 +15,7 @@ pub struct Bits {
     count: usize,
     // A bit for each number, 64 in a word.
     words: Vec<u64>,
-    // No word before this one has a mark.
+    // The index of a word. No word before it has a mark.
     first: usize,
 }
 
@@ -29,8 +29,8 @@ impl Model for Bits {
     ghost invariant = { λ b. AreBits b.first b.count b.words.items };
 }
 
-// Returns the index of the first word from `start` on that has a mark. If no such word has one, returns the number of
-// words or `start`, whichever is larger.
+// Returns the index of the first word that has a mark, at or after `start`. If there is none, returns the larger one of
+// `start` and the number of words.
 fn first_word(words: &[u64], start: usize) -> usize
     ensures zero { (w : ℕ) → start ≤ w → w < result → slice_index words.now w ≡ 0 }
     ensures some { result < length words.now → slice_index words.now result ≢ 0 }
@@ -94,7 +94,7 @@ impl Bits {
         (self.words[n / 64] >> (n % 64)) & 1 == 1
     }
 
-    /// Returns the lowest marked number from this one on, if there is one. Takes no memory.
+    /// Returns the lowest marked number that is at least `n`, if there is one. Takes no memory.
     pub fn first_from(&self, n: usize) -> Option<usize>
         ensures below { IfSome result (λ m. m < self.now.count) }
         ensures from { IfSome result (λ m. n ≤ m) }

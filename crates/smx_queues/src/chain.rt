@@ -1,9 +1,10 @@
-//! The first and the last node of a place's queue, and the queue's totals and marks.
+//! The chain of a place: the nodes of its queue, in order. A node has a message and the key of the next node.
 
 ghost use Rattle.std.specs.Prelude.{◌≡◌, ◌+◌, ◌<◌, ◌≤◌, ◌^◌, not, position};
 ghost use Rattle.smx_queues.specs.Chains.{chain_with_last, chain_without_first, new_chain};
 
-/// The nodes of a place, from the first to the last, and its marks.
+/// The keys of the first and the last node of a place's queue, the number of its messages, the sum of their bytes, its
+/// full mark and its water marks.
 #[derive(Clone, Copy, Debug, Drop)]
 pub struct Chain {
     /// Whether the place exists.
@@ -34,7 +35,7 @@ impl Chain {
         }
     }
 
-    // Adds a node at the end, whose message has `size` bytes.
+    // Adds the node `key` at the end. The message of this node has `size` bytes.
     pub fn add_last(&mut self, key: usize, size: usize)
         requires count { self.old.count + 1 < 2 ^ 64 }
         requires bytes { self.old.bytes + size < 2 ^ 64 }
@@ -49,7 +50,7 @@ impl Chain {
         self.full = self.full || self.high <= self.bytes;
     }
 
-    // Removes the first node, whose message has `size` bytes. The node with key `next` is then the first.
+    // Removes the first node, whose message has `size` bytes. Afterwards the node `next` is the first one.
     pub fn drop_first(&mut self, next: usize, size: usize)
         requires count { 0 < self.old.count }
         requires bytes { size ≤ self.old.bytes }

@@ -20,7 +20,8 @@ use smx_types::{DriverSpec, Message, NoMemory, Place};
 use std::alloc::Global;
 use std::marker::Model;
 
-/// The queues of all places that some drivers have, found by place. Contracts see the model's flow and full places.
+/// The queues of all places of some drivers, found by place or by number. Contracts see the drivers, the flow (the list
+/// of all queued messages), the list of full places, and the number of messages for which a node is reserved.
 #[derive(Debug)]
 pub struct FlowTable {
     places: Places,
@@ -81,7 +82,7 @@ impl FlowTable {
         self.places.len()
     }
 
-    /// Returns the number of the place, if the drivers have it. Takes no memory.
+    /// Returns the number of the place, if the drivers have the place. Takes no memory.
     pub fn number(&self, place: Place) -> Option<usize>
         ensures found { IfSome result (λ n. slice_get (places_of self.now.drivers) n ≡ Some place) }
         ensures known { IsKnown self.now.drivers place.stream → IsSome result }
@@ -144,7 +145,7 @@ impl FlowTable {
         }
     }
 
-    /// Makes room for one more message. Fails only if out of memory.
+    /// Makes sure that there is room for one message. Fails only if out of memory.
     pub fn reserve_one(&mut self) -> Result<(), NoMemory>
         ensures room { OnOk result (0 < self.new.spare) }
         ensures unchanged { self.new ≡ record self.old { spare = self.new.spare } }
@@ -152,8 +153,8 @@ impl FlowTable {
         self.queues.reserve_one()
     }
 
-    /// Adds a message at the end of the queue of a place that is not full. Marks the place as full if the number of its
-    /// bytes is then at or above the high water mark. Takes no memory.
+    /// Adds a message at the end of the queue of a place that is not full. Then marks the place as full if the bytes of
+    /// its messages reach the high water mark. Takes no memory.
     pub fn put(&mut self, place: Place, message: Message)
         requires known { IsKnown self.old.drivers place.stream }
         requires open { list_any (same_place place) self.old.fulls ≡ false }
@@ -177,7 +178,8 @@ impl FlowTable {
         }
     }
 
-    /// Moves the first message at place number `from` to place number `to`, which is not full. Takes no memory.
+    /// Moves the first message of place number `from` to the end of the queue of place number `to`, which is not full.
+    /// Takes no memory.
     #[inline(always)]
     pub fn move_front_at(&mut self, from: usize, to: usize)
         requires from { from < length (places_of self.old.drivers) }
@@ -194,8 +196,8 @@ impl FlowTable {
         self.queues.move_front(from, to);
     }
 
-    /// Drops the messages at the place, which is then not full. Appends their serials to a list that has room for them.
-    /// Takes no memory.
+    /// Drops the messages at the place, and clears its full mark. Appends the serials of these messages to `dropped`,
+    /// which has room for them. Takes no memory.
     pub fn drop_at(&mut self, place: Place, dropped: &mut Vec<u32>)
         requires { length dropped.old.items + length (queue self.old.flow place) ≤ vec_capacity dropped.old }
         ensures gone { self.new ≡ record (without_place self.old place) { spare = self.new.spare } }
@@ -208,7 +210,7 @@ impl FlowTable {
         }
     }
 
-    /// Moves all messages out, in order of place. Takes no memory.
+    /// Turns the table into an iterator that moves all messages out, in order of place. Takes no memory.
     pub fn into_messages(self) -> LeavingMessages
         ensures { result ≡ self.flow }
     {

@@ -1,4 +1,4 @@
-//! All queued messages, taken out of their queues.
+//! An iterator that takes all queued messages out of their queues.
 
 ghost use Rattle.std.specs.Prelude.{◌≡◌};
 ghost use Rattle.std.specs.Iterator.{YieldsFirstBy};
@@ -10,13 +10,13 @@ use crate::queues::Queues;
 use smx_types::{Message, Place};
 use std::marker::Model;
 
-/// An iterator that moves all messages out of a table that is no longer needed, in order of place. Contracts see the
-/// list of those that are left. Takes no memory.
+/// An iterator that moves all messages out of a table that has been given up, in order of place. Contracts see the list
+/// of the messages that are left. Takes no memory.
 #[derive(Drop)]
 pub struct LeavingMessages {
     places: Places,
     queues: Queues,
-    // No place with a lower number has messages.
+    // The number of a place. No place with a lower number has messages left.
     next: usize,
 }
 

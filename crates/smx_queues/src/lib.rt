@@ -1,4 +1,4 @@
-//! The queues of all places: the messages of each queue in order, and all messages in one store.
+//! The queues of all places (a place is one side of a stream). One store has the messages of all queues.
 #![tactic(auto)]
 
 mod bits;

@@ -1,4 +1,4 @@
-//! The nodes of the store.
+//! The nodes of the store that has all queued messages.
 
 ghost use Rattle.std.specs.Prelude.{◌≡◌, ◌<◌, ◌^◌, length};
 ghost use Rattle.slab.specs.Slab.{ContainsKey};
@@ -9,7 +9,7 @@ use slab::Slab;
 use smx_types::{Bytes, Message};
 use std::alloc::AllocError;
 
-/// A queued message, and the key of the next node. The key has no meaning at the last node of a chain.
+/// A queued message, and the key of the next node in its queue. In the last node of a queue, this key has no meaning.
 #[derive(Debug, Drop)]
 pub struct Node {
     pub message: Message,
@@ -39,7 +39,7 @@ pub fn follow(nodes: &mut Slab<Node>, chain: Chain, key: usize)
     }
 }
 
-// Returns a message and its number of bytes, which is below 2 to the 63rd, like the length of any vector.
+// Returns the message, and the number of its bytes. This number is below 2^63, as the length of any vector is.
 pub fn sized(message: Message) -> (Message, usize)
     ensures same { result.0 ≡ message }
     ensures size { result.1 ≡ length message.bytes }

@@ -1,4 +1,4 @@
-//! The places of all streams that some drivers have.
+//! The places of some drivers, that is, both sides of each of their streams, and the numbers of these places.
 
 ghost use Rattle.std.specs.Prelude.{◌≡◌, ◌≤◌, ◌++◌, ◌<◌, ◌+◌, ◌^◌, false, Some, IfOk, OnOk, IfSome, IsSome, IfNone};
 ghost use Rattle.std.specs.Prelude.{length, slice_get};
@@ -13,14 +13,16 @@ use smx_types::{DriverSpec, NoMemory, Place, Side, StreamId};
 use std::alloc::Global;
 use std::marker::Model;
 
-/// The number of a driver's first place, and the number of its minors. They determine the numbers of all its places.
+/// The number of a driver's first place, and how many minors (streams) the driver has. These two determine the numbers
+/// of all places of the driver.
 #[derive(Clone, Copy, Debug)]
 pub struct DriverRow {
     pub first: usize,
     pub minors: usize,
 }
 
-/// Some drivers, and both sides of each stream that they have, numbered in order. Contracts see the drivers.
+/// A list of drivers, and the list of their places: both sides of each stream. The number of a place is its index in
+/// that list. Contracts see the drivers.
 #[derive(Debug, Drop)]
 pub struct Places {
     drivers: Vec<DriverSpec>,
@@ -78,7 +80,7 @@ fn minors_at(drivers: &[DriverSpec], driver: usize) -> u8
     drivers[driver].minors as u8
 }
 
-// Appends both sides of the first `minors` minors of a driver.
+// Appends both sides of each stream of a driver, for the minors below `minors`.
 fn push_sides(places: &mut Vec<Place>, driver: u8, minors: u8) -> Result<(), NoMemory>
     ensures { OnOk result (places.new.items ≡ places.old.items ++ sides_of driver minors) }
 {
@@ -128,7 +130,7 @@ impl Places {
         self.places.len()
     }
 
-    /// Returns the number of the place, if its driver has such a stream.
+    /// Returns the number of the place, if the drivers have the place.
     pub fn number(&self, place: Place) -> Option<usize>
         ensures found { IfSome result (λ i. slice_get (places_of self.now) i ≡ Some place) }
         ensures none { IfNone result (list_any (same_place place) (places_of self.now) ≡ false) }
@@ -155,7 +157,8 @@ impl Places {
         self.places[number]
     }
 
-    /// Makes a queue for each place, without messages, with the water marks of its driver. Fails only if out of memory.
+    /// Makes a queue without messages for each place, with the water marks of the place's driver. Fails only if out of
+    /// memory.
     pub fn new_queues(&self, alloc: Global) -> Result<Queues, NoMemory>
         requires { IsDriverList self.now }
         ensures { IfOk result (λ q. q.queues ≡ new_queues self.now (places_of self.now)) }

@@ -21,7 +21,8 @@ use std::marker::Model;
 pub type PlaceId = usize;
 
 /// Places with one queue each: the messages in order of arrival, the full mark and the water marks. Contracts see the
-/// queue of each place. One store has all messages, so a message stays where it is in memory when it moves on.
+/// queue of each place. One store has the messages of all places, so a message that moves to another place stays where
+/// it is in memory.
 #[derive(Debug, Drop)]
 pub struct Queues {
     alloc: Global,
@@ -47,7 +48,7 @@ impl Model for Queues {
 }
 
 impl Queues {
-    /// Makes a table without places, which keeps the allocator for all that it allocates later. Does not allocate.
+    /// Makes a table without places. The table keeps the allocator for later allocations. This call does not allocate.
     pub fn new(alloc: Global) -> Queues
         ensures { result.queues ≡ [] }
     {
@@ -58,8 +59,8 @@ impl Queues {
         }
     }
 
-    /// Adds a place without messages that is not full. Its number is the lowest free one. If an allocation fails,
-    /// nothing has changed.
+    /// Adds a place without messages and without a full mark. Its number is the lowest that no place has. If an
+    /// allocation fails, nothing has changed.
     pub fn add_place(&mut self, high: usize, low: usize) -> Result<PlaceId, NoMemory>
         requires low { low < high }
         requires high { high ≤ 4096 }
@@ -78,7 +79,7 @@ impl Queues {
         Ok(p)
     }
 
-    // Appends a place without messages that is not full.
+    // Appends a place without messages and without a full mark.
     pub(crate) fn push_place(&mut self, high: usize, low: usize) -> Result<(), NoMemory>
         requires low { low < high }
         requires high { high ≤ 4096 }
@@ -117,7 +118,7 @@ impl Queues {
         self.chains[p].there = false;
     }
 
-    /// Reserves a node for one more message. Fails only if out of memory.
+    /// Makes sure that a node is reserved for one message. Fails only if out of memory.
     pub fn reserve_one(&mut self) -> Result<(), NoMemory>
         ensures room { OnOk result (0 < self.new.spare) }
         ensures kept { self.old.spare ≤ self.new.spare }
@@ -144,7 +145,8 @@ impl Queues {
             ≡ with_queue self.old.queues p (with_arrival (queue_at self.old.queues p) message) }
         ensures spare { self.old.spare ≡ self.new.spare + 1 }
     {
-        // For the proof: opens the invariant, which bounds the bytes of a place that is not full.
+        // For the proof: this use of `self` makes its invariant known, which bounds the bytes of a place that is not
+        // full.
         let _chains = &self.chains;
         let (message, size) = sized(message);
         self.append(p, message, size);

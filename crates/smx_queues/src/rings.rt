@@ -1,4 +1,4 @@
-//! Numbers in rings.
+//! Rings of numbers, as linked lists.
 
 ghost use Rattle.std.specs.Prelude.{◌≡◌, ◌≢◌, ℕ, suc, ◌+◌, ◌<◌, ◌≤◌, ◌^◌, length, slice_set, IfNone, IfOk, IfSome};
 ghost use Rattle.smx_queues.specs.Rings.{at, linked, ring_count, unlinked};
@@ -7,13 +7,13 @@ use smx_types::NoMemory;
 use std::alloc::Global;
 use std::marker::Model;
 
-/// There is one ring for each number below `count`. Each of these numbers is in at most one of the rings. Contracts see
-/// the ring that each number is in.
+/// One ring for each number below `count`. A ring contains some of these numbers, and each number is in at most one
+/// ring. Contracts see the ring that each number is in.
 #[derive(Debug, Drop)]
 pub struct Rings {
     count: usize,
-    // For i below `count`, node i stands for number i, and the ring of number i begins at node `count` + i. `owners`
-    // has 0 for a node that is in no ring, and otherwise 1 more than the number of the node's ring.
+    // For i below `count`, node i is number i. The ring of number q begins at node `count` + q. `owners` has 0 for a
+    // node that is in no ring, and q + 1 for a node in the ring of q.
     owners: Vec<usize>,
     // The node after each node, and the one before it.
     next: Vec<usize>,
@@ -30,7 +30,7 @@ impl Model for Rings {
     ghost invariant = { λ r. AreRings r.count r.owners.items r.next.items r.previous.items };
 }
 
-// Puts p between h and f, in one direction: h then names p, and p names f.
+// Puts p between h and f in one direction: in `nodes`, p then follows h, and f follows p.
 fn link(nodes: &mut Vec<usize>, p: usize, f: usize, h: usize)
     requires p { p < length nodes.old.items }
     requires h { h < length nodes.old.items }
@@ -40,7 +40,7 @@ fn link(nodes: &mut Vec<usize>, p: usize, f: usize, h: usize)
     nodes[h] = p;
 }
 
-// Takes p out from between a and b, in one direction: a then names b, and p names itself.
+// Takes p out from between a and b in one direction: in `nodes`, b then follows a, and p follows itself.
 fn unlink(nodes: &mut Vec<usize>, a: usize, b: usize, p: usize)
     requires a { a < length nodes.old.items }
     requires p { p < length nodes.old.items }
@@ -62,8 +62,7 @@ fn numbers(alloc: Global, count: usize) -> Result<Vec<usize>, NoMemory>
     Ok(numbers)
 }
 
-// Returns the owners of the nodes of empty rings: no number is in a ring. The node at which a ring begins is always in
-// that ring.
+// Returns `owners` for empty rings: 0 for each number, and q + 1 for the node at which the ring of q begins.
 fn first_owners(alloc: Global, count: usize) -> Result<Vec<usize>, NoMemory>
     requires { count < 2 ^ 63 }
     ensures count { IfOk result (λ v. length v.items ≡ count + count) }
@@ -133,7 +132,7 @@ impl Rings {
         }
     }
 
-    /// Puts number p into the ring of q, and takes it out of any other. Takes no memory.
+    /// Puts number p into the ring of q, and takes it out of any other ring. Takes no memory.
     pub fn enter(&mut self, p: usize, q: usize)
         requires p { p < self.old.count }
         requires q { q < self.old.count }

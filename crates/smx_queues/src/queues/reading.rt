@@ -30,7 +30,7 @@ impl Queues {
         Some(&self.nodes[chain.first].message)
     }
 
-    /// Returns the message with `i` others before it, if there is one. Takes no memory.
+    /// Returns the message at index `i` of the queue, if there is one. Takes no memory.
     pub fn nth(&self, p: PlaceId, i: usize) -> Option<&Message>
         requires { IsPlace self.now.queues p }
         ensures { option_copied result ≡ slice_get (queue_at self.now.queues p).messages i }
