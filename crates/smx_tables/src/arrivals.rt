@@ -24,7 +24,8 @@ pub fn leave(lists: &mut Lists, place: Place) -> Option<Message>
     lists.queues.take(place)
 }
 
-/// Adds a message at the end of the queue of a place that is not full. The table of queues has a reserved node for it.
+/// Adds a message at the end of the queue of a place that is not full. Requires that the table of queues has a reserved
+/// node.
 pub fn arrive(lists: &mut Lists, place: Place, message: Message)
     requires kept { KeepsHolds lists.old }
     requires known { IsKnown lists.old.queues.drivers place.stream }

@@ -12,8 +12,8 @@ use smx_queues::FlowTable;
 use smx_types::{Place, Reply, Serials, Side, Sides, StreamId};
 use std::mem::replace;
 
-/// Drops the messages at a place, and its full mark. Adds their serials to a list that has room for the serials of all
-/// messages.
+/// Drops the messages at a place, and clears its full mark. Adds the serials of these messages to `dropped`, which has
+/// room for the serials of all queued messages.
 #[inline(always)]
 pub fn drop_at(queues: &mut FlowTable, place: Place, dropped: &mut Vec<u32>)
     requires { HasRoom dropped.old queues.old.flow }
@@ -32,7 +32,7 @@ fn is_side(sides: Sides, side: Side) -> bool
     }
 }
 
-// Drops the messages and the full mark on one side of a stream, if this side is named.
+// Drops the messages and the full mark on one side of a stream, if `sides` names this side.
 fn drop_side(
     queues: &mut FlowTable,
     stream: StreamId,
@@ -48,7 +48,7 @@ fn drop_side(
     }
 }
 
-/// Drops the messages and the full marks on the named sides of a stream.
+/// Drops the messages and the full marks on the sides of a stream that `sides` names.
 #[inline(always)]
 pub fn drop_sides(queues: &mut FlowTable, stream: StreamId, sides: Sides, dropped: &mut Vec<u32>)
     requires { HasRoom dropped.old queues.old.flow }
@@ -69,8 +69,8 @@ fn rising(dropped: Vec<u32>) -> Vec<u32>
     sorted
 }
 
-/// Returns `Reply::Done` with the serials of dropped messages, in rising order. The reply takes the list. An empty list
-/// stays with the caller; the reply then has an empty list of its own, which takes no memory.
+/// Returns `Reply::Done` with the serials that `dropped` has, in rising order. The list moves from `dropped` into the
+/// reply. If `dropped` is empty, it stays as it is, and the reply has a new empty list, which takes no memory.
 #[inline(always)]
 pub fn name_dropped(dropped: &mut Vec<u32>) -> Reply
     ensures { (left : List QueuedMessage) → NamesDropped left dropped.old.items left result }

@@ -1,5 +1,5 @@
-//! The tables of a configuration together: the lines that show them, and the removal of everything that belongs to
-//! links and streams that go.
+//! All tables of a configuration as one value, the lines that show them, and the removal of everything that belongs to
+//! removed links and to streams that no longer exist.
 #![tactic(auto)]
 
 pub mod arrivals;

@@ -1,4 +1,5 @@
-//! Releasing the lower streams of links whose controlling stream no longer exists.
+//! The release of the lower streams of links whose controlling stream no longer exists. To release a stream is to
+//! remove its hold, which keeps the stream in the table of streams.
 
 ghost use Rattle.std.specs.Prelude.{◌≡◌, ℕ, ◌+◌, ◌≤◌, ◌++◌, ◌∷◌, [], ◌&&◌, not, false, true, length, vec_capacity};
 ghost use Rattle.std.specs.List.{list_any};
@@ -21,30 +22,31 @@ fn is_held(streams: &Streams, link: &Link) -> bool
     streams.holds_of(link.lower) > 0
 }
 
+// A link is loose if it is ordinary, its lower stream has a hold, and its controlling stream is not in the table of
+// streams.
 fn is_loose(streams: &Streams, link: &Link) -> bool
     ensures { result ≡ is_loose streams.now link.now }
 {
     !is_persistent(link) && is_held(streams, link) && !streams.exists(link.ctl)
 }
 
-// Returns whether the link is loose, and this is its controlling stream. A link is loose if it is ordinary, its lower
-// stream is held, and its controlling stream is not in the table.
+// Returns whether the link is loose and `ctl` is its controlling stream.
 fn is_loose_by(streams: &Streams, ctl: StreamId, link: &Link) -> bool
     ensures { result ≡ (same_stream link.now.ctl ctl && is_loose streams.now link.now) }
 {
     same_stream(link.ctl, ctl) && is_loose(streams, link)
 }
 
-// Returns whether this stream may be the controlling stream of a loose link: it is not in the table, and its driver is
-// the upper driver of some link.
+// Returns whether this stream may be the controlling stream of a loose link. That is so if the stream is not in the
+// table, and its driver is the upper driver of some link.
 fn may_have_loose(streams: &Streams, links: &LinkTable, ctl: StreamId) -> bool
     ensures { result ≡ (not (is_there streams.now ctl) && is_upper links.now.links ctl.driver) }
 {
     !streams.exists(ctl) && links.is_upper(ctl.driver)
 }
 
-// Releases the lower streams of the loose links that this stream controlled. Adds these streams to `touched`, and the
-// ids of the links to `gone`.
+// Releases the lower streams of the loose links whose controlling stream is `ctl`. Adds these lower streams to
+// `touched`, and the ids of these links to `gone`.
 fn release_below(
     streams: &mut Streams,
     links: &LinkTable,
@@ -80,8 +82,8 @@ fn release_below(
     }
 }
 
-// Does the same for each touched stream, until no link is loose. Moves each stream that it examines to `seen`, which
-// has room for all of them.
+// Calls `release_below` for each stream in `touched`, and for each stream that these calls add to it. Afterwards no
+// link is loose. Moves the examined streams from `touched` to `seen`, which has room for them.
 pub fn release_orphans(
     streams: &mut Streams,
     links: &LinkTable,

@@ -1,4 +1,5 @@
-//! Removing links, and what goes with them.
+//! The removal of links, with the routes to them and the messages below them. A stream below a link has a hold, which
+//! keeps the stream in the table of streams. To release a stream is to remove its hold.
 
 ghost use Rattle.std.specs.Prelude.{◌≡◌, ◌+◌, ◌≤◌, Bool, true, map, filter, length, vec_capacity};
 ghost use Rattle.smx_types.specs.declared.link.Link.{Link};
@@ -38,7 +39,7 @@ fn drop_below(queues: &mut FlowTable, links: &LinkTable, gone: &[u32], dropped: 
     }
 }
 
-// Releases the stream, if it is held.
+// Releases the stream, if it has a hold.
 fn release_held(streams: &mut Streams, stream: StreamId)
     requires { number_at streams.old.holds stream ≤ 1 }
     ensures { HasHolds streams.old stream 0 streams.new }
@@ -73,7 +74,7 @@ fn release_each(streams: &mut Streams, links: &LinkTable, gone: &[u32], touched:
 }
 
 /// Removes the links with these ids, the routes to them, and the messages and full marks on the read sides of their
-/// lower streams. Doesn't release these streams: the caller does so first.
+/// lower streams. Doesn't release the lower streams: the caller has released them before.
 pub fn drop_links(lists: &mut Lists, gone: &[u32], dropped: &mut Vec<u32>)
     requires { HasRoom dropped.old lists.old.queues.flow }
     ensures value { (goes : Link → Bool) → AreIdsOf goes lists.old.links.links gone.now
@@ -93,8 +94,8 @@ pub fn drop_links(lists: &mut Lists, gone: &[u32], dropped: &mut Vec<u32>)
     lists.links.remove_each(gone);
 }
 
-/// Removes the links with these ids, as `drop_links` does. Also releases their lower streams, and adds these to
-/// `touched`.
+/// Removes the links with these ids, as `drop_links` does. Also releases the lower streams of these links, and adds
+/// these streams to `touched`.
 pub fn remove_links(
     lists: &mut Lists,
     gone: &[u32],

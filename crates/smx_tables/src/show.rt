@@ -113,7 +113,8 @@ pub fn hung_line(drivers: &[DriverSpec], stream: StreamId) -> HungLine
     }
 }
 
-/// Returns the lines of all descriptors, by rising process and number. Fails only if out of memory.
+/// Returns the lines of all descriptors, by rising process, and by rising number within a process. Fails only if out of
+/// memory.
 #[tactic(auto, using(crate::proofs::WalkLemmas::walk_of_fds))]
 pub fn descriptor_lines(
     alloc: Global,
@@ -150,7 +151,8 @@ pub fn link_lines(
     Ok(lines)
 }
 
-/// Returns the lines of all bindings, by rising driver and address. Fails only if out of memory.
+/// Returns the lines of all bindings, by rising driver, and by rising address within a driver. Fails only if out of
+/// memory.
 pub fn binding_lines(
     alloc: Global,
     drivers: &[DriverSpec],
@@ -167,7 +169,8 @@ pub fn binding_lines(
     Ok(lines)
 }
 
-/// Returns the lines of all routes, by rising driver and address. Fails only if out of memory.
+/// Returns the lines of all routes, by rising driver, and by rising address within a driver. Fails only if out of
+/// memory.
 pub fn route_lines(
     alloc: Global,
     drivers: &[DriverSpec],
@@ -184,8 +187,8 @@ pub fn route_lines(
     Ok(lines)
 }
 
-/// Returns the lines of all queued messages, by rising place and in order of arrival. Moves the messages out of the
-/// table, which nobody needs any more. Fails only if out of memory.
+/// Returns the lines of all queued messages, by rising place, and in order of arrival within a place. Consumes the
+/// table of queues, and moves the messages out of it. Fails only if out of memory.
 pub fn message_lines(
     alloc: Global,
     drivers: &[DriverSpec],

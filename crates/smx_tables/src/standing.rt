@@ -11,7 +11,7 @@ ghost use Rattle.smx_tables.specs.ModelOfLists.{configuration_of};
 use crate::lists::Lists;
 use smx_types::{DriverSpec, Link, LinkKind};
 
-/// Returns whether the link is persistent: it may outlive its controlling stream.
+/// Returns whether the link is persistent. A persistent link may outlive its controlling stream.
 pub fn is_persistent(link: &Link) -> bool
     ensures { result ≡ is_persistent link.now }
 {
@@ -21,8 +21,10 @@ pub fn is_persistent(link: &Link) -> bool
     }
 }
 
-/// Ensures that the table of streams has exactly the streams that exist. This holds if each stream below a link is
-/// held, and the controlling stream of each ordinary link is in the table. Does nothing at run time.
+/// Ensures that the table of streams has exactly the streams that exist. Requires that each stream below a link has one
+/// hold and no other stream has a hold (a hold keeps a stream in the table). Requires that the drivers have the
+/// controlling stream of each link, and that the table has the controlling stream of each ordinary link. Does nothing
+/// at run time.
 pub fn tells_existing(drivers: &[DriverSpec], lists: &Lists)
     requires held { AreHeld lists.now.links.links lists.now.streams }
     requires known { AreControllingKnown drivers.now lists.now.links.links }
