@@ -99,7 +99,8 @@ impl Tables {
         Ok(())
     }
 
-    // Closes the last descriptor of a stream that isn't held, and sweeps.
+    // Closes the last descriptor of a stream that no hold keeps, and then sweeps: removes what belongs to streams that
+    // no longer exist.
     fn close_last(
         &mut self,
         process: Process,
@@ -120,7 +121,7 @@ impl Tables {
         Ok(())
     }
 
-    // If the stream outlives the close, only the descriptor is removed, and nothing is allocated.
+    // If the stream still exists after the close, only the descriptor is removed, and nothing is allocated.
     pub(crate) fn close(
         &mut self,
         process: Process,
@@ -154,7 +155,7 @@ impl Tables {
         Ok(())
     }
 
-    // A hangup leaves nothing to sweep, since the stream exists.
+    // A hangup needs no sweep: no stream ceases to exist.
     pub(crate) fn hangup(
         &mut self,
         name: &Name,

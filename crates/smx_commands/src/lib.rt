@@ -1,4 +1,5 @@
-//! The tables of a configuration, and the effect of each command on them before messages move on.
+//! The tables of a configuration, and the effect of each command on them. Settling, which moves messages on to other
+//! places after a command, is in `smx_config`.
 #![tactic(auto)]
 
 mod answers;

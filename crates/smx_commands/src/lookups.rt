@@ -1,4 +1,5 @@
-//! Look-ups of the drivers, streams and messages that a command names, with the refusals.
+//! Look-ups of the drivers, streams and messages that a command names, and the refusals for those that don't exist or
+//! can't be used.
 
 ghost use Rattle.std.specs.Prelude.{◌≡◌, ◌<◌, ◌^◌, length, option_copied, slice_get, IfOk, IfSome, IsSome, Some};
 ghost use Rattle.std.specs.Option.{is_some};
@@ -65,8 +66,8 @@ impl Tables {
         Ok(stream)
     }
 
-    /// Returns the stream of a descriptor. Fails with the first of these: there is no such descriptor; the stream is
-    /// below a link; its device has hung up. Does not allocate.
+    /// Returns the stream of a descriptor. Fails with the first refusal that applies: there is no such descriptor; the
+    /// stream is below a link; the stream's device has hung up. Does not allocate.
     #[inline(always)]
     pub fn live_stream(&self, process: Process, fd: u32) -> Result<StreamId, Fault>
         ensures { result ≡ live_stream self.now.configuration process fd }
@@ -76,8 +77,8 @@ impl Tables {
         Ok(free)
     }
 
-    /// Returns the stream of a descriptor. Fails with the first of these: there is no such descriptor; the stream is
-    /// below a link; its driver is not a multiplexer. Does not allocate.
+    /// Returns the stream of a descriptor. Fails with the first refusal that applies: there is no such descriptor; the
+    /// stream is below a link; the stream's driver is not a multiplexer. Does not allocate.
     pub fn mux_stream(&self, process: Process, fd: u32) -> Result<StreamId, Fault>
         ensures { result ≡ mux_stream self.now.drivers self.now.configuration process fd }
     {
@@ -116,7 +117,7 @@ impl Tables {
         Ok(stream)
     }
 
-    // Returns the same stream as `leaf_stream`. Also fails if its device has hung up.
+    // Returns the stream that `leaf_stream` returns. Also fails if the device of this stream has hung up.
     #[inline(always)]
     pub(crate) fn live_leaf(&self, name: &Name, minor: u32) -> Result<StreamId, Fault>
         requires { IsSound self.now.drivers self.now.configuration }
@@ -135,7 +136,7 @@ impl Tables {
         self.lists.queues.place_count()
     }
 
-    /// Returns the number of the place, if the drivers have it. Does not allocate.
+    /// Returns the number of the place, if the drivers have the place. Does not allocate.
     pub fn number(&self, place: Place) -> Option<usize>
         ensures found { IfSome result (λ n. slice_get (places_of self.now.drivers) n ≡ Some place) }
         ensures known { IsKnown self.now.drivers place.stream → IsSome result }

@@ -9,8 +9,8 @@ use crate::tables::Tables;
 use smx_types::{Command, Fault, Process, StreamId};
 
 impl Tables {
-    /// Returns the stream at which the command sends or takes a message. Fails with the refusal if there is no such
-    /// stream, and with `BadDescriptor` for any other command. Does not allocate.
+    /// Returns the stream at which a `write`, `read`, `inject` or `transmit` sends or takes a message. Fails with the
+    /// refusal if there is no such stream. For all other commands, fails with `BadDescriptor`. Does not allocate.
     pub fn message_stream(&self, process: Process, command: &Command) -> Result<StreamId, Fault>
         requires { IsSound self.now.drivers self.now.configuration }
         ensures value { result ≡ message_stream self.now.drivers self.now.configuration process command.now }

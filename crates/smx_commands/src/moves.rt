@@ -9,8 +9,8 @@ ghost use Rattle.smx_model.specs.Queues.{first_message, is_full};
 use crate::tables::Tables;
 
 impl Tables {
-    /// Moves the first message at the place with one number to the end of the queue at the place with another, and sets
-    /// the full marks of both. Does not allocate.
+    /// Moves the first message at place number `from` to the end of the queue at place number `to`, which is not full.
+    /// Updates the full marks of both places. Does not allocate.
     #[inline(always)]
     pub fn carry(&mut self, from: usize, to: usize)
         requires from { from < length (places_of self.old.drivers) }

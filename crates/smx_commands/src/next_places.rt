@@ -1,4 +1,4 @@
-//! The next places of messages.
+//! The places to which messages go next.
 
 ghost use Rattle.std.specs.Prelude.{◌≡◌};
 ghost use Rattle.std.specs.Option.{option_copied};
@@ -38,8 +38,8 @@ impl Tables {
         Some(Place { stream, side })
     }
 
-    // Returns the place to which the driver's route for this address leads: the write side of the lower stream of its
-    // link. Returns `None` if there is no such route, or if that stream is hung up.
+    // Returns the place to which the driver's route for this address leads: the write side of the lower stream of the
+    // route's link. Returns `None` if there is no such route, or if this lower stream is hung up.
     fn down(&self, driver: u8, addr: u32) -> Option<Place>
         ensures { result ≡ place_below self.now.configuration.links self.now.configuration.routes
             self.now.configuration.hungs driver addr }
@@ -49,7 +49,8 @@ impl Tables {
         self.live_write_side(link.lower)
     }
 
-    // Returns the read side of the stream that is bound to the address on the upper driver of the link above `stream`.
+    // Takes the link above `stream`, and returns the read side of the stream that is bound to the address on the upper
+    // driver of this link.
     fn up(&self, stream: StreamId, addr: u32) -> Option<Place>
         ensures { result ≡ place_above self.now.configuration.links self.now.configuration.binds stream addr }
     {
@@ -64,7 +65,8 @@ impl Tables {
         })
     }
 
-    /// Returns the next place of a message with this address, whether the place is full or not. Does not allocate.
+    /// Returns the place to which a message with this address goes next from `place`, even if that next place is full.
+    /// Does not allocate.
     #[inline(always)]
     pub fn next_place(&self, place: Place, addr: u32) -> Option<Place>
         ensures { result ≡ next_place self.now.drivers self.now.configuration place addr }

@@ -1,4 +1,4 @@
-//! Performing one command, before messages move on.
+//! The performance of one command. Messages move on afterwards, in `smx_config`.
 
 ghost use Rattle.std.specs.Prelude.{◌≡◌, ◌≢◌, IfOk, IsTrue, Err};
 ghost use Rattle.smx_model.specs.KeptConfigurations.{IsSound};
@@ -13,10 +13,10 @@ use crate::tables::Tables;
 use smx_types::{Command, Fault, LinkKind, Process, Reply, Side, StreamId};
 
 impl Tables {
-    /// Performs a command of a process, before messages move on. `named` is the result of `message_stream` for this
-    /// command. Writes the reply to `reply`, so that no caller has to move the reply in memory. If the command is
-    /// refused or fails for lack of memory, nothing has changed. `dup`, `unbind`, `unroute`, `read`, `transmit` and
-    /// `hangup` do not allocate.
+    /// Performs a command of a process, without moving messages on to other places. `named` is the result of
+    /// `message_stream` for this command. Writes the reply to `reply`, so that no caller has to move the reply in
+    /// memory. If the command is refused, or if an allocation fails, the tables have not changed. `dup`, `unbind`,
+    /// `unroute`, `read`, `transmit` and `hangup` do not allocate.
     #[inline(always)]
     pub fn perform(
         &mut self,

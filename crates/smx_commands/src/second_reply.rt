@@ -1,4 +1,4 @@
-//! A second copy of a reply, in room that is reserved before the step.
+//! A second copy of a reply, in memory that is reserved before the command is performed.
 
 ghost use Rattle.std.specs.Prelude.{◌≡◌, ◌≢◌, ◌≤◌, [], length, vec_capacity};
 ghost use Rattle.std.specs.Prelude.{IfOk, IfErr, IsTrue, Err};
@@ -18,7 +18,7 @@ use smx_types::{
 };
 use std::alloc::{AllocError, Global};
 
-/// Two empty lists with room for the bytes and the serials of a reply.
+/// Memory for a second copy of a reply: two empty lists with room for the bytes and for the serials of the reply.
 #[derive(Drop)]
 pub struct ReplyRoom {
     bytes: Vec<u8>,
@@ -78,7 +78,7 @@ impl Tables {
         Ok(room_for(self.alloc, 0, self.lists.queues.len())?)
     }
 
-    // Reserves room for the serials of all messages, unless the removal of links is refused.
+    // Reserves room for the serials of all messages. Fails if the removal of links is refused.
     #[tactic(auto, using(crate::proofs::DroppedLemmas::few_left))]
     fn room_for_unlink(
         &self,
@@ -95,7 +95,8 @@ impl Tables {
         self.room_for_all()
     }
 
-    /// Reserves room for the reply to a command. May notice that the command is refused, and then fails with its fault.
+    /// Reserves room for a second copy of the reply to a command, before the command is performed. It may notice that
+    /// the command is refused, and then fails with the fault.
     #[tactic(auto, using(crate::proofs::DroppedLemmas::few_left))]
     pub fn room_for_reply(
         &self,
@@ -151,7 +152,7 @@ impl Tables {
     }
 }
 
-// Returns the room with these values in it.
+// Returns a list with these values, in the memory of the list `room`.
 fn filled<T: Copy>(room: Vec<T>, values: &[T]) -> Vec<T>
     requires empty { room.items ≡ [] }
     requires room { length values.now ≤ vec_capacity room }

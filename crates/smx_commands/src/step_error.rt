@@ -1,4 +1,4 @@
-//! The reasons for which a command makes no step.
+//! The reasons why a command is not performed.
 
 use smx_links::LinkFault;
 use smx_streams::StreamFault;

@@ -14,7 +14,7 @@ use smx_types::{
 };
 
 impl Tables {
-    /// Returns the view of the configuration. Fails only if out of memory.
+    /// Returns the view of the configuration: the lines that show it. Fails only if out of memory.
     pub fn show(&self) -> Result<ConfigView, NoMemory>
         requires { IsSound self.now.drivers self.now.configuration }
         ensures { IfOk result (λ v. v ≡ view self.now.drivers self.now.configuration) }
