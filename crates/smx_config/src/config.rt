@@ -1,4 +1,4 @@
-//! The sequential configuration.
+//! A configuration that one thread uses.
 
 ghost use Rattle.std.specs.Option.{option_copied};
 ghost use Rattle.std.specs.Prelude.{◌≡◌, ◌↔◌, [], length, IfOk, IfErr, IsOk, IsErr, IsTrue, OnOk, OnErr};
@@ -35,7 +35,7 @@ use smx_types::{
 use std::alloc::Global;
 use std::marker::Model;
 
-/// Drivers and the configuration over them. Contracts see both as one value.
+/// Some drivers, and the configuration over these drivers. Contracts see both as one value.
 #[derive(Debug)]
 pub struct Config {
     tables: Tables,
@@ -67,9 +67,9 @@ impl Model for Config {
 }
 
 impl Config {
-    /// Makes the empty configuration over these drivers. It keeps the allocator for all later allocations. Fails with
-    /// the first of these: there are more than 128 drivers; a driver is invalid or has the name of an earlier one; an
-    /// allocation fails.
+    /// Makes the empty configuration over these drivers. The configuration keeps the allocator for all later
+    /// allocations. Fails with the first of these faults: there are more than 128 drivers; a driver is invalid or has
+    /// the name of an earlier one; an allocation fails.
     pub fn new(alloc: Global, drivers: &[DriverSpec]) -> Result<Config, ConfigFault>
         ensures drivers { IfOk result (λ c. (c.drivers ≡ drivers.now) × IsDriverList drivers.now) }
         ensures empty { IfOk result (λ c. c.configuration ≡ empty) }
@@ -89,10 +89,10 @@ impl Config {
         })
     }
 
-    /// Performs a command of a process: its reply and the new configuration are those of the command table. Nothing
-    /// changes if the command is refused (its reply is then a `Reply::Fault`), or if an allocation fails. `dup`,
-    /// `unbind`, `unroute`, `read`, `transmit`, `hangup` and every refused command don't allocate, so they always get a
-    /// reply.
+    /// Performs a command of a process. The reply and the new configuration are those of the model's command table,
+    /// after messages have moved on. Nothing changes if the command is refused (its reply is then a `Reply::Fault`), or
+    /// if an allocation fails. `dup`, `unbind`, `unroute`, `read`, `transmit`, `hangup` and every refused command don't
+    /// allocate, so they always get a reply.
     pub fn step(&mut self, process: Process, command: &Command) -> Result<Reply, NoMemory>
         // The effect.
         ensures drivers { self.new.drivers ≡ self.old.drivers }
@@ -186,9 +186,9 @@ impl Config {
         }
     }
 
-    /// Returns the view of the configuration. Fails if an allocation fails. After any commands, the links form no
-    /// cycle, and no stream is below two links. Nothing is left of streams that don't exist, and no message can move
-    /// on.
+    /// Returns the view of the configuration: the lines that show it. Fails if an allocation fails. Whichever commands
+    /// came before, the links form no cycle, no stream is below two links, nothing is left of streams that no longer
+    /// exist, and no message can move on.
     pub fn show(&self) -> Result<ConfigView, NoMemory>
         ensures view { IfOk result (λ v. v ≡ view self.now.drivers self.now.configuration) }
         ensures kept { IsKept self.now.drivers self.now.configuration }
@@ -224,7 +224,8 @@ impl Config {
         self.tables.queues().front(place)
     }
 
-    /// Returns the next place of a message with this address, full or not. Takes no memory.
+    /// Returns the place to which a message with this address goes next from `place`, even if that next place is full.
+    /// Takes no memory.
     pub fn next_place(&self, place: Place, addr: u32) -> Option<Place>
         ensures { result ≡ next_place self.now.drivers self.now.configuration place addr }
     {

@@ -1,10 +1,10 @@
-//! Why there is no configuration for some drivers.
+//! The reasons why no configuration is made for a list of drivers.
 
 use smx_types::{NoMemory, SpecFault};
 use std::fmt;
 
-/// Why there is no configuration for some drivers, which are numbered from 0. It prints as `driver 3 marks`, `driver 3
-/// same name`, `too many drivers` or `no memory`.
+/// The reason why no configuration was made for a list of drivers. Drivers are numbered from 0. The fault prints as
+/// `driver 3 marks`, `driver 3 same name`, `too many drivers` or `no memory`.
 #[derive(Clone, Copy, Debug, PartialEq, Eq)]
 pub enum ConfigFault {
     /// The driver with this number is invalid.

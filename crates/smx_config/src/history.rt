@@ -16,7 +16,7 @@ use smx_types::{ConfigView, DriverSpec, Entry, NoMemory, Same};
 use std::alloc::Global;
 
 // Performs the commands of the entries again, from the empty configuration on. Returns the number of the first entry
-// with a different reply, if there is one.
+// whose reply differs from the new reply, if there is one. Numbers count from 1.
 fn first_illegal(config: &mut Config, entries: &[Entry]) -> Result<Option<usize>, NoMemory>
     requires { config.old.configuration ≡ empty }
     ensures drivers { config.new.drivers ≡ config.old.drivers }
@@ -35,8 +35,8 @@ fn first_illegal(config: &mut Config, entries: &[Entry]) -> Result<Option<usize>
 }
 
 /// Judges a history of any origin, and a view that is said to show the configuration at its end. Performs each command
-/// again, from the empty configuration on, up to the first entry with a different reply. Fails if the drivers are
-/// invalid, whatever the entries are, or if an allocation fails.
+/// again, from the empty configuration on, up to the first entry whose reply differs from the new reply. Fails if the
+/// drivers are invalid, whatever the entries are, or if an allocation fails.
 pub fn check_history(
     alloc: Global,
     drivers: &[DriverSpec],

@@ -1,4 +1,4 @@
-//! The next places of messages, as they were last found.
+//! Hops: for each place, the next place of its messages with one address, as it was last found.
 
 ghost use Rattle.std.specs.Prelude.{◌≡◌, ℕ, ◌<◌, length, IfOk, IfSome, List, Ok};
 ghost use Rattle.smx_types.specs.declared.driver.DriverSpec.{DriverSpec};
@@ -14,7 +14,8 @@ ghost use Rattle.smx_config.specs.Ways.{AreHops, LeadsTo, keeps_ways};
 use smx_types::{Command, NoMemory};
 use std::alloc::Global;
 
-/// The number of the place to which messages with an address go next, as found at this age of the tables.
+/// The number of the place to which messages with the address `addr` go next. The age tells when this was found: it is
+/// the value that the `age` of `Hops` had then.
 #[derive(Clone, Copy, Debug)]
 pub struct Hop {
     pub addr: u32,
@@ -22,8 +23,8 @@ pub struct Hop {
     pub age: u64,
 }
 
-/// The last hop that was found for each place, by number. A hop of an earlier age is out of date. At the last possible
-/// age no hop is used, because the age can't rise any further.
+/// The hop that was found last for each place, by the number of the place. `age` rises when next places may change, and
+/// a hop of an earlier age is out of date. `age` can't rise above its largest value, and at that value no hop is used.
 #[derive(Debug, Drop)]
 pub struct Hops {
     pub hops: Vec<Hop>,
@@ -55,7 +56,8 @@ pub fn copy_hops(alloc: Global, hops: &Hops) -> Result<Hops, NoMemory>
     })
 }
 
-// Returns the number of the next place of messages with this address, from the place with number `n`, if it is known.
+// Returns the number of the place to which messages with this address go next from place number `n`, if the hop of that
+// place tells.
 #[inline(always)]
 pub fn known_hop(hops: &Hops, n: usize, addr: u32) -> Option<usize>
     requires { n < length hops.now.hops.items }

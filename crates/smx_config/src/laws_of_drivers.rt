@@ -1,4 +1,5 @@
-//! Laws of refused drivers, and of commands that take no memory, each the contract of a function that does nothing.
+//! Laws of refused drivers, and of commands that take no memory. A law is a theorem: the contract of a function that
+//! does nothing.
 
 ghost use Rattle.std.specs.Prelude.{◌≡◌, ℕ, true, List};
 ghost use Rattle.smx_types.specs.declared.driver.DriverSpec.{DriverSpec};
@@ -14,7 +15,7 @@ pub fn drivers_have_one_fault()
         → RefusesDrivers drivers f → RefusesDrivers drivers g → f ≡ g }
 {}
 
-/// These six commands take no memory.
+/// The commands `dup`, `unbind`, `unroute`, `read`, `transmit` and `hangup` take no memory.
 pub fn six_commands_take_no_memory()
     ensures dup { (fd : ℕ) → takes_no_memory (command.Dup fd) ≡ true }
     ensures unbind { (fd : ℕ) → takes_no_memory (command.Unbind fd) ≡ true }

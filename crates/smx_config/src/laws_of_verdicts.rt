@@ -1,4 +1,4 @@
-//! Laws of verdicts, each the contract of a function that does nothing.
+//! Laws of verdicts. A law is a theorem: the contract of a function that does nothing.
 
 ghost use Rattle.std.specs.Prelude.{◌≡◌, List};
 ghost use Rattle.smx_types.specs.declared.command.Entry.{Entry};
@@ -14,7 +14,7 @@ ghost use Rattle.smx_config.specs.declared.verdict.Verdict.{Verdict};
 
 use smx_model::laws_of_illegal_entries::{legal_or_first_illegal, the_second_is_the_first_illegal};
 
-/// Each history and view have exactly one verdict: the three verdicts exclude one another.
+/// For each history and view there is exactly one verdict.
 pub fn there_is_one_verdict()
     ensures always { (drivers : List DriverSpec) (entries : List Entry) (shown : ConfigView)
         → (v : Verdict) × IsVerdict drivers entries shown v }
@@ -24,13 +24,14 @@ pub fn there_is_one_verdict()
     legal_or_first_illegal();
 }
 
-/// Every report of programs is judged legal.
+/// Each report of a run of programs has the verdict `Legal`.
 pub fn reports_are_judged_legal()
     ensures { (programs : ProgramLists) (report : Transcript) → IsReportOf programs report
         → IsVerdict report.drivers report.entries report.view Legal }
 {}
 
-/// The worked history whose second entry is the first illegal one has exactly this verdict, with any view.
+/// In the worked history (an example), the second entry is the first illegal one. With any view, its verdict is
+/// `Illegal 2`, and neither `Legal` nor `ConfigDiffers`.
 pub fn the_second_is_judged_illegal()
     ensures second { (shown : ConfigView) → IsVerdict drivers history shown (Illegal 2) }
     ensures not_legal { (shown : ConfigView) → IsVerdict drivers history shown Legal → ⊥ }

@@ -1,5 +1,5 @@
-//! The sequential configuration: it performs a command as the model's command table says, and then lets messages move
-//! on.
+//! A configuration that one thread uses. It performs a command as the model's command table says, and then moves
+//! messages on to other places until no message can move.
 #![tactic(auto)]
 
 mod config;

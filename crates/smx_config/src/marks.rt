@@ -1,4 +1,4 @@
-//! Run marks, wanted marks, and the places that wait, by number.
+//! Marks of places, and the places that wait for other places. All are found by the numbers of the places.
 
 ghost use Rattle.std.specs.Prelude.{◌≡◌, ℕ, ◌<◌, ◌^◌, false, IfOk};
 ghost use Rattle.smx_queues.specs.Bits.{has_bit};
@@ -9,9 +9,9 @@ use smx_queues::{Bits, Rings};
 use smx_types::NoMemory;
 use std::alloc::Global;
 
-/// Two marks for each place, by its number. A run mark means that the first message may be able to move on. A wanted
-/// mark means that the place is full and holds up the first message of another place. The places that wait for the same
-/// place are in its ring.
+/// Two marks for each place, by its number, and the places that wait. A run mark means that the first message of the
+/// place may be able to move on. A wanted mark means that the place is full, and that the first message of another
+/// place waits for it. The ring of a place contains the places that wait for it.
 #[derive(Debug, Drop)]
 pub struct Marks {
     pub run: Bits,

@@ -24,7 +24,8 @@ pub fn asks_for(tables: &Tables, n: usize, addr: u32) -> bool
     }
 }
 
-// Looks up the number of the next place of messages with this address, from the place with number `n`.
+// Returns the number of the place to which messages with this address go next from place number `n`. Looks it up in the
+// tables.
 #[inline(never)]
 fn look_up(tables: &Tables, n: usize, addr: u32) -> Option<usize>
     requires sound { IsSound tables.now.drivers tables.now.configuration }
@@ -36,7 +37,7 @@ fn look_up(tables: &Tables, n: usize, addr: u32) -> Option<usize>
     tables.number(next)
 }
 
-// Returns the same number. Takes it from the hops if it is known there.
+// Returns the number that `look_up` returns. Takes this number from the hops, if they have it.
 #[inline(always)]
 fn way_from(tables: &Tables, hops: &mut Hops, n: usize, addr: u32) -> Option<usize>
     requires sound { IsSound tables.now.drivers tables.now.configuration }
@@ -54,8 +55,8 @@ fn way_from(tables: &Tables, hops: &mut Hops, n: usize, addr: u32) -> Option<usi
     Some(to)
 }
 
-// Returns the number of the place to which the first message at place `n` goes next, if there is one. That place may be
-// full.
+// Returns the number of the place to which the first message at place number `n` goes next, if there is such a place.
+// The returned place may be full.
 #[inline(always)]
 pub fn next_of_first(tables: &Tables, hops: &mut Hops, n: usize) -> Option<usize>
     requires sound { IsSound tables.now.drivers tables.now.configuration }
@@ -70,7 +71,7 @@ pub fn next_of_first(tables: &Tables, hops: &mut Hops, n: usize) -> Option<usize
     way_from(tables, hops, n, message.addr)
 }
 
-// Returns the number, unless its place is full.
+// Returns the number `next`, if there is one and its place is not full.
 pub fn if_open(tables: &Tables, next: Option<usize>) -> Option<usize>
     requires { IfSome next (IsNumber tables.now.drivers) }
     ensures same { IfSome result (λ n. next ≡ Some n) }

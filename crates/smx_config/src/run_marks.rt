@@ -1,4 +1,5 @@
-//! Run marks at places whose first message has an address.
+//! Sets the run marks of places whose first message has a given address. A place has a run mark if its first message
+//! may be able to move.
 
 ghost use Rattle.std.specs.Prelude.{◌≡◌, length};
 ghost use Rattle.smx_model.specs.RunMarks.{asks_down, asks_up};
@@ -22,7 +23,7 @@ fn mark_if_asked(tables: &Tables, run: &mut Bits, place: Place, addr: u32)
     }
 }
 
-// Sets the run marks of those places on one side of the driver's streams whose first message has this address.
+// Looks at this side of each of the driver's streams. Sets the run marks of those whose first message has this address.
 fn mark_side(tables: &Tables, run: &mut Bits, driver: u8, side: Side, addr: u32)
     requires { run.old.count ≡ length (places_of tables.now.drivers) }
     ensures { IsMarkedWhere tables.now.drivers tables.now.configuration.flow
@@ -34,7 +35,7 @@ fn mark_side(tables: &Tables, run: &mut Bits, driver: u8, side: Side, addr: u32)
     }
 }
 
-// Sets the run marks of those write sides of the driver's streams whose first message has this address.
+// Looks at the write sides of the driver's streams. Sets the run marks of those whose first message has this address.
 pub fn mark_writes(tables: &Tables, run: &mut Bits, driver: u8, addr: u32)
     requires { run.old.count ≡ length (places_of tables.now.drivers) }
     ensures { IsMarkedWhere tables.now.drivers tables.now.configuration.flow
@@ -45,8 +46,9 @@ pub fn mark_writes(tables: &Tables, run: &mut Bits, driver: u8, addr: u32)
     }
 }
 
-// If a path leads from the upper driver to the lower one, sets the run marks of those read sides of the lower driver's
-// streams whose first message has this address. Otherwise looks at no stream: none is below the upper driver.
+// If a path of links leads from the driver `driver` down to the driver `lower`, looks at the read sides of the streams
+// of `lower`, and sets the run marks of those whose first message has this address. Without such a path, no stream of
+// `lower` is below `driver`, and none is looked at.
 fn mark_reads_of(tables: &Tables, run: &mut Bits, driver: u8, addr: u32, lower: u8)
     requires { run.old.count ≡ length (places_of tables.now.drivers) }
     ensures { IsMarkedWhere tables.now.drivers tables.now.configuration.flow
@@ -57,7 +59,7 @@ fn mark_reads_of(tables: &Tables, run: &mut Bits, driver: u8, addr: u32, lower: 
     }
 }
 
-// Does the same for all drivers below the upper one.
+// Calls `mark_reads_of` with each driver as `lower`.
 pub fn mark_reads(tables: &Tables, run: &mut Bits, driver: u8, addr: u32)
     requires { run.old.count ≡ length (places_of tables.now.drivers) }
     ensures { IsMarkedWhere tables.now.drivers tables.now.configuration.flow

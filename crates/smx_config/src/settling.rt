@@ -1,4 +1,4 @@
-//! Messages that move on.
+//! Settling: moves messages on to other places until no message can move.
 
 ghost use Rattle.std.specs.Prelude.{◌≡◌, ◌<◌, IfNone, IfSome, true};
 ghost use Rattle.smx_types.specs.declared.stream.Place.{Place as PlaceValue};
@@ -24,8 +24,8 @@ pub struct Move {
 }
 
 // Clears the run mark of the place `from`, whose first message can't move on. (A run mark says that the first message
-// of a place may be able to move.) If the message has a next place, the caller guarantees that this is full; `from` is
-// then recorded as waiting for it.
+// of a place may be able to move.) Requires that the next place of this message, if there is one, is full. `from` is
+// then noted as waiting for that next place.
 fn clear_mark(tables: &Tables, marks: &mut Marks, from: usize, next: Option<usize>)
     requires marks { AreMarks tables.now.drivers tables.now.configuration marks.old }
     requires number { IsNumber tables.now.drivers from }
@@ -44,8 +44,8 @@ fn clear_mark(tables: &Tables, marks: &mut Marks, from: usize, next: Option<usiz
     }
 }
 
-// Returns the move from the least movable place, if there is one. Looks only at places with a run mark, and clears the
-// run marks of the places that come before the least movable one (of all places, if none is movable).
+// Returns the move from the least movable place, if there is one. Looks only at places with a run mark. Clears the run
+// marks of the places before the least movable place. If no place is movable, clears all run marks.
 #[inline(always)]
 fn next_move(tables: &Tables, marks: &mut Marks, hops: &mut Hops) -> Option<Move>
     requires sound { IsSound tables.now.drivers tables.now.configuration }
@@ -87,7 +87,7 @@ fn clear_if_empty(tables: &Tables, marks: &mut Marks, n: usize)
     }
 }
 
-// Makes a move, and gives a run mark to each place that may become movable by it.
+// Makes a move, and gives a run mark to each place that may become movable because of this move.
 fn move_on(tables: &mut Tables, marks: &mut Marks, next: Move)
     requires sound { IsSound tables.old.drivers tables.old.configuration }
     requires marks { AreMarks tables.old.drivers tables.old.configuration marks.old }

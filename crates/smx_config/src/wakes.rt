@@ -1,4 +1,4 @@
-//! The places that a command may wake.
+//! The places that a command may wake, as far as this is known before the command is performed.
 
 ghost use Rattle.std.specs.Prelude.{◌≡◌};
 ghost use Rattle.smx_commands.specs.MessageStreams.{message_stream};
@@ -8,22 +8,23 @@ ghost use Rattle.smx_config.specs.declared.wakes.Wakes.TheVariants as wakes;
 use smx_commands::Tables;
 use smx_types::{Command, Fault, Place, Process, Side, StreamId};
 
-/// The places that a command may wake, if it is accepted.
+/// The change by which an accepted command may wake places. A command wakes a place if the first message there may
+/// become able to move because of the command.
 #[derive(Clone, Copy)]
 pub enum Wakes {
-    // Nothing: no message that could not move before can move now.
+    // No change: no message becomes able to move.
     Nothing,
     // A place may get another first message, or its first message may get another next place.
     Turns(Place),
     // The first message leaves a place whose messages have no next place.
     Leaves(Place),
-    // Messages for an address may get another next place, from the write sides of a driver.
+    // On the write sides of a driver's streams, messages with this address may get another next place.
     TurnsWrites { driver: u8, addr: u32 },
-    // The same, from the read sides of the streams below a driver.
+    // On the read sides of the streams below a driver, messages with this address may get another next place.
     TurnsReads { driver: u8, addr: u32 },
     // Messages may be dropped on either side of a stream.
     Empties(StreamId),
-    // Any full place may be emptied.
+    // Messages may be dropped at any place, so any full place may be freed.
     Frees,
 }
 
@@ -78,8 +79,8 @@ fn turns_reads(stream: Result<StreamId, Fault>, addr: u32) -> Wakes
     }
 }
 
-// Returns the place that a message wakes when it arrives at a side of the stream. If the place had messages, its first
-// one stays the first, and the arrival wakes nothing.
+// Returns the place that a message wakes when it arrives at a side of the stream. If the place already has messages,
+// the first of them stays the first, and the arrival wakes no place.
 fn arrives(tables: &Tables, stream: Result<StreamId, Fault>, side: Side) -> Wakes
     ensures { result ≡ on_stream stream (λ s. arrives tables.now.configuration (record { stream = s; side = side })) }
 {
@@ -94,7 +95,7 @@ fn arrives(tables: &Tables, stream: Result<StreamId, Fault>, side: Side) -> Wake
     }
 }
 
-// Returns the places that the command may wake, by the command table. Takes no memory.
+// Returns the change by which the command may wake places, if it is accepted. Takes no memory.
 pub fn wakes_of(
     tables: &Tables,
     process: Process,

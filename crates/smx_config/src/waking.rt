@@ -1,4 +1,6 @@
-//! Sets run marks and clears wanted marks (see `marks.rt`) when a change wakes places.
+//! Sets run marks and clears wanted marks when a change wakes places. A place has a run mark if its first message may
+//! be able to move, and a wanted mark if it is full and other places wait for it. To release a place is to clear its
+//! wanted mark, and to give a run mark to each place that waits for it.
 
 ghost use Rattle.std.specs.Prelude.{◌≡◌, ℕ, ◌<◌, false, true, length, IfSome, IfNone, List};
 ghost use Rattle.smx_types.specs.declared.driver.DriverSpec.{DriverSpec};
@@ -20,7 +22,8 @@ use smx_commands::Tables;
 use smx_queues::Bits;
 use smx_types::{Place, Reply, Side, StreamId};
 
-// Gives a run mark to each place that waits for the place with this number. These places then no longer wait.
+// Gives a run mark to each place that waits for the place with this number. Afterwards no place is noted as waiting for
+// it.
 fn mark_waiters(marks: &mut Marks, n: usize)
     requires over { AreFor marks.old.run.count marks.old }
     requires number { n < marks.old.run.count }
@@ -46,7 +49,7 @@ fn release(marks: &mut Marks, n: usize)
     marks.wanted.clear(n);
 }
 
-// Does the same, but only if the place with this number is wanted and not full.
+// Calls `release`, but only if the place with this number has a wanted mark and is not full.
 pub fn release_if_open(tables: &Tables, marks: &mut Marks, n: usize)
     requires over { AreOver tables.now.drivers marks.old }
     requires number { IsNumber tables.now.drivers n }
@@ -124,8 +127,8 @@ fn drops_none(reply: &Reply) -> bool
     }
 }
 
-// Releases both sides of the stream, if messages were dropped. If no message was dropped, does nothing: a side that was
-// full had messages, and has lost none, so it is still full.
+// Releases the sides of the stream that are wanted and not full, if the reply names dropped messages. If it names none,
+// does nothing: a side that was full has lost no message, so the side is still full.
 fn release_emptied(tables: &Tables, marks: &mut Marks, stream: StreamId, reply: &Reply)
     requires over { AreOver tables.now.drivers marks.old }
     requires listed { IsListed marks.old }
@@ -137,7 +140,7 @@ fn release_emptied(tables: &Tables, marks: &mut Marks, stream: StreamId, reply: 
     }
 }
 
-// Releases all wanted places that are not full, if messages were dropped.
+// Releases all wanted places that are not full, if the reply names dropped messages.
 fn release_dropped(tables: &Tables, marks: &mut Marks, reply: &Reply)
     requires over { AreOver tables.now.drivers marks.old }
     requires listed { IsListed marks.old }
@@ -186,8 +189,8 @@ fn mark_turned(tables: &Tables, run: &mut Bits, wakes: Wakes)
     }
 }
 
-// Sets the run marks of the places that a command with this reply woke. Clears the wanted marks of the places that it
-// freed.
+// Sets the run marks of the places that a command with this reply woke. Clears the wanted marks of the places that the
+// command freed.
 pub fn wake(tables: &Tables, marks: &mut Marks, wakes: Wakes, reply: &Reply)
     requires over { AreOver tables.now.drivers marks.old }
     requires listed { IsListed marks.old }
