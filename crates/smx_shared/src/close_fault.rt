@@ -1,9 +1,9 @@
-//! Why a shared system is not given back, in the words that a program prints.
+//! The reason why a shared system is not given back, and the words that it prints.
 
 use crate::front::Front;
 use std::fmt;
 
-/// The reason why a shared system was not given back. It prints as `turn held`.
+/// The reason why a shared system was not given back. The fault prints as `turn held`.
 #[derive(Clone, Copy, Debug, PartialEq, Eq)]
 pub enum CloseFault {
     /// Some caller never gave the turn back, as this front shows. The system is dropped.

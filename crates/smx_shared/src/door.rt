@@ -1,4 +1,4 @@
-//! The calls that a shared system offers, so that another implementation can take its place.
+//! The calls of a shared system as a trait, so that another implementation can take the place of `Shared`.
 
 ghost use Rattle.std.specs.Prelude.{◌≡◌, IfErr, IfOk, OnErr, OnOk};
 ghost use Rattle.smx_shared.specs.Calls.{AddsEntry, AnswersEntry, HasSeenMore, Refuses, SeesFront};
@@ -28,9 +28,9 @@ pub trait Door {
     fn process(seat: &Self::Seat) -> Process
         ensures { result ≡ (known seat.now).process };
 
-    /// Performs a command of the seat's process, and returns the one entry that this added to the history. Fails if the
-    /// history is full, or else if an allocation fails; no entry is added then. The allocator is for other doors:
-    /// `Shared` doesn't use it, because its system has one already.
+    /// Performs a command of the seat's process, and returns the one entry that this call added to the history. Fails
+    /// if the history is full, or else if an allocation fails. A call that fails adds no entry. The allocator is for
+    /// other doors: `Shared` doesn't use it, because its system has one already.
     fn call<R: Wait>(
         &self,
         rt: &R,
@@ -44,8 +44,8 @@ pub trait Door {
         ensures answer { IfOk result (AnswersEntry (known seat.old) (known seat.new) command.now) }
         ensures refused { IfErr result (Refuses (known seat.old) (known seat.new)) };
 
-    /// Performs a command as `call` does, for a caller that needs no entry. A door that keeps the command may move it
-    /// out of `command`, but not if it fails.
+    /// Performs a command as `call` does, but doesn't return the entry. On success, the door may have moved the command
+    /// out of `command`. After a failure, `command` is unchanged.
     fn perform<R: Wait>(
         &self,
         rt: &R,

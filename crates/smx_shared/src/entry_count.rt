@@ -7,7 +7,7 @@ use crate::ghost_value::GhostValue;
 use smx_types::{Command, Entries, Entry, NoMemory, Process, Reply};
 use std::marker::Model;
 
-/// Counts the entries that it is given, and keeps none of them. Contracts see the list of these entries all the same.
+/// Counts the entries that it is given, and keeps none of them. But contracts see the list of these entries.
 #[derive(Drop)]
 pub struct EntryCount {
     count: usize,

@@ -9,23 +9,23 @@ pub trait EntrySink: Drop {
     ghost use Rattle.smx_types.specs.declared.command.Entry.{Entry as Made};
     ghost use Rattle.smx_types.specs.declared.limits.TheConstants.{MAX_COMMANDS};
 
-    // All entries that it was given.
+    // All entries that the sink was given.
     ghost entries: { Self → List Made };
 
-    // It has room for one more.
+    // The sink has room for another entry.
     ghost has_room: { Self → Type 0 };
 
-    /// Returns how many entries it was given. Takes no memory.
+    /// Returns how many entries the sink was given. Takes no memory.
     fn count(&self) -> usize
         ensures { result ≡ length (entries self.now) };
 
-    /// Makes room for one more entry. Fails if an allocation fails. It adds no entry in either case.
+    /// Makes room for another entry, but adds no entry. Fails if an allocation fails.
     fn make_room(&mut self) -> Result<(), NoMemory>
         ensures same { entries self.new ≡ entries self.old }
         ensures room { OnOk result (has_room self.new) };
 
-    /// Adds the next entry. There must be room for it, so this can't fail. A sink that keeps the command or the reply
-    /// moves it out, and leaves any other value in its place.
+    /// Adds the next entry. Requires that there is room for it, so this call can't fail. A sink that keeps the command
+    /// or the reply moves it out, and leaves any other value in its place.
     fn add(&mut self, process: Process, command: &mut Command, reply: &mut Reply)
         requires room { has_room self.old }
         requires few { length (entries self.old) < MAX_COMMANDS }

@@ -10,7 +10,7 @@ use std::alloc::Global;
 /// gets a front at once, without waiting.
 #[derive(Clone, Copy, Debug, PartialEq, Eq)]
 pub struct Front {
-    /// The number of entries of its history.
+    /// The number of entries of the history.
     pub entries: u32,
     /// The number of links.
     pub links: u32,
@@ -18,11 +18,11 @@ pub struct Front {
     pub held: bool,
 }
 
-/// Fronts in the order of the processes that saw them.
+/// A list of fronts, in the order of the processes that saw them.
 pub type Fronts = Items<Front>;
 
 impl Front {
-    // Reads the first word of a shared system.
+    // Returns the front that the first word of a shared system has.
     pub(crate) fn read(word: u64) -> Front
         requires { word < 4096 * 2 ^ 32 }
         ensures word { word_of result ≡ word }

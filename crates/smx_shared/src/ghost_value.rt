@@ -16,7 +16,7 @@ impl<T> Model for GhostValue<T> {
     ghost also_owns = { λ _. ftrue };
 }
 
-// It owns nothing.
+// A `GhostValue` owns nothing.
 unsafe impl<T> Send for GhostValue<T> {}
 
 impl<T> Drop for GhostValue<T> {

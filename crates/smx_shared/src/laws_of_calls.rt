@@ -1,5 +1,5 @@
-//! Laws of what a caller knows after a call, each the contract of a function that does nothing: examples and
-//! counterexamples.
+//! Laws of what a caller knows after a call. A law is a theorem: the contract of a function that does nothing. These
+//! laws are examples and counterexamples.
 
 ghost use Rattle.std.specs.Prelude.{◌≡◌, ℕ, [], ◌∷◌, true, false, take};
 ghost use Rattle.atomic_table.specs.Table.{Step};
@@ -32,8 +32,8 @@ pub fn answer_examples()
     ensures not_unmade { AnswersEntry (knows 0 0 9) idle (OpenClone ip) opened → ⊥ }
 {}
 
-/// A call that returns no entry still adds exactly one. This entry has the process and the command. It is the last
-/// entry that the seat has seen, and it was made with the seat.
+/// A call of `perform`, which returns no entry, adds exactly one entry. This entry has the process and the command. It
+/// is the last entry that the seat has seen, and it was made with the seat.
 pub fn unanswered_call_examples()
     ensures one { AddsEntry (knows 0 0 9) (OpenClone ip) (knows 0 1 9) }
     ensures not_none { AddsEntry (knows 0 0 9) (OpenClone ip) (knows 0 0 9) → ⊥ }
@@ -45,7 +45,7 @@ pub fn unanswered_call_examples()
     ensures not_unmade { AddsEntry (knows 0 0 9) (OpenClone ip) idle → ⊥ }
 {}
 
-/// A store publishes one more entry of the process, or none.
+/// The store with which a seat gives the turn back publishes one entry of the seat's process, or none.
 pub fn store_examples()
     ensures published { (st : Step Slot) (m : Mine) (n : ℕ) (new : Mine)
         → Published st m n new → AddsFor m.0.process m.0.seen new.0.seen }
@@ -74,7 +74,7 @@ pub fn knowledge_examples()
     an_example_is_sound();
 }
 
-/// A refused call added nothing. It reports a full history exactly if the history is full.
+/// A refused call added no entry. It reports a full history exactly if the history is full.
 pub fn refusal_examples()
     ensures full { Refuses (knows 1 0 1) (knows 1 1 1) apply.HistoryFull }
     ensures not_full { Refuses (knows 1 0 9) (knows 1 1 9) apply.HistoryFull → ⊥ }
@@ -84,7 +84,8 @@ pub fn refusal_examples()
     ensures not_added { Refuses (knows 0 0 9) (knows 0 1 9) apply.NoMemory → ⊥ }
 {}
 
-/// Three entries and one link are one word, with the turn bit in it. A front with other numbers has another word.
+/// For three entries and one link, the first word is 12290, and 12291 while a seat has the turn. A front with other
+/// numbers is not the front of this history.
 pub fn front_examples()
     ensures word { front_of a_b_and_eth (take 3 linked) ≡ 12290 }
     ensures free { word_of (front 3 1 false) ≡ 12290 }
@@ -94,7 +95,7 @@ pub fn front_examples()
     ensures not_without_the_link { IsFrontOf (front 3 0 true) a_b_and_eth (take 3 linked) → ⊥ }
 {}
 
-/// After each call a seat is at rest: it belongs to the same shared system, without the turn.
+/// After each call a seat is at rest: it belongs to the same shared system as before, and doesn't have the turn.
 pub fn rest_examples()
     ensures rests { (id : SharedId) → Rests (sits id (knows 1 0 9) 0 0) (sits id (knows 1 1 9) 4096 1) }
     ensures not_with_the_turn { (id : SharedId) → Rests (sits id (knows 1 0 9) 0 0)
@@ -103,8 +104,9 @@ pub fn rest_examples()
         (sits other (knows 1 1 9) 4096 1) → ⊥ }
 {}
 
-/// A look is one step. The word that it reads is the returned front, and the front of the history that the seat has
-/// then seen. A try is busy only if that front shows the turn held.
+/// A look (`glance`) is one step, which reads the first word. This word is the returned front, and also the front of
+/// the history that the seat has seen afterwards. `try_call` fails with `Busy` only by such a look, if the front shows
+/// that the turn is held.
 pub fn look_examples()
     ensures looks { (id : SharedId) → LooksOnce (sits id (knows 1 0 9) 0 0) (sits id (knows 1 1 9) 4096 1)
         (front 1 0 false) }
@@ -126,7 +128,7 @@ pub fn look_examples()
         (sits id (knows 1 1 9) 4097 2) (try.Busy (front 1 0 true)) → ⊥ }
 {}
 
-/// A try that fails, but not with `Busy`, is refused as a call is.
+/// If `try_call` fails with another fault than `Busy`, it is refused as `call` is.
 pub fn refused_try_examples()
     ensures full { (id : SharedId) → RefusesTry (sits id (knows 1 0 1) 0 0) (sits id (knows 1 1 1) 4096 2)
         try.HistoryFull }
@@ -142,8 +144,9 @@ pub fn refused_try_examples()
         (sits id (knows 0 1 9) 4096 2) try.NoMemory → ⊥ }
 {}
 
-/// A meeting adds no entry. It records the other seat, which has the same limit, and the seats that either had met. The
-/// first seat has now seen all that these had seen. The entries of their processes are exactly those made with them.
+/// In a meeting, the first seat records the other seat, which has the same limit, and the seats that either of them had
+/// met. A meeting adds no entry. The first seat has then seen everything that the recorded seats had seen. In its
+/// history, the entries of the process of each recorded seat are exactly those made with that seat.
 pub fn meeting_examples()
     ensures meets { (id : SharedId) → Meets (sits id (knows 1 0 9) 0 0) (sits id (knows 0 1 9) 4096 1)
         (meets (sits id (knows 1 1 9) 4096 1) (knows 0 1 9)) }
@@ -184,8 +187,9 @@ pub fn met_all_examples()
     ensures not_by_its_own { HasMetAll 2 (knows 0 0 9) (met_seat (knows 0 1 9) ∷ []) → ⊥ }
 {}
 
-/// The returned system continues the history that was shared, by entries of its processes. It agrees with what the seat
-/// knew.
+/// The history of the returned system begins with the history that was shared. Each further entry is of one of the
+/// processes among which the system was shared. The returned system agrees with the knowledge of the seat that closed
+/// it.
 pub fn close_examples()
     ensures goes_on { (id : SharedId) → GoesOnFrom (shared_as id (with_first 0 9) 1) (with_first 1 9) }
     ensures not_to_another_limit { (id : SharedId) → GoesOnFrom (shared_as id (with_first 0 9) 1) (with_first 1 8) → ⊥ }

@@ -1,4 +1,4 @@
-//! Laws of systems, each the contract of a function that does nothing.
+//! Laws of systems. A law is a theorem: the contract of a function that does nothing.
 
 ghost use Rattle.std.specs.Prelude.{◌≤◌, length};
 ghost use Rattle.smx_types.specs.declared.limits.TheConstants.{MAX_COMMANDS};

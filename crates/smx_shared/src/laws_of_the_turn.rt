@@ -1,4 +1,4 @@
-//! Laws of the rule of the turn, each the contract of a function that does nothing.
+//! Laws of the rule of the turn. A law is a theorem: the contract of a function that does nothing.
 
 ghost use Rattle.std.specs.Prelude.{◌≡◌, ◌%◌, ℕ, List, [], ◌∷◌, true, Some};
 ghost use mathlib.Core.Option.{none, some};
@@ -11,7 +11,7 @@ ghost use Rattle.smx_shared.specs.Recorded.{Recorded, IsSoundSystem};
 ghost use Rattle.smx_shared.specs.TurnRule.{Slot, TurnRule};
 ghost use Rattle.smx_shared.specs.declared.seat_view.SeatView.{SeatView as View};
 
-/// The turn bit is set exactly if a seat has the turn, and no two seats have it.
+/// The turn bit of the first word is set exactly if a seat has the turn, and no two seats have the turn.
 pub fn the_turn_is_one_seats()
     ensures held { (drivers : List Driver) (limit : ℕ) (start : List Made) (processes word : ℕ) (s : State Slot View)
         → TurnRule drivers limit start processes s → get_elem? s.words 0 ≡ some word → word % 2 ≡ 1
@@ -27,8 +27,8 @@ pub fn the_turn_is_one_seats()
         → v.turn ≡ true → w.turn ≡ true → i ≡ j }
 {}
 
-/// While the turn bit is not set, the slot belongs to the table and contains a sound system, and the word is the front
-/// of its history. While the bit is set, the slot belongs to a seat.
+/// While the turn bit is not set, the slot belongs to the table and contains a sound system, and the first word is the
+/// front of this system's history. While the bit is set, the slot belongs to a seat.
 pub fn the_slot_is_home_or_out()
     ensures home { (drivers : List Driver) (limit : ℕ) (start : List Made) (processes word : ℕ) (s : State Slot View)
         → TurnRule drivers limit start processes s → get_elem? s.words 0 ≡ some word → word % 2 ≡ 0

@@ -1,4 +1,4 @@
-//! A configuration together with the one history that led to it, and callers that share it.
+//! A system: a configuration together with the one history that led to it. Threads can share a system.
 #![tactic(auto)]
 
 mod boxed_system;

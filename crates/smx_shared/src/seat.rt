@@ -1,12 +1,12 @@
-//! A caller's part in a shared system: the right to perform the commands of one process.
+//! A seat: a caller's right to perform the commands of one process.
 
 use crate::entry_sink::EntrySink;
 use crate::turn_table::Token;
 use smx_types::{Entry, Process};
 use std::marker::Model;
 
-/// The right to perform the commands of one process on a shared system. Contracts also see what its caller has seen of
-/// the history. It takes a few bytes, and may be sent to another thread, or dropped.
+/// The right to perform the commands of one process on a shared system. Contracts also see the part of the history that
+/// the seat has seen. A seat takes a few bytes. It may be sent to another thread, or dropped.
 #[derive(Drop)]
 pub struct Seat<K: EntrySink = Vec<Entry>> {
     pub(crate) process: Process,

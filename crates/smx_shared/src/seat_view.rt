@@ -1,4 +1,4 @@
-//! The state that the proofs keep of each seat, the rule of the turn, and the kinds of step that keep it.
+//! The state that the proofs keep of each seat, the rule of the turn, and the kinds of step that keep this rule.
 
 use crate::boxed_system::BoxedSystem;
 use crate::entry_sink::EntrySink;
@@ -13,36 +13,37 @@ pub struct SeatView {
     /// The drivers and the limit that the system was shared with.
     pub drivers: LinkedList<DriverSpec>,
     pub limit: usize,
-    /// The process whose commands it performs, once it has a name.
+    /// The process whose commands the seat performs, once the seat has a name.
     pub process: u64,
-    /// The history that it has seen.
+    /// The history that the seat has seen.
     pub seen: LinkedList<Entry>,
     /// The entries that were made under its process.
     pub own: LinkedList<Entry>,
-    /// The value of the first word that it read or wrote last, and the number of its steps on that word.
+    /// The value that the seat's last step on the first word loaded or stored, and the number of its steps on that
+    /// word.
     pub last: u64,
     pub looks: u64,
-    /// Whether it has the turn.
+    /// Whether the seat has the turn.
     pub turn: bool,
-    /// The seats that it met.
+    /// The seats that this seat met, and those that they had met.
     pub met: LinkedList<MetSeat>,
-    /// Whether it was given up in a meeting.
+    /// Whether the seat was given up in a meeting.
     pub spent: bool,
-    /// Whether it has a name.
+    /// Whether the seat has a name.
     pub named: bool,
-    /// Whether it may take the next name, and which one that is.
+    /// Whether the seat may take the next name, and the next name.
     pub may_name: bool,
     pub next: u64,
 }
 
 /// A seat that was given up in a meeting. No value of it is made.
 pub struct MetSeat {
-    /// The drivers and the limit that it knew.
+    /// The drivers and the limit that the seat knew.
     pub drivers: LinkedList<DriverSpec>,
     pub limit: usize,
     /// Its process.
     pub process: u64,
-    /// The history that it had seen.
+    /// The history that the seat had seen.
     pub seen: LinkedList<Entry>,
     /// The entries that were made under its process.
     pub own: LinkedList<Entry>,
@@ -77,7 +78,7 @@ impl<K: EntrySink> Play<Option<BoxedSystem<K>>, SeatView> for Look {
     ghost then = { Looked };
 }
 
-/// Sets the turn bit of the first word, and returns the word before that.
+/// Sets the turn bit of the first word, and returns the value that the word had before.
 pub struct Take;
 
 impl<K: EntrySink> Play<Option<BoxedSystem<K>>, SeatView> for Take {

@@ -27,8 +27,9 @@ use std::alloc::Global;
 use std::marker::Model;
 use std::sync::Wait;
 
-/// A system that many threads share: they take turns, and each call adds one entry. Contracts see a name that tells
-/// this system from all others. They see its history only through seats: each seat knows what it has seen.
+/// A system that many threads share: they take turns, and each call adds one entry. Contracts see a name that no other
+/// shared system has, the system as it was when it was shared, and the number of processes. They see later entries only
+/// through seats: a seat knows the history that it has seen.
 #[derive(Drop)]
 pub struct Shared<K: EntrySink = Vec<Entry>> {
     turns: TurnTable<K>,
@@ -43,8 +44,9 @@ impl<K: EntrySink> Model for Shared<K> {
         s.turns.table.shared.key.processes };
 }
 
-// Pushes the seats of `processes` processes, from process 0 on, to a list that has room for them. Each seat takes the
-// next name, and splits off the next seat, which may take the name after it.
+// Makes a seat for each of the processes from 0 to `processes` - 1, and pushes these seats to a list that has room for
+// them. Each seat takes the next name, which is the number of its process. It then splits off the next seat, which may
+// take the name after it.
 fn deal_seats<K: EntrySink>(
     turns: &TurnTable<K>,
     first: Token<K>,
@@ -132,7 +134,7 @@ impl<K: EntrySink> Shared<K> {
         self.turns.apply(&mut seat.token, seat.process, command)
     }
 
-    /// Gives `seat` everything that `other` has seen, and gives `other` up. Doesn't wait, and takes no memory.
+    /// Lets `seat` take over everything that `other` has seen. `other` is given up. Doesn't wait, and takes no memory.
     pub fn meet(&self, seat: &mut Seat<K>, other: Seat<K>)
         requires { (seat.old.shared ≡ self.now.name) × (other.shared ≡ self.now.name) }
         ensures rests { Rests seat.old seat.new }
@@ -142,9 +144,9 @@ impl<K: EntrySink> Shared<K> {
         self.turns.meet(&mut seat.token, other.token);
     }
 
-    /// Returns the system with its whole history, once its callers have ended. Fails only if a turn was never given
-    /// back, as the front in the fault shows; the system is then dropped. Never fails for a seat that has met the seats
-    /// of all other processes. Takes no memory.
+    /// Returns the system with its whole history, after all its callers have ended. Fails only if a turn was never
+    /// given back, as the front in the fault shows; the system is then dropped. Never fails for a seat that has met the
+    /// seats of all other processes. Takes no memory.
     pub fn close(self, seat: Seat<K>) -> Result<System<K>, CloseFault>
         requires { seat.shared ≡ self.name }
         ensures ends { IfOk result (EndsAs seat.known seat.met) }

@@ -1,4 +1,4 @@
-//! Why a command was not performed, in the words that a program prints.
+//! The reasons why a command is not performed, and the words that they print.
 
 ghost use Rattle.std.specs.Prelude.{◌≡◌};
 ghost use Rattle.smx_shared.specs.declared.shared_fault.ApplyFault.TheVariants as apply;
@@ -7,7 +7,8 @@ use smx_types::NoMemory;
 use std::alloc::AllocError;
 use std::fmt;
 
-/// Why a command was not performed. Nothing has changed then. It prints as `history full` or `no memory`.
+/// The reason why a command was not performed. Then nothing has changed. The fault prints as `history full` or `no
+/// memory`.
 #[derive(Clone, Copy, Debug, PartialEq, Eq)]
 pub enum ApplyFault {
     /// There are as many entries as the limit allows.

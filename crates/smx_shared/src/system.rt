@@ -49,7 +49,7 @@ impl<K: EntrySink> Model for System<K> {
     ghost invariant = { λ s. IsRecord s.config s.limit (K.entries s.sink) };
 }
 
-// Makes room for one more entry, if the limit allows one.
+// Makes room for the next entry. Fails with `HistoryFull` exactly if the limit allows no further entry.
 fn make_room<K: EntrySink>(sink: &mut K, limit: usize) -> Result<(), ApplyFault>
     ensures same { K.entries sink.new ≡ K.entries sink.old }
     ensures below { OnOk result (length (K.entries sink.old) < limit) }
@@ -64,9 +64,9 @@ fn make_room<K: EntrySink>(sink: &mut K, limit: usize) -> Result<(), ApplyFault>
 }
 
 impl System {
-    /// Makes a system over these drivers, with no history. It keeps the allocator for all later allocations. `limit` is
-    /// the largest number of entries that it can have, at most 100,000. Fails if the drivers are invalid, or if an
-    /// allocation fails.
+    /// Makes a system over these drivers, with no history. The system keeps the allocator for all later allocations.
+    /// `limit` is the largest number of entries that the system can have, at most 100,000. Fails if the drivers are
+    /// invalid, or if an allocation fails.
     pub fn new(alloc: Global, drivers: &[DriverSpec], limit: usize) -> Result<System, ConfigFault>
         requires { limit ≤ MAX_COMMANDS }
         ensures drivers { IfOk result (λ s. (s.drivers ≡ drivers.now) × IsDriverList drivers.now) }
@@ -160,7 +160,7 @@ impl<K: EntrySink> System<K> {
         })
     }
 
-    /// Performs one command as `apply` does, for a caller that needs no entry. Copies nothing: a sink that keeps the
+    /// Performs one command as `apply` does, but doesn't return the entry. Copies nothing: a sink that keeps the
     /// command moves it out of `command`. After a failure `command` is unchanged.
     pub fn perform(&mut self, process: Process, command: &mut Command) -> Result<(), ApplyFault>
         // The effect.

@@ -1,4 +1,4 @@
-//! Why a try performed no command, in the words that a program prints.
+//! The reasons why `try_call` performs no command, and the words that they print.
 
 ghost use Rattle.std.specs.Prelude.{◌≡◌};
 ghost use Rattle.smx_shared.specs.TryFaults.{try_fault_of};
@@ -7,7 +7,8 @@ use crate::front::Front;
 use crate::shared_fault::ApplyFault;
 use std::fmt;
 
-/// Why a try performed no command. No entry was added then. It prints as `turn held`, `history full` or `no memory`.
+/// The reason why `try_call` performed no command. Then no entry was added. The fault prints as `turn held`, `history
+/// full` or `no memory`.
 #[derive(Clone, Copy, Debug, PartialEq, Eq)]
 pub enum TryFault {
     /// Another seat had the turn, as this front showed.

@@ -1,4 +1,4 @@
-//! The words and the slot of a shared system, and the steps on them.
+//! The two words and the slot of a shared system, and the steps that seats make on them.
 
 ghost use Rattle.std.specs.Prelude.{◌≡◌, ◌<◌, ◌≤◌, ◌+◌, ◌*◌, ◌%◌, [], true, false, Some, None};
 ghost use Rattle.std.specs.Prelude.{IfOk, IfErr, IsOk, OnErr, OnOk};
@@ -27,7 +27,9 @@ use std::time::Duration;
 /// A seat, as the table knows it.
 pub type Token<K> = atomic_table::Seat<Option<BoxedSystem<K>>, SeatView>;
 
-/// Two words and a slot: the front with the turn bit, the number of names given, and the system.
+/// Two words and a slot. The first word has the front and the turn bit, which is set while a seat has the turn. The
+/// second word has the number of names that seats have taken; a name is the number of a process. The slot has the
+/// system.
 pub struct TurnTable<K: EntrySink> {
     pub table: Table<Option<BoxedSystem<K>>, SeatView, Start<K>, OneTurn, Global>,
     pub ghost sized: { (table.shared.table_id.words ≡ 2) × (table.shared.table_id.slots ≡ 1) },
@@ -47,8 +49,7 @@ const NAMES: usize = 1;
 
 const SYSTEM: usize = 0;
 
-// The number of times that a waiting caller yields before it sleeps, and the number of tries after which the sleeps
-// stop getting longer.
+// A waiting caller yields `YIELDS` times before it sleeps. From `MOST_TRIES` tries on, its sleeps have the same length.
 const YIELDS: u32 = 1;
 
 const MOST_TRIES: u32 = 4;
@@ -56,7 +57,7 @@ const MOST_TRIES: u32 = 4;
 // The first sleep of a waiting caller, in microseconds.
 const SHORTEST_SLEEP: u64 = 200;
 
-// Returns the word of a system with the turn free.
+// Returns the first word for this system, with the turn bit not set.
 fn front_word<K: EntrySink>(system: &System<K>) -> u64
     ensures word { result ≡ front_of system.now.drivers system.now.history }
     ensures sound { IsSoundSystem system.now }
@@ -66,9 +67,9 @@ fn front_word<K: EntrySink>(system: &System<K>) -> u64
     4096 * entries + 2 * links
 }
 
-// Lets other threads go on, after `tries` tries: yields at first, and sleeps later, longer each time. It sleeps for its
-// whole time, and doesn't wait for a change of the first word: each call of another caller would then wake it, and many
-// callers would hardly sleep. Returns the number of tries plus one, up to the maximum.
+// Lets other threads go on, after `tries` failed tries: at first it yields, and later it sleeps, longer each time. It
+// always sleeps for the whole time. If it waited for a change of the first word instead, each call of another caller
+// would wake it, and many callers would hardly sleep. Returns `tries` + 1, at most `MOST_TRIES`.
 fn let_others_go_on<R: Wait>(rt: &R, tries: u32) -> u32
     requires { tries ≤ MOST_TRIES }
     ensures { result ≤ MOST_TRIES }
@@ -83,7 +84,8 @@ fn let_others_go_on<R: Wait>(rt: &R, tries: u32) -> u32
 }
 
 impl<K: EntrySink> TurnTable<K> {
-    /// Makes a table with the system in its slot and the turn free, and the first seat, which may take the first name.
+    /// Makes a table with the system in its slot, and with the turn free. Also returns the first seat, which may take
+    /// the first name.
     pub fn open(
         alloc: Global,
         system: System<K>,
@@ -109,7 +111,7 @@ impl<K: EntrySink> TurnTable<K> {
         }
     }
 
-    /// Splits off another seat, which has seen the same history. The right to the next name goes over to it.
+    /// Splits off another seat, which has seen the same history. The right to the next name goes over to the new seat.
     pub fn deal(&self, token: &mut Token<K>) -> Token<K>
         requires { token.old.table_id ≡ self.now.table.shared.table_id }
         ensures same { (token.new.table_id ≡ token.old.table_id)
@@ -142,8 +144,8 @@ impl<K: EntrySink> TurnTable<K> {
         self.table.shared.load::<Look>(token, FRONT)
     }
 
-    /// Takes the turn if it is free. Otherwise fails with the word, which shows that the turn is held. Makes one step
-    /// in either case.
+    /// Takes the turn if it is free. Otherwise fails with the first word, which shows that the turn is held. Makes one
+    /// step on the first word in either case.
     pub fn try_take(&self, token: &mut Token<K>) -> Result<(), u64>
         requires table { token.old.table_id ≡ self.now.table.shared.table_id }
         requires rest { IsAtRest token.old.me }
@@ -192,7 +194,8 @@ impl<K: EntrySink> TurnTable<K> {
         }
     }
 
-    // Moves the system back into its slot, and then gives the turn back: stores the front of exactly that system.
+    // Moves the system back into its slot, and then gives the turn back: stores the front of this system as the first
+    // word.
     fn give_back(&self, token: &mut Token<K>, system: BoxedSystem<K>)
         requires table { token.old.table_id ≡ self.now.table.shared.table_id }
         requires turn { HasTurn token.old.me None × (token.old.me.0.named ≡ true) }
@@ -230,7 +233,7 @@ impl<K: EntrySink> TurnTable<K> {
         outcome
     }
 
-    /// Performs a command as `apply` does, for a caller that needs no entry.
+    /// Performs a command as `apply` does, but doesn't return the entry.
     pub fn perform(
         &self,
         token: &mut Token<K>,
@@ -253,7 +256,7 @@ impl<K: EntrySink> TurnTable<K> {
         outcome
     }
 
-    /// Joins the other seat into this one, which has then seen what either seat had seen.
+    /// Joins the other seat into this one. Afterwards this seat has seen what either of the two had seen.
     pub fn meet(&self, token: &mut Token<K>, other: Token<K>)
         requires table { (token.old.table_id ≡ self.now.table.shared.table_id)
             × (other.table_id ≡ self.now.table.shared.table_id) }
@@ -266,8 +269,8 @@ impl<K: EntrySink> TurnTable<K> {
         self.table.shared.load::<Look>(token, FRONT);
     }
 
-    /// Returns the system. If the turn was never given back, fails with the word, which shows that the turn is held.
-    /// Never fails for a seat that has met all others.
+    /// Returns the system. If a seat never gave the turn back, fails with the first word, which shows that the turn is
+    /// held. Never fails for a seat that has met the seats of all other processes.
     pub fn close(self, token: Token<K>) -> Result<System<K>, u64>
         requires table { token.table_id ≡ self.table.shared.table_id }
         requires rest { IsAtRest token.me × (token.me.0.named ≡ true) }
