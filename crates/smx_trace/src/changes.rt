@@ -1,4 +1,4 @@
-//! The lines of the changes from one view to another.
+//! The lines of the changes from one view to another. (A view is a configuration as lists of lines.)
 
 ghost use Rattle.std.specs.Prelude.{◌≡◌, ◌++◌, codes, OnOk};
 ghost use Rattle.std.specs.List.{flat_map};
@@ -13,7 +13,8 @@ use crate::ranks::Ranked;
 use smx_types::{ConfigView, DriverSpec, Items, NoMemory};
 use std::alloc::Global;
 
-// Appends the lines of a group that are gone, and then those that are new. Fails only if out of memory.
+// Appends the lines of one kind that are gone, and then the lines of this kind that are new. Fails only if out of
+// memory.
 fn write_group<T: Ranked>(
     out: &mut Vec<u8>,
     drivers: &[DriverSpec],
@@ -31,8 +32,8 @@ fn write_group<T: Ranked>(
     write_missing(out, drivers, b"  + ", after, before)
 }
 
-/// Appends the lines of the changes from one view to another, in time that grows with the size of both views. Fails
-/// only if out of memory; `out` may then contain some of them.
+/// Appends the lines of the changes from one view to another. The time grows with the size of the two views. Fails only
+/// if out of memory; `out` may then contain some of the lines.
 pub fn write_changes(
     alloc: Global,
     out: &mut Vec<u8>,

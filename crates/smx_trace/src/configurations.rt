@@ -1,4 +1,4 @@
-//! The lines of a configuration with its waits.
+//! The lines of a configuration, and for each queue a `waits` line: why its first message can't move.
 
 ghost use Rattle.std.specs.Prelude.{◌≡◌, ◌++◌, OnOk};
 ghost use Rattle.smx_trace.specs.Tracing.{IsNow};
@@ -10,8 +10,9 @@ use smx_config::Config;
 use smx_types::{ConfigView, NoMemory};
 use smx_words::{write_lines, write_next};
 
-/// Appends the lines of the configuration, from `config` on, and below each queue its wait, two spaces in; `view` is
-/// that of the configuration. Fails only if out of memory; `out` may then contain some of the lines.
+/// Appends the lines of the configuration, beginning with the line `config`. After the lines of each queue comes its
+/// `waits` line, indented by two spaces. `view` must be the view of the configuration. Fails only if out of memory;
+/// `out` may then contain some of the lines.
 pub fn write_configuration(
     out: &mut Vec<u8>,
     config: &Config,

@@ -18,7 +18,7 @@ use smx_model::laws_of_hangups::without_a_hangup_none_is_reported;
 use smx_model::laws_of_messages::few_commands_drop;
 
 /// A transcript with valid drivers has exactly one replay. Transcripts with the same version, drivers and calls have
-/// the same one, whatever their replies and their views.
+/// the same replay, whatever replies and views they have. A call is a process and its command.
 pub fn a_transcript_has_one_replay()
     ensures always { (t : Transcript) → IsDriverList t.drivers → (r : Transcript) × IsReplayOf t r }
     ensures one { (t r s : Transcript) → IsReplayOf t r → IsReplayOf t s → r ≡ s }
@@ -28,14 +28,15 @@ pub fn a_transcript_has_one_replay()
     histories_are_determined();
 }
 
-/// A transcript whose verdict is legal is its own replay, and the verdict on every replay is legal.
+/// A transcript with valid drivers whose verdict is legal is its own replay. The verdict on every replay is legal.
 pub fn replays_are_the_legal_transcripts()
     ensures own { (t : Transcript) → IsDriverList t.drivers → IsVerdict t.drivers t.entries t.view Legal
         → IsReplayOf t t }
     ensures legal { (t r : Transcript) → IsReplayOf t r → IsVerdict r.drivers r.entries r.view Legal }
 {}
 
-/// A replay is lawful after each entry, and few of its commands drop messages.
+/// After each entry of a replay there is no cycle of links, no stream is below two links, and no message is lost or
+/// duplicated. Only the replies to `close`, `exit`, `unlink`, `punlink` and `flush` name dropped messages.
 pub fn replays_are_lawful()
     ensures lawful { (t r : Transcript) → IsReplayOf t r → IsLawfulThroughout r.drivers r.entries }
     ensures drops { (t r : Transcript) → IsReplayOf t r → AreDropsAllowed r.entries }
@@ -45,19 +46,20 @@ pub fn replays_are_lawful()
 }
 
 /// If a transcript is within the limits of its version, and each line of its replay can be spelled, the replay is
-/// within these limits too. So a replay in version 1 reports no hangup.
+/// within the limits of this version too. So a replay in version 1 reports no hangup.
 pub fn replays_can_be_expressed()
     ensures { (t r : Transcript) → IsAllowed t.version t → IsReplayOf t r → IsSpellable r → IsAllowed r.version r }
 {
     without_a_hangup_none_is_reported();
 }
 
-/// The first entries of a transcript that is within the limits of its version are within them too.
+/// If a transcript is within the limits of its version, it still is if only its first entries are kept.
 pub fn first_entries_are_allowed()
     ensures { (count : ℕ) (t : Transcript) → IsAllowed t.version t → IsAllowed t.version (first_entries count t) }
 {}
 
-/// The replay of the first entries of a transcript has the first entries of its replay, and the view after them.
+/// The replay of a transcript's first `count` entries has the first `count` entries of the whole replay, and the view
+/// after these.
 pub fn the_first_entries_are_those_of_the_replay()
     ensures entries { (count : ℕ) (t r s : Transcript) → IsReplayOf t r → IsReplayOf (first_entries count t) s
         → s.entries ≡ take count r.entries }
@@ -68,8 +70,9 @@ pub fn the_first_entries_are_those_of_the_replay()
     prefixes_are_legal();
 }
 
-/// The replay of the worked history corrects it from its second entry on, which is illegal. The history is not its
-/// own replay. Nor is one that leaves out an entry, or one that exchanges two of them.
+/// An example: the second entry of the transcript `claimed` is illegal, and its replay, `put_right`, corrects it from
+/// there on. Three transcripts are not its replay: `claimed` itself, `put_right` without its last entry, and
+/// `put_right` with two entries exchanged.
 pub fn the_second_is_put_right()
     ensures right { IsReplayOf claimed put_right }
     ensures not_itself { IsReplayOf claimed claimed → ⊥ }

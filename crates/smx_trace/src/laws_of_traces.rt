@@ -16,7 +16,7 @@ ghost use Rattle.smx_trace.specs.Traces as trace;
 
 use crate::laws_of_replays::a_transcript_has_one_replay;
 
-/// A transcript has only one trace with the waits below each entry, and only one without.
+/// A transcript has at most one trace with the `waits` lines below each entry, and at most one without them.
 pub fn a_transcript_has_one_trace()
     ensures { (each : Bool) (t : Transcript) (one other : List ℕ) → IsTraceText each t one → IsTraceText each t other
         → one ≡ other }
@@ -24,8 +24,9 @@ pub fn a_transcript_has_one_trace()
     a_transcript_has_one_replay();
 }
 
-/// Below each entry of a trace are the changes from the view before it to the view after it. Below these are the waits
-/// after it, if they are wanted there.
+/// For each entry: a trace has first the lines of the earlier entries, then the line of this entry and the lines below
+/// it, then the lines of the later entries. Below each entry are the changes from the view before it to the view after
+/// it, and then the `waits` lines of all queues, if `each` is set.
 pub fn changes_are_below_each_entry()
     ensures { (each : Bool) (drivers : List DriverSpec) (before : List Entry) (e : Entry) (more : List Entry)
         → entry_lines_from each drivers empty (before ++ e ∷ more)
@@ -34,12 +35,12 @@ pub fn changes_are_below_each_entry()
         ++ entry_lines_from each drivers (after drivers (before ++ e ∷ [])) more) }
 {}
 
-/// Equal views have no changes.
+/// There are no changes from a view to itself.
 pub fn equal_views_have_no_changes()
     ensures { (v : ConfigView) → changes v v ≡ [] }
 {}
 
-/// Without the lines that begin with two spaces, a trace of a replay has the lines of its transcript.
+/// Without its lines that begin with two spaces, a trace has the lines of the replay.
 pub fn a_trace_has_the_lines_of_the_transcript()
     ensures { (each : Bool) (t r : Transcript) → IsReplayOf t r
         → plain_lines (trace_lines each r.drivers r.entries) ≡ body r ++ line.End ∷ [] }

@@ -1,4 +1,4 @@
-//! The replay of a transcript, and its trace: its commands are performed in its order, whatever replies it had.
+//! The replay and the trace of a transcript: both perform its commands in order, and ignore the replies that it has.
 #![tactic(auto)]
 
 mod changes;

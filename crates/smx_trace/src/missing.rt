@@ -13,14 +13,14 @@ use smx_text::Same;
 use smx_types::{DriverSpec, NoMemory};
 use smx_words::Spell;
 
-// Returns the lines from the first one on that is this line or comes after it.
+// Skips lines until one doesn't come before `line`, and returns the rest.
 fn lines_from<'a, T: Ranked>(drivers: &[DriverSpec], lines: &'a [T], line: &T) -> &'a [T]
     ensures passed { ComesTo (T.rank drivers.now) lines.now (line.now ∷ []) result.now }
     ensures starts { StartsAt (T.rank drivers.now) line.now result.now }
 {
     let mut rest = lines;
     'lines: while let Some((first, more)) = rest.split_first() {
-        // No number of a driver is looked up for a line that stays.
+        // Tests equality first, so a line that stays needs no look-up of a driver's number.
         if first.is_same(line) || !pair_before(first.rank_of(drivers), line.rank_of(drivers)) {
             break 'lines;
         }
@@ -29,7 +29,7 @@ fn lines_from<'a, T: Ranked>(drivers: &[DriverSpec], lines: &'a [T], line: &T) -
     rest
 }
 
-// Returns the lines after this one, if it is the first of them.
+// If `line` is the first of `lines`, returns the lines after it.
 fn lines_after<'a, T: Same>(lines: &'a [T], line: &T) -> Option<&'a [T]>
     ensures { MatchOption result (slice_get lines.now 0 ≡ Some line.now → ⊥) (λ rest. lines.now ≡ line.now ∷ rest.now) }
 {
@@ -41,7 +41,7 @@ fn lines_after<'a, T: Same>(lines: &'a [T], line: &T) -> Option<&'a [T]>
     }
 }
 
-/// Appends the line after a mark. Fails only if out of memory.
+/// Appends a mark, and then the line. Fails only if out of memory.
 pub fn write_marked<T: Spell>(out: &mut Vec<u8>, mark: &[u8], line: &T) -> Result<(), NoMemory>
     ensures { OnOk result (out.new.items ≡ out.old.items ++ marked mark.now (T.words line.now)) }
 {
@@ -50,8 +50,8 @@ pub fn write_marked<T: Spell>(out: &mut Vec<u8>, mark: &[u8], line: &T) -> Resul
     Ok(())
 }
 
-// Appends the line after a mark, unless it is among others that rise. Returns those of them among which later lines
-// can be. Fails only if out of memory.
+// Appends a mark and then `line`, unless `others` has this line. `others` must be in rising order. Returns the part of
+// `others` in which later lines can be. Fails only if out of memory.
 fn write_if_missing<'a, T: Ranked>(
     out: &mut Vec<u8>,
     drivers: &[DriverSpec],
@@ -72,7 +72,8 @@ fn write_if_missing<'a, T: Ranked>(
     }
 }
 
-/// Appends each of the lines, after a mark, that is not one of the others. Both rise. Fails only if out of memory.
+/// For each of `lines` that is not one of `others`, appends the mark and then the line. Both lists must be in rising
+/// order. Fails only if out of memory.
 pub fn write_missing<T: Ranked>(
     out: &mut Vec<u8>,
     drivers: &[DriverSpec],

@@ -1,4 +1,4 @@
-//! The changes of messages, which are found by their serials.
+//! The changes of queued messages. A message is found in a view by its serial.
 
 ghost use Rattle.std.specs.Prelude.{◌≡◌, ◌∷◌, ◌++◌, [], ◌==◌, codes, find, map, nat_eq, option_copied, IfOk, OnOk};
 ghost use Rattle.indexmap.specs.IndexMap.{get};
@@ -14,8 +14,8 @@ use smx_text::Same;
 use smx_types::{MessageLine, NoMemory};
 use std::alloc::Global;
 
-// Returns a map from each serial to the position of its line: of the first, if several lines have one serial, since
-// the lines are inserted from the last to the first.
+// Returns a map from each serial to the position of its line in `lines`. If several lines have one serial, it is the
+// position of the first, since the lines are inserted from the last to the first.
 fn index_of(alloc: Global, lines: &[MessageLine]) -> Result<IndexMap<u32, usize>, NoMemory>
     ensures { IfOk result (λ index. FindsBySerial (get nat_eq index) lines.now lines.now) }
 {
@@ -41,7 +41,7 @@ fn with_serial<'a>(
     lines.get(i)
 }
 
-// Appends the line of the message if it is gone. Fails only if out of memory.
+// If no line of `after` has the serial of `line`, appends `line` as gone. Fails only if out of memory.
 fn write_if_gone(
     out: &mut Vec<u8>,
     line: &MessageLine,
@@ -88,7 +88,7 @@ fn write_moved(out: &mut Vec<u8>, was: &MessageLine, now: &MessageLine) -> Resul
     put(out, b"\n")
 }
 
-// Appends the line of the message if it moved or is new. Fails only if out of memory.
+// If the message of `line` moved or is new, appends its line. Fails only if out of memory.
 fn write_arrival(
     out: &mut Vec<u8>,
     before: &[MessageLine],

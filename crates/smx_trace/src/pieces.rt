@@ -61,7 +61,7 @@ pub fn put_name(out: &mut Vec<u8>, drivers: &[DriverSpec], driver: u8) -> Result
     }
 }
 
-/// Appends the words of a stream.
+/// Appends the words of a stream: the name of its driver, and its minor.
 pub fn put_stream(
     out: &mut Vec<u8>,
     drivers: &[DriverSpec],
@@ -74,7 +74,7 @@ pub fn put_stream(
     put_number(out, u32::from(stream.minor))
 }
 
-/// Appends the words of a place.
+/// Appends the words of a place: those of its stream, and its side.
 pub fn put_place(out: &mut Vec<u8>, drivers: &[DriverSpec], place: Place) -> Result<(), NoMemory>
     ensures { OnOk result (out.new.items ≡ out.old.items ++ line_of (
         place_words (name_of drivers.now place.stream.driver) place.stream.minor place.side)) }

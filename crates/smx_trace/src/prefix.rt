@@ -5,8 +5,8 @@ ghost use Rattle.smx_trace.specs.Prefixes.{first_entries};
 
 use smx_types::{Entries, Transcript};
 
-/// Returns the transcript with its first entries alone, or with all, if there are not so many. Its view no longer
-/// matters to a replay. Does not allocate.
+/// Returns the transcript with only its first `count` entries, or with all of them if it has fewer. The view is
+/// unchanged; a replay ignores it. Does not allocate.
 pub fn first_entries(transcript: Transcript, count: usize) -> Transcript
     ensures { result ≡ first_entries count transcript }
 {

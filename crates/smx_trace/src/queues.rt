@@ -1,4 +1,4 @@
-//! The lines of queued messages, and of their waits.
+//! The lines of queued messages, and the `waits` lines of their queues.
 
 ghost use Rattle.std.specs.Prelude.{◌≡◌, ◌∷◌, ◌++◌, List, map, OnOk, Some};
 ghost use Rattle.smx_model.specs.Configuration.{QueuedMessage as Queued};
@@ -18,7 +18,7 @@ use smx_tables::driver_specs::driver_of;
 use smx_types::{DriverSpec, MessageLine, NoMemory, Place, StreamId};
 use smx_words::Spell;
 
-// Returns whether the lines begin with one of the same place.
+// Returns whether the first of `lines` is in the same queue as `line`.
 fn begin_with_place(lines: &[MessageLine], line: &MessageLine) -> bool
     ensures { result ≡ begins_with_place lines.now line.now }
 {
@@ -49,8 +49,8 @@ fn place_of(drivers: &[DriverSpec], line: &MessageLine) -> Option<Place>
     Some(Place { stream, side })
 }
 
-// Appends the line of the wait at the place of a queued message, unless more messages of its queue follow. Fails only
-// if out of memory.
+// Appends the `waits` line of the queue of `line`, unless `rest` has more messages of this queue. Fails only if out of
+// memory.
 fn write_wait_of_last(
     out: &mut Vec<u8>,
     config: &Config,
@@ -73,7 +73,8 @@ fn write_wait_of_last(
     }
 }
 
-/// Appends the lines of all waits, two spaces in; `lines` are all queued messages. Fails only if out of memory.
+/// Appends the `waits` lines of all queues, indented by two spaces. `lines` must be the lines of all queued messages.
+/// Fails only if out of memory.
 pub fn write_waits(
     out: &mut Vec<u8>,
     config: &Config,
@@ -92,8 +93,8 @@ pub fn write_waits(
     Ok(())
 }
 
-/// Appends the lines of all queued messages, and below the last of each queue its wait, two spaces in. Fails only if
-/// out of memory.
+/// Appends `lines`, which must be the lines of all queued messages. After the last line of each queue comes its `waits`
+/// line, indented by two spaces. Fails only if out of memory.
 pub fn write_queues(
     out: &mut Vec<u8>,
     config: &Config,

@@ -1,4 +1,4 @@
-//! The order in which a view lists the lines of a group.
+//! The order in which a view lists the lines of one kind.
 
 ghost use Rattle.std.specs.Prelude.{◌≡◌, ◌<◌};
 ghost use Rattle.smx_model.specs.Configuration.{pair_before};
@@ -11,26 +11,27 @@ use smx_types::{
 };
 use smx_words::Spell;
 
-/// A line of a group that rises in each view, by two numbers.
+/// A kind of line. Two numbers of each line decide the order: each view lists the lines of this kind in rising order of
+/// these numbers.
 pub trait Ranked: Same + Spell {
     ghost use Rattle.std.specs.Prelude.{◌≡◌, ℕ, List};
     ghost use Rattle.smx_types.specs.declared.driver.DriverSpec.{DriverSpec as AnyDriver};
 
     ghost rank: { List AnyDriver → Self → ℕ × ℕ };
 
-    /// Returns the numbers by which the line has its place in a view over these drivers.
+    /// Returns the two numbers of the line. `drivers` are the drivers of the view.
     fn rank_of(&self, drivers: &[DriverSpec]) -> (u64, u64)
         ensures { result ≡ rank drivers.now self.now };
 }
 
-/// Returns whether the first two numbers come before the others.
+/// Returns whether the pair `a` comes before the pair `b`.
 pub fn pair_before(a: (u64, u64), b: (u64, u64)) -> bool
     ensures { result ≡ pair_before a.0 a.1 b.0 b.1 }
 {
     a.0 < b.0 || (a.0 == b.0 && a.1 < b.1)
 }
 
-// Returns the number of the driver with this name.
+// Returns the number of the driver with this name, or 0 if there is none.
 fn number_of(drivers: &[DriverSpec], name: &Name) -> u64
     ensures { result ≡ number_of drivers.now name.now }
 {

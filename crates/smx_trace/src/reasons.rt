@@ -1,4 +1,4 @@
-//! The lines of waits: why first messages can't move.
+//! The `waits` lines: each says why the first message of a queue can't move.
 
 ghost use Rattle.std.specs.Prelude.{◌≡◌, ◌++◌, OnOk, Some};
 ghost use Rattle.smx_types.specs.declared.stream.Side.TheVariants as side;
@@ -23,7 +23,7 @@ fn put_hung(out: &mut Vec<u8>, drivers: &[DriverSpec], stream: StreamId) -> Resu
     put(out, b" has hung up")
 }
 
-// Appends why a message has no next place below.
+// Appends why a message on the write side of `stream` has no next place.
 fn put_reason_below(
     out: &mut Vec<u8>,
     config: &Config,
@@ -50,7 +50,7 @@ fn put_reason_below(
     }
 }
 
-// Appends why a message has no next place above.
+// Appends why a message on the read side of `stream` has no next place.
 fn put_reason_above(
     out: &mut Vec<u8>,
     config: &Config,
@@ -72,7 +72,7 @@ fn put_reason_above(
     }
 }
 
-// Appends why a message with this address can't move from the place, if it can't.
+// If a message with this address can't move from the place, appends why.
 fn put_reason(out: &mut Vec<u8>, config: &Config, place: Place, addr: u32) -> Result<(), NoMemory>
     ensures { OnOk result ((why : AnyReason)
         → reason_at config.now.drivers config.now.configuration place addr ≡ Some why
@@ -88,8 +88,8 @@ fn put_reason(out: &mut Vec<u8>, config: &Config, place: Place, addr: u32) -> Re
     }
 }
 
-/// If the place has messages, appends its `waits` line, indented by two spaces. The configuration is settled, so the
-/// first of these messages can't move. Fails only if out of memory.
+/// If the place has messages, appends its `waits` line, indented by two spaces. The configuration must be settled: no
+/// first message can move. So the first of these messages can't move. Fails only if out of memory.
 pub fn write_wait(out: &mut Vec<u8>, config: &Config, place: Place) -> Result<(), NoMemory>
     requires { IsSettled config.now.drivers config.now.configuration }
     ensures { OnOk result (out.new.items ≡ out.old.items

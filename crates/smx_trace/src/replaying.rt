@@ -1,4 +1,4 @@
-//! A replay, from the transcript that was read to the text of the transcript that its commands give.
+//! Makes the text of a replay from a transcript.
 
 ghost use Rattle.std.specs.Prelude.{◌∷◌, ◌++◌, [], List, IfOk, IfErr, OnOk};
 ghost use Rattle.smx_types.specs.declared.command.Entry.{Entry as AnyEntry};
@@ -13,9 +13,9 @@ use smx_types::{Entries, Entry, NoMemory, Transcript};
 use std::alloc::Global;
 
 /// Performs the commands of a transcript, each for its process, in order, starting with the empty configuration.
-/// Ignores the replies and the configuration of the transcript. Returns the text of the transcript that the commands
-/// give, in the same version; it reuses the memory of `room`, whose bytes are discarded. Fails if the drivers are not
-/// valid, or if it is out of memory.
+/// Ignores the replies and the configuration that the transcript has. Returns the text of the transcript that results,
+/// in the same version. Reuses the memory of `room`, and discards its bytes. Fails if the drivers are not valid, or if
+/// it is out of memory.
 pub fn replay(alloc: Global, transcript: Transcript, room: Vec<u8>) -> Result<Vec<u8>, ConfigFault>
     ensures written { IfOk result (λ text. IsReplayText transcript text.items) }
     ensures refused { IfErr result (RefusesDrivers transcript.drivers) }
@@ -32,7 +32,7 @@ pub fn replay(alloc: Global, transcript: Transcript, room: Vec<u8>) -> Result<Ve
     Ok(finish_transcript(lines, version, drivers.as_slice(), &view)?)
 }
 
-// Performs the commands of all entries. Returns the line of each, with the reply that it gets. Fails only if it is
+// Performs the commands of all entries. Returns the lines of the entries, each with its new reply. Fails only if it is
 // out of memory.
 fn perform_all(config: &mut Config, entries: Entries, room: Vec<u8>) -> Result<Vec<u8>, NoMemory>
     ensures { IfOk result (λ lines. (drivers : List AnyDriver) → HasCome drivers [] config.old []
@@ -46,8 +46,8 @@ fn perform_all(config: &mut Config, entries: Entries, room: Vec<u8>) -> Result<V
     Ok(lines)
 }
 
-// Performs the command of an entry again, and appends its line with the reply that it gets. Fails only if it is out
-// of memory.
+// Performs the command of an entry, and appends the line of the entry with its new reply. Fails only if it is out of
+// memory.
 fn perform_again(config: &mut Config, entry: Entry, lines: &mut Vec<u8>) -> Result<(), NoMemory>
     ensures { OnOk result ((drivers : List AnyDriver) (asked : List AnyEntry)
         → HasCome drivers asked config.old lines.old.items

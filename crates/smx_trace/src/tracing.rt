@@ -1,4 +1,4 @@
-//! A trace, from the transcript that was read to its text.
+//! Makes the text of a trace from a transcript.
 
 ghost use Rattle.std.specs.Prelude.{◌≡◌, ℕ, ◌++◌, [], List, IfOk, IfErr, OnOk, if◌then◌else◌};
 ghost use Rattle.smx_types.specs.declared.driver.DriverSpec.{DriverSpec as AnyDriver};
@@ -18,11 +18,11 @@ use smx_types::{ConfigView, Entries, Entry, NoMemory, Transcript};
 use smx_words::write_entry;
 use std::alloc::Global;
 
-/// Performs the commands of a transcript as `replay` does. Returns the text of the transcript that they give. Below
-/// each entry are its changes. If the flag `each` is set, the `waits` lines of all queues are there too. In the
-/// configuration, the `waits` line of a queue comes after the lines of its messages. Reuses the memory of `room`, whose
-/// bytes are discarded. Keeps two views at a time, and for each entry takes time that grows with the size of its two
-/// views. Fails if the drivers are not valid, or if it is out of memory.
+/// Performs the commands of a transcript as `replay` does. Returns the text of the transcript that results, with more
+/// lines, which are indented by two spaces. Below each entry are the lines of what it changed. If `each` is set, the
+/// `waits` lines of all queues follow these. In the configuration, the `waits` line of a queue comes after the lines of
+/// its messages. Reuses the memory of `room`, and discards its bytes. Keeps two views at a time. The time for an entry
+/// grows with the size of the views before and after it. Fails if the drivers are not valid, or if it is out of memory.
 pub fn trace(
     alloc: Global,
     transcript: Transcript,
@@ -46,8 +46,8 @@ pub fn trace(
     Ok(text)
 }
 
-// Performs the commands of all entries. Appends the line of each, with the reply that it gets, and the lines below it.
-// Returns the view after them. Fails only if out of memory.
+// Performs the commands of all entries. Appends the line of each entry, with its new reply, and then the lines below
+// it. Returns the view after all commands. Fails only if out of memory.
 fn trace_all(
     alloc: Global,
     config: &mut Config,
@@ -67,10 +67,10 @@ fn trace_all(
     Ok(view)
 }
 
-/// Performs the command of an entry. Appends its line, with the reply that it gets, and below it the changes from
-/// `before`, the view of the configuration before the command. If the flag `each` is set, all waits follow. Returns the
-/// view after the command. Fails only if out of memory; the command may then have been performed, and `text` may
-/// contain some of the lines.
+/// Performs the command of an entry. Appends the line of the entry, with its new reply, and below it what the command
+/// changed. `before` must be the view of the configuration before the command. If `each` is set, the `waits` lines of
+/// all queues follow. Returns the view after the command. Fails only if out of memory; the command may then have been
+/// performed, and `text` may contain some of the lines.
 pub fn trace_entry(
     alloc: Global,
     config: &mut Config,
@@ -92,7 +92,7 @@ pub fn trace_entry(
     Ok(after)
 }
 
-// Appends the lines of all waits, if they are wanted. Fails only if out of memory.
+// If `wanted` is set, appends the `waits` lines of all queues. Fails only if out of memory.
 fn write_wanted_waits(
     text: &mut Vec<u8>,
     config: &Config,
