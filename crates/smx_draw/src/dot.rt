@@ -11,7 +11,8 @@ use crate::queues::{QueueRow, queue_rows};
 use smx_types::{ConfigView, DriverSpec, NoMemory};
 use std::alloc::Global;
 
-// The start of the graph, which merges edges that are drawn twice. A node without a label of its own is a stream.
+// The start of the text. The graph is `strict`, so Graphviz merges edges that are drawn twice. A node without a label
+// of its own is a stream.
 const HEAD: &[u8] = b"strict digraph muxsim {
   graph [rankdir=TB nodesep=0.2 fontname=\"sans-serif\"];
   node [shape=record fontname=\"sans-serif\" fontsize=10 label=\"{\\N|{<write>write|<read>read}}\"];
@@ -35,7 +36,7 @@ pub fn write_dot(
     Ok(out)
 }
 
-// Appends the lines of a view and of its queues.
+// Appends the lines of the parts of a view, and of the rows of its queues.
 fn put_view(out: &mut Vec<u8>, view: &ConfigView, queues: &[QueueRow]) -> Result<(), NoMemory>
     ensures { OnOk result (out.new.items ≡ out.old.items ++ dot_view view.now queues.now) }
 {

@@ -1,4 +1,4 @@
-//! A picture in either of two forms.
+//! Draws a picture in one of two forms: SVG, or a text for Graphviz.
 
 ghost use Rattle.std.specs.Prelude.{IfOk};
 ghost use Rattle.smx_draw.specs.Pictures.{IsPictureOf};
@@ -17,7 +17,7 @@ pub enum Form {
     Dot,
 }
 
-/// Draws the configuration that a transcript shows, whether or not its history is legal, and whatever it shows. For
+/// Draws the configuration that a transcript shows. Draws any transcript, even if its history is not legal. For
 /// Graphviz, the same transcript always gives the same text. Fails only if it is out of memory.
 pub fn draw(alloc: Global, transcript: &Transcript, form: Form) -> Result<Vec<u8>, NoMemory>
     ensures { IfOk result (λ v. IsPictureOf form transcript.now v.items) }

@@ -24,8 +24,9 @@ pub fn a_transcript_has_one_text_for_graphviz()
     ensures { (t : Transcript) (one other : List ℕ) → IsPictureOf Dot t one → IsPictureOf Dot t other → one ≡ other }
 {}
 
-/// It is not a trivial condition that a text contains every part. The empty text doesn't satisfy it for the example
-/// drivers, nor for the example lines of any one kind. If there is no driver and no line, the empty text satisfies it.
+/// The condition that a text contains every part is not trivial. If there are only the example drivers, or only the
+/// example lines of one kind, the empty text doesn't satisfy it. If there is no driver and no line, the empty text
+/// satisfies it.
 pub fn what_is_not_there_is_missed()
     ensures each { EachIsMissed }
     ensures nothing { NothingIsMissed }

@@ -17,11 +17,11 @@ use smx_types::{
 /// Names one of the texts of a part.
 #[derive(Clone, Copy, Debug)]
 pub enum Look {
-    /// The class words of its row in an SVG.
+    /// The class words (attribute `class`) of the part's row in an SVG.
     Class,
-    /// The text of its row.
+    /// The text of this row.
     Label,
-    /// Its line for Graphviz.
+    /// The line of the part for Graphviz.
     Line,
 }
 
@@ -30,13 +30,13 @@ pub trait Part {
     ghost use Rattle.std.specs.Prelude.{◌≡◌, ℕ, ◌++◌, List, OnOk};
     ghost use Rattle.smx_draw.specs.declared.parts.Look.{Look};
 
-    // Its texts.
+    // The texts of the part.
     ghost text: { Look → Self → List ℕ };
 
-    /// Returns where its row belongs.
+    /// Returns where the row of the part belongs.
     fn seat(&self) -> Seat;
 
-    /// Appends one of its texts to `out`. If memory runs out, `out` may end with a part of it.
+    /// Appends one of the texts to `out`. If memory runs out, `out` may end with only the beginning of this text.
     fn put(&self, look: Look, out: &mut Vec<u8>) -> Result<(), NoMemory>
         ensures { OnOk result (out.new.items ≡ out.old.items ++ text look self.now) };
 }
@@ -282,7 +282,7 @@ impl Part for QueueRow {
 }
 
 impl QueueRow {
-    // Appends a template to `out`, filled in with the queue of this row and these numbers.
+    // Appends a template to `out`. The values for its holes are the queue of this row and the three numbers.
     fn put_with(
         &self,
         template: &[u8],

@@ -7,7 +7,8 @@ ghost use Rattle.smx_draw.specs.Pieces.{filled, piece_text, shown_length};
 use itoa::Buffer;
 use smx_types::{DriverKind, LinkKind, Name, NoMemory, Process, Side};
 
-/// A value in a text. Names consist of lower-case letters and digits, so nothing that is written needs escaping.
+/// A value for a hole of a template. Names consist of lower-case letters and digits, so nothing that is written needs
+/// escaping.
 #[derive(Clone, Copy)]
 pub enum Piece<'a> {
     /// A number, in decimal.
@@ -22,14 +23,14 @@ pub enum Piece<'a> {
     Link(LinkKind),
     /// How Graphviz draws a link of this kind.
     Stroke(LinkKind),
-    /// The side of a queue, in a word.
+    /// The side of a queue, as `write` or `read`.
     Side(Side),
-    /// The side of a queue, as transcripts spell it.
+    /// The side of a queue, as `w` or `r`, as in a transcript.
     Letter(Side),
 }
 
-/// Appends a template to `out`, with a piece in place of each `@` and digit, which is its number. If memory runs out,
-/// `out` may end with a part of it.
+/// Appends a template to `out`, with a piece in place of each hole. A hole is `@` and a digit, the index of the piece
+/// in `pieces`. If memory runs out, `out` may end with only the beginning of this text.
 pub fn put(out: &mut Vec<u8>, template: &[u8], pieces: &[Piece]) -> Result<(), NoMemory>
     ensures { OnOk result (out.new.items ≡ out.old.items ++ filled template.now (map piece_text pieces.now)) }
 {

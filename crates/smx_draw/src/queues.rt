@@ -31,9 +31,9 @@ pub enum QueueItem {
     Bytes(u32, u32, u32),
 }
 
-/// Returns the rows of the queues. The messages are given sorted by place. A queue has a row for each of its first
-/// eight messages, one for the number of its other messages, if there are any, and one for the bytes of all. Fails only
-/// if it is out of memory.
+/// Returns the rows of the queues. The caller gives the messages sorted by queue. A queue has a row for each of its
+/// first eight messages, one for the number of the other messages, if there are any, and one for the bytes of all its
+/// messages. Fails only if it is out of memory.
 pub fn queue_rows(
     alloc: Global,
     drivers: &[DriverSpec],
@@ -42,7 +42,7 @@ pub fn queue_rows(
     ensures { IfOk result (λ v. v.items ≡ queue_rows drivers.now messages.now) }
 {
     let mut rows = Vec::new(alloc);
-    // The messages of the queue that were met so far, and their bytes.
+    // The number of messages of this queue up to now, and the number of their bytes.
     let mut count = 0u32;
     let mut bytes = 0u32;
     let mut rest = messages;
@@ -60,7 +60,8 @@ pub fn queue_rows(
     Ok(rows)
 }
 
-// Appends the row of a message that has this number of others before it, if it is shown.
+// Appends the row of a message, if it is one of the first eight of its queue: `before` is the number of those before
+// it.
 fn put_message(rows: &mut Vec<QueueRow>, message: &MessageLine, before: u32) -> Result<(), NoMemory>
     ensures { OnOk result (rows.new.items ≡ rows.old.items ++ message_rows before message.now) }
 {
@@ -72,7 +73,8 @@ fn put_message(rows: &mut Vec<QueueRow>, message: &MessageLine, before: u32) -> 
     Ok(())
 }
 
-// Appends the other rows of a queue, after its last message.
+// Appends the rows of a queue that come after those of its messages: the number of the messages without a row, if there
+// are any, and the bytes of all.
 fn put_end(
     rows: &mut Vec<QueueRow>,
     drivers: &[DriverSpec],

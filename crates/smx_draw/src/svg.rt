@@ -1,4 +1,4 @@
-//! A configuration as SVG: first a plan of the picture, then an element for each part of it.
+//! Draws a configuration as SVG: makes a plan of the picture, and then writes the element of each part.
 
 ghost use Rattle.std.specs.Prelude.{◌≡◌, ℕ, ◌++◌, List, IfOk, OnOk};
 ghost use Rattle.smx_draw.specs.Drawing.{Draws};
@@ -25,17 +25,19 @@ use crate::svg::under::streams_of;
 use smx_types::{ConfigView, DriverSpec, NoMemory};
 use std::alloc::Global;
 
-/// A frame, a link, a column or a gauge, which is drawn under the rows. It has one element.
+/// One element that is drawn under the rows: the frame of a driver, a link, the column of a stream, or the gauge of a
+/// queue (a bar for its bytes).
 pub trait Drawn {
     ghost use Rattle.smx_draw.specs.declared.svg.area.Area.{Area};
 
-    // Its element at some place.
+    // The text of the element, given its place.
     ghost element: { Self → Area → List ℕ };
 
-    /// Returns the place where it is drawn.
+    /// Returns the place of the element.
     fn place(&self, plan: &mut Plan) -> Area;
 
-    /// Appends its element to `out`. If memory runs out, `out` may end with a part of it.
+    /// Appends the text of the element, at this place, to `out`. If memory runs out, `out` may end with only the
+    /// beginning of this text.
     fn put_at(&self, at: Area, out: &mut Vec<u8>) -> Result<(), NoMemory>
         ensures { OnOk result (out.new.items ≡ out.old.items ++ element self.now at) };
 }
@@ -81,7 +83,8 @@ fn plan_of(
     Ok(plan)
 }
 
-// Returns the seats of all rows, and of the drivers and the controlling streams that they name.
+// Returns the seats of all rows (a seat says where a row belongs). Adds a seat for each driver and each controlling
+// stream that a row names, so that each gets a block.
 fn seats_of(
     alloc: Global,
     drivers: &[DriverSpec],
@@ -113,7 +116,7 @@ fn name_all<T: Part>(seats: &mut Vec<Seat>, items: &[T]) -> Result<(), NoMemory>
     Ok(())
 }
 
-// Appends the frames, the links, and the columns and the gauges.
+// Appends the frames, the links, the columns and the gauges.
 fn put_under(
     alloc: Global,
     plan: &mut Plan,
@@ -153,7 +156,7 @@ fn put_view(
     Ok(())
 }
 
-// Appends the element of each of these.
+// Appends the element of each item.
 fn draw_all<T: Drawn>(plan: &mut Plan, out: &mut Vec<u8>, items: &[T]) -> Result<(), NoMemory>
     ensures { OnOk result (Draws T.element items.now out.old.items out.new.items) }
 {
@@ -164,7 +167,7 @@ fn draw_all<T: Drawn>(plan: &mut Plan, out: &mut Vec<u8>, items: &[T]) -> Result
     Ok(())
 }
 
-// Appends the row of each of these.
+// Appends the row of each item.
 fn put_rows<T: Part>(plan: &mut Plan, out: &mut Vec<u8>, items: &[T]) -> Result<(), NoMemory>
     ensures { OnOk result (Draws (row T.text) items.now out.old.items out.new.items) }
 {

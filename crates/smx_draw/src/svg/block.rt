@@ -4,39 +4,43 @@ use crate::svg::area::Area;
 use crate::svg::seat::{ROWS, Seat};
 use std::num::Saturating;
 
-/// A number of pixels. Sums and products stop at the largest number.
+/// A number of pixels. Sums and products saturate: they are never larger than the largest number.
 pub type Px = Saturating<u32>;
 
-/// The height of a row, the width of a character, and the room around a text.
+/// The height of a row.
 pub const ROW: Px = Saturating(14);
 
+// The width of a character.
 const CHARACTER: Px = Saturating(6);
 
+// The room around a text.
 const AROUND: Px = Saturating(12);
 
-/// The distance between two links.
+/// The distance between the lanes of two links.
 pub const LANE: Px = Saturating(6);
 
-/// A frame or a column: its rows and its place. As long as a column is in no picture, its place is that in its frame.
+/// The frame of a driver or the column of a stream: its rows and its place. Until `put_at` is called, the place of a
+/// column is relative to its frame.
 #[derive(Clone, Copy, Debug)]
 pub struct Block {
     pub seat: Seat,
-    /// The number of its frame, which is itself if it is one.
+    /// For a column the number of its frame, and for a frame its own number.
     pub frame: usize,
-    /// The layer of a frame, and the number of its columns.
+    /// The layer of the block, if it is a frame.
     pub layer: usize,
+    /// The number of columns, if the block is a frame.
     pub columns: u32,
-    /// Whether it is the column of a stream that only links name.
+    /// Whether the block is the column of a closed stream: only links name the stream, as their controlling stream.
     pub is_closed: bool,
-    // The middles of the columns to which its links lead: their sum and their number.
+    // For a frame: the horizontal middles of the columns at the other ends of its links; their sum and their number.
     pulls: (u64, u64),
     pub left: Px,
     pub top: Px,
     pub width: Px,
     pub height: Px,
-    /// The links that begin below it.
+    /// The number of links that begin below the block. It is counted down when they are placed.
     pub links: Px,
-    // The number of its rows of each kind, and then where the next one is drawn.
+    // For each kind of row: the number of such rows, until `put_at` is called; then where the next of them is drawn.
     rows: [Px; ROWS],
 }
 
@@ -59,7 +63,7 @@ impl Block {
         }
     }
 
-    /// Adds a row with a text of this length.
+    /// Adds a row of this kind, with a text of this length.
     pub fn add_row(&mut self, row: usize, length: u32) {
         if let Some(count) = self.rows.get_mut(row) {
             *count += 1;
@@ -79,12 +83,12 @@ impl Block {
         self.width = self.width.max(width);
     }
 
-    /// Forgets the columns to which its links lead.
+    /// Forgets the columns that `pull` added.
     pub fn let_go(&mut self) {
         self.pulls = (0, 0);
     }
 
-    /// Adds a column to which one of its links leads, by its middle.
+    /// Adds the column at the other end of a link of this frame, given the middle of the column.
     pub fn pull(&mut self, middle: Px) {
         let (sum, number) = self.pulls;
         self.pulls = (
@@ -93,7 +97,7 @@ impl Block {
         );
     }
 
-    /// Returns the mean of those middles, or the left end of the block if it has no link.
+    /// Returns the mean of the middles that `pull` added, or the left end of the block if there are none.
     pub fn mean(&self) -> u64 {
         match self.pulls {
             (_, 0) => u64::from(self.left.0),
@@ -101,7 +105,7 @@ impl Block {
         }
     }
 
-    /// Puts the block here.
+    /// Puts the block at this place, and its rows from top to bottom.
     pub fn put_at(&mut self, left: Px, top: Px) {
         self.left = left;
         self.top = top;
@@ -135,7 +139,7 @@ impl Block {
         self.part(self.top, self.height)
     }
 
-    // Returns the part of the block from this height.
+    // Returns the area from `top` on that is as wide as the block and has this height.
     fn part(&self, top: Px, height: Px) -> Area {
         Area {
             left: self.left.0,

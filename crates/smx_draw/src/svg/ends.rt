@@ -6,7 +6,7 @@ ghost use Rattle.smx_draw.specs.SvgFrame.{svg_foot, svg_head};
 use crate::pieces::{Piece, put};
 use smx_types::NoMemory;
 
-// The start of the picture, the looks of its parts, and the legend.
+// The start of the picture, the styles of its parts, and the legend.
 const HEAD: &[u8] =
     b"<svg xmlns=\"http://www.w3.org/2000/svg\" class=\"muxsim\" width=\"@0\" height=\"@1\" viewBox=\"0 0 @0 @1\">
 <style>
@@ -44,7 +44,7 @@ const HEAD: &[u8] =
 <g class=\"hung\"><path d=\"M534 13H630V27H534Z\"/><text x=\"540\" y=\"24\">stream hung up</text></g>
 ";
 
-/// Appends the head of the picture: its size, the looks of its parts, and the legend.
+/// Appends the head of the picture: its size, the styles of its parts, and the legend.
 pub fn put_head(out: &mut Vec<u8>, width: u32, height: u32) -> Result<(), NoMemory>
     ensures { OnOk result (out.new.items ≡ out.old.items ++ svg_head width height) }
 {

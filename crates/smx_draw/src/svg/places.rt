@@ -11,22 +11,23 @@ pub const BESIDE: usize = 4;
 /// The room around a column.
 pub const GAP: Px = Saturating(12);
 
-// The room around a frame, and the height above the first layer.
+// The room around a frame.
 const MARGIN: Px = Saturating(24);
 
+// The height above the first layer.
 const HEADER: Px = Saturating(60);
 
 // The width of the legend.
 const LEGEND: Px = Saturating(640);
 
-// The number of the lowest layer: the longest chain of drivers without a cycle ends there.
+// The number of the lowest layer. The longest chain of drivers without a cycle ends in this layer.
 const LOWEST: usize = 127;
 
-// How often the frames of a layer are sorted by the places of the others.
+// How often the frames of each layer are sorted by the places of the columns to which their links lead.
 const SORTS: usize = 8;
 
 impl Plan {
-    /// Gives each frame and each column its place, after all rows and links are added. Fails only if it is out of
+    /// Gives each frame and each column its place. All rows and links must have been added. Fails only if it is out of
     /// memory.
     pub fn place(&mut self) -> Result<(), NoMemory> {
         for at in 0..self.blocks.len() {
@@ -52,7 +53,7 @@ impl Plan {
         Ok(())
     }
 
-    // Makes a column as wide as another one of its frame.
+    // Makes a column at least as wide as `other`, if `other` is a column of the same frame.
     fn match_width(&mut self, column: usize, other: usize) -> Option<()> {
         let other = *self.blocks.get(other)?;
         let column = self.blocks.get_mut(column)?;
@@ -62,8 +63,8 @@ impl Plan {
         Some(())
     }
 
-    // Puts a column after the last one in its frame. A frame has several rows of columns; there is room for the links
-    // to this column and to the columns in the rows below it.
+    // Places a column in its frame, after the previous column: `BESIDE` columns are side by side, and the next ones are
+    // below them. The gap has room for the links to this column and to the columns below it.
     fn pack(&mut self, at: usize) -> Option<()> {
         let block = *self.blocks.get(at)?;
         let number = at.checked_sub(block.frame.saturating_add(1))?;
@@ -83,8 +84,8 @@ impl Plan {
         Some(())
     }
 
-    // Moves the lower driver of each link below the upper one. Each pass puts at least one more link of the longest
-    // descending path in order.
+    // Moves the lower driver of each link to a layer below that of the upper driver. Each call puts at least one more
+    // link of the longest descending path in order.
     fn sink(&mut self) {
         for way in self.ways.as_slice() {
             let above = match self.blocks.get(way.upper) {
@@ -117,7 +118,7 @@ impl Plan {
         }
     }
 
-    // Puts a frame at the end of its layer.
+    // Puts a frame at the right end of its layer.
     fn advance(&mut self, number: usize) -> Option<()> {
         let frame = self.blocks.get_mut(*self.frames.get(number)?)?;
         let layer = self.layers.get_mut(frame.layer)?;
@@ -152,7 +153,7 @@ impl Plan {
         Some(frame.left + column.left + column.width / Saturating(2))
     }
 
-    // Sorts the frames by layer and by the mean of their neighbours.
+    // Sorts the frames by layer, and in a layer by the mean position of the columns to which their links lead.
     fn sort_frames(&mut self) {
         let blocks = self.blocks.as_slice();
         self.frames.sort_unstable_by_key(|at| match blocks.get(*at) {
@@ -161,7 +162,8 @@ impl Plan {
         });
     }
 
-    // Puts the layers one below the other, with room for the links that begin in each, and then all blocks.
+    // Puts the layers one below the other, with room below each for the links that begin in it. Then puts all blocks at
+    // their places.
     fn stack(&mut self) {
         for frame in self.frames.as_slice() {
             if let Some(frame) = self.blocks.get_mut(*frame) {
@@ -190,7 +192,7 @@ impl Plan {
         }
     }
 
-    // Puts a block where it belongs. Its frame was put first.
+    // Puts a block at its place in the picture. The frame of a column already has its place.
     fn put(&mut self, at: usize) -> Option<()> {
         let block = *self.blocks.get(at)?;
         let frame = *self.blocks.get(block.frame)?;

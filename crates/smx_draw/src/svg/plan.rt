@@ -9,7 +9,8 @@ use smx_types::{LinkLine, NoMemory};
 use std::alloc::Global;
 use std::num::Saturating;
 
-/// A link, by the numbers of blocks: its controlling and its lower stream, with their drivers.
+/// A link: its index in the list of links, and the numbers of four blocks. `upper` and `lower` are the frames of its
+/// drivers, `from` is the column of its controlling stream, and `to` that of its lower stream. `area` is its way.
 #[derive(Clone, Copy, Debug)]
 pub struct Way {
     pub number: usize,
@@ -20,7 +21,7 @@ pub struct Way {
     pub area: Area,
 }
 
-/// A layer of drivers, and the links that begin in it.
+/// A layer of frames, and the number of links that begin in it.
 #[derive(Clone, Copy, Debug, Default)]
 pub struct Layer {
     pub left: Px,
@@ -33,21 +34,22 @@ pub struct Layer {
 /// The plan of a picture.
 #[derive(Debug, Drop)]
 pub struct Plan {
-    /// The frames of drivers, each before the columns of its streams, by name.
+    /// The frames of the drivers, sorted by name. After each frame come the columns of its streams.
     pub blocks: Vec<Block>,
-    /// The frames by layer, and from left to right.
+    /// The numbers of the frames, sorted by layer, and in a layer from left to right.
     pub frames: Vec<usize>,
     pub layers: Vec<Layer>,
     pub ways: Vec<Way>,
     pub width: Px,
     pub height: Px,
-    // How many links are drawn, and room for the text that is measured.
+    // How many links have been drawn.
     drawn: usize,
+    // Room for a text that is measured.
     text: Vec<u8>,
 }
 
 impl Plan {
-    /// Creates a plan with the frames and columns of these rows, which has no row yet. Fails only if it is out of
+    /// Creates a plan with the frames and columns that these seats name, but without rows. Fails only if it is out of
     /// memory.
     pub fn new(alloc: Global, mut seats: Vec<Seat>) -> Result<Plan, NoMemory> {
         seats.sort_unstable_by_key(|seat| seat.order());
@@ -68,7 +70,7 @@ impl Plan {
         Ok(plan)
     }
 
-    // Adds a frame, or a column of the last one.
+    // Adds a frame, or a column of the last frame.
     fn add_block(&mut self, seat: Seat) -> Result<(), NoMemory> {
         let at = self.blocks.len();
         if seat.slot == 0 {
@@ -85,7 +87,7 @@ impl Plan {
         Ok(())
     }
 
-    /// Adds the rows of these. Fails only if it is out of memory.
+    /// Adds the rows of these parts. Fails only if it is out of memory.
     pub fn add_all<T: Part>(&mut self, items: &[T]) -> Result<(), NoMemory> {
         for item in items {
             self.text.clear();
@@ -99,7 +101,7 @@ impl Plan {
         Ok(())
     }
 
-    /// Adds the links, whose streams have blocks. Fails only if it is out of memory.
+    /// Adds the links. Their streams must have blocks. Fails only if it is out of memory.
     pub fn add_ways(&mut self, links: &[LinkLine]) -> Result<(), NoMemory> {
         for (number, link) in links.iter().enumerate() {
             let from = self.find(&Seat::of_stream(&link.ctl_driver, link.ctl_minor, Row::Name));
@@ -119,7 +121,7 @@ impl Plan {
         Ok(())
     }
 
-    // Returns the number of the block of a row.
+    // Returns the number of the block to which a row belongs.
     fn find(&self, seat: &Seat) -> usize {
         match self
             .blocks
@@ -129,8 +131,8 @@ impl Plan {
         }
     }
 
-    /// Adds the names of the streams, after all other rows. A stream without a row is closed. Fails only if it is out
-    /// of memory.
+    /// Adds to each column a row with the name of the stream. All other rows must have been added: a stream that has no
+    /// row yet is closed. Fails only if it is out of memory.
     pub fn add_names(&mut self) -> Result<(), NoMemory> {
         for block in self.blocks.iter_mut() {
             if let Some(minor) = block.seat.minor() {

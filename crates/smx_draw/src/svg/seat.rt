@@ -1,9 +1,9 @@
-//! The columns to which the rows of parts belong.
+//! Seats: each says where the row of a part belongs.
 
 use smx_types::{Name, Side};
 
-/// The kinds of rows in the frame of a driver or the column of a stream, from the top. Those of the read queue come
-/// after those of the write queue.
+/// The kinds of rows in the frame of a driver or the column of a stream, from top to bottom. The last four are those of
+/// the write queue. The same four of the read queue come after them.
 #[derive(Clone, Copy, Debug)]
 pub enum Row {
     Name,
@@ -18,23 +18,23 @@ pub enum Row {
     More,
 }
 
-/// The number of kinds.
+/// The number of kinds of rows, with the four of the read queue.
 pub const ROWS: usize = 14;
 
 // A kind of row of the read queue comes this many kinds after the same kind of the write queue.
 const READ: usize = 4;
 
-/// A row of a driver, or of one of its streams.
+/// Where a row belongs: its driver, its stream if it has one, and its kind.
 #[derive(Clone, Copy, Debug)]
 pub struct Seat {
     pub driver: Name,
-    /// 0 for the driver itself, and one more than the minor for a stream.
+    /// 0 for the driver itself, and the minor plus 1 for a stream.
     pub slot: u64,
     pub row: usize,
 }
 
 impl Seat {
-    /// Returns a row of a driver.
+    /// Returns the seat of a row of a driver.
     pub fn of_driver(driver: &Name, row: Row) -> Seat {
         Seat {
             driver: *driver,
@@ -43,7 +43,7 @@ impl Seat {
         }
     }
 
-    /// Returns a row of a stream.
+    /// Returns the seat of a row of a stream.
     pub fn of_stream(driver: &Name, minor: u32, row: Row) -> Seat {
         Seat {
             driver: *driver,
@@ -52,7 +52,7 @@ impl Seat {
         }
     }
 
-    /// Returns a row of a queue.
+    /// Returns the seat of a row of a queue.
     pub fn of_queue(driver: &Name, minor: u32, side: Side, row: Row) -> Seat {
         let seat = Seat::of_stream(driver, minor, row);
         match side {
@@ -64,7 +64,7 @@ impl Seat {
         }
     }
 
-    /// Returns the minor, if it is in a stream.
+    /// Returns the minor, if the row belongs to a stream.
     pub fn minor(&self) -> Option<u32> {
         u32::try_from(self.slot.checked_sub(1)?).ok()
     }

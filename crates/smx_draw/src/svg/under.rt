@@ -19,7 +19,7 @@ use std::alloc::Global;
 pub struct Stream {
     pub driver: Name,
     pub minor: u32,
-    /// Whether only a link names it, as the controlling stream with which it was made.
+    /// Whether only links name the stream, as their controlling stream.
     pub is_closed: bool,
 }
 
@@ -123,7 +123,7 @@ fn stream_template(is_closed: bool) -> &'static [u8]
     }
 }
 
-// Appends the gauge of a queue, which goes up to its high water mark.
+// Appends the gauge of a queue. The whole width of the gauge stands for the high water mark.
 fn put_gauge(out: &mut Vec<u8>, at: Area, bytes: u32, high: u32, low: u32) -> Result<(), NoMemory>
     ensures { OnOk result (out.new.items ≡ out.old.items ++ sized_gauge (at.right - at.left) bytes high low at) }
 {

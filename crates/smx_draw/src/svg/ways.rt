@@ -1,4 +1,4 @@
-//! The ways of the links: each has a lane of its own.
+//! The ways of the links, that is, the lines that are drawn for them. Each link has a lane of its own.
 
 use crate::svg::block::LANE;
 use crate::svg::places::{BESIDE, GAP};
@@ -7,9 +7,9 @@ use crate::svg::seat::Row;
 use std::num::Saturating;
 
 impl Plan {
-    /// Gives each link its way, after all blocks are placed. Links that begin below a column do so in the order of
-    /// their ends. Among the links of a layer that go to the right, the rightmost turns uppermost; among those that go
-    /// to the left, the leftmost does. So few links cross.
+    /// Gives each link its way. All blocks must have their places. The links that begin below one column have the same
+    /// order there as at their ends. Among the links of a layer that go to the right, the rightmost turns at the
+    /// uppermost height; among those that go to the left, the leftmost does. So few links cross.
     pub fn route(&mut self) {
         for at in 0..self.ways.len() {
             self.end_way(at);
@@ -31,7 +31,7 @@ impl Plan {
         self.ways.sort_unstable_by_key(|way| way.number);
     }
 
-    // Lets a link come down to the left of its lower stream, and end at the row that says so.
+    // Lets a link come down to the left of its lower stream, and end at its row in the column of this stream.
     fn end_way(&mut self, at: usize) -> Option<()> {
         let way = self.ways.get_mut(at)?;
         let column = self.blocks.get(way.to)?;
@@ -44,7 +44,7 @@ impl Plan {
         Some(())
     }
 
-    // Moves lanes to the left until no two links of different layers share one.
+    // Moves lanes to the left, until no two links of different layers share a lane.
     fn part_lanes(&mut self) {
         let mut free = u32::MAX;
         for way in self.ways.iter_mut() {
@@ -53,7 +53,8 @@ impl Plan {
         }
     }
 
-    // Moves links to the right until no two that begin in a frame, one column below another, go down in one line.
+    // Moves the beginnings of links to the right, until no two links of one frame go down in one line. Without this,
+    // two could do so if one column of the frame is below the other.
     fn part_starts(&mut self) {
         let (mut frame, mut free) = (usize::MAX, 0);
         for way in self.ways.iter_mut() {
@@ -75,7 +76,7 @@ impl Plan {
         Some(())
     }
 
-    // Gives a link the next lane below its upper driver.
+    // Gives a link the next lane below the layer of its upper driver.
     fn bend_way(&mut self, at: usize) -> Option<()> {
         let way = self.ways.get_mut(at)?;
         let upper = self.blocks.get(way.upper)?;
