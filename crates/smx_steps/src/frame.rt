@@ -1,7 +1,7 @@
-//! The beginning and the end of each page.
+//! The head and the foot of each page.
 
-/// The beginning: the looks of the page, and the script that shows one step at a time. Without a script all steps are
-/// shown, one below the other.
+/// The head: the style of the page, and the script that shows one step at a time. Without a script all steps are shown,
+/// one below the other.
 pub const HEAD: &[u8] = b"<!DOCTYPE html>
 <html lang='en'>
 <head>
@@ -180,7 +180,7 @@ addEventListener('DOMContentLoaded', () => {
 <main>
 ";
 
-/// The end.
+/// The foot.
 pub const FOOT: &[u8] = b"</main>
 </body>
 </html>

@@ -7,7 +7,7 @@ ghost use Rattle.smx_types.specs.declared.transcript.Transcript.{Transcript};
 ghost use Rattle.smx_steps.specs.Escapes.{escaped};
 ghost use Rattle.smx_steps.specs.Pages.{HasStepOf, IsOver, IsPageOf};
 
-/// A page has a step for each entry of the replay. Its name is the number of the entry, counted from 1.
+/// A page has a step for each entry of the replay. The name of the step is the number of the entry, counted from 1.
 pub fn each_entry_has_its_step()
     ensures { (t : Transcript) (output : List ℕ) (page : IsPageOf t output) (before : List Entry) (e : Entry)
         (more : List Entry) → page.replay.entries ≡ before ++ e ∷ more
@@ -19,7 +19,7 @@ pub fn escaped_texts_have_no_tags()
     ensures { (text : List ℕ) → AllByRecursion (λ b. (b ≢ 60) × (b ≢ 62)) (escaped text) }
 {}
 
-/// A page of 1,001 entries is over the limit.
+/// If a transcript has more than 1,000 entries, a page of 1,001 entries is over a limit.
 pub fn too_many_entries_are_over()
     ensures { (t : Transcript) → 1000 < length t.entries → IsOver t 1001 }
 {}

@@ -1,4 +1,4 @@
-//! The page of a transcript: a step for each entry, with its trace and the picture after it.
+//! The page of a transcript: a step for each entry, with its trace and a picture of the configuration after it.
 #![tactic(auto)]
 
 mod frame;

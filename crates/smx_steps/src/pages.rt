@@ -1,4 +1,4 @@
-//! The page of a transcript, from the transcript that was read to the text of the page.
+//! Makes the text of a page from a transcript.
 
 ghost use Rattle.std.specs.Prelude.{ℕ, ◌+◌, ◌<◌, ◌≤◌, List, [], codes, length, IfOk, IfErr, OnOk};
 ghost use Rattle.std.specs.Bool.{OnFalse, OnTrue};
@@ -27,11 +27,12 @@ pub const MAX_STEPS: usize = 1_000;
 /// The largest number of bytes of a page.
 pub const MAX_PAGE: usize = 33_554_432;
 
-/// Performs the commands of a transcript, each for its process, in order, starting with the empty configuration, and
-/// ignores its replies. Returns a page in HTML: a step for the beginning, and a step for each entry. The step of an
-/// entry has its line with the reply that it gets, its changes, all waits, and a picture of the configuration after it.
-/// Keeps two views at a time; the time for each entry grows with the size of its views. Fails if the page is over a
-/// limit, if the drivers are not valid, or if it is out of memory.
+/// Performs the commands of a transcript, each for its process, in order, starting with the empty configuration.
+/// Ignores the replies that the transcript has. Returns a page in HTML: a step for the beginning, and a step for each
+/// entry. The step of an entry has its line with the new reply, its changes, the `waits` lines of all queues (why each
+/// first message can't move), and a picture of the configuration after it. Keeps two views at a time. The time for an
+/// entry grows with the size of the views before and after it. Fails if the page is over a limit, if the drivers are
+/// not valid, or if it is out of memory.
 pub fn page(alloc: Global, transcript: Transcript) -> Result<Vec<u8>, PageFault>
     ensures written { IfOk result (λ text. IsPageOf transcript text.items) }
     ensures few { OnOk result (length transcript.entries ≤ MAX_STEPS) }
@@ -104,7 +105,7 @@ fn write_steps(
     }
 }
 
-// Returns whether a page with these steps is short enough.
+// Returns whether `out`, with the foot after it, is short enough.
 fn fits(out: &Vec<u8>) -> bool
     ensures short { OnTrue result (length out.now.items + length AnyFoot.now ≤ MAX_PAGE) }
     ensures long { OnFalse result (MAX_PAGE < length out.now.items + length AnyFoot.now) }
@@ -112,8 +113,8 @@ fn fits(out: &Vec<u8>) -> bool
     out.len() <= MAX_PAGE - FOOT.len()
 }
 
-// Performs the command of the entry with this number, from 1, and appends its step. Returns the view after it. Fails
-// only if out of memory.
+// Performs the command of an entry, and appends its step. `number` is the number of the entry, counted from 1. Returns
+// the view after the command. Fails only if out of memory.
 fn write_step(
     alloc: Global,
     config: &mut Config,

@@ -14,7 +14,7 @@ pub fn put(out: &mut Vec<u8>, text: &[u8]) -> Result<(), NoMemory>
     Ok(())
 }
 
-// Appends a text as HTML shows it. Fails only if out of memory.
+// Appends a text with `&`, `<` and `>` escaped for HTML. Fails only if out of memory.
 fn put_escaped(out: &mut Vec<u8>, text: &[u8]) -> Result<(), NoMemory>
     ensures { OnOk result (out.new.items ≡ out.old.items ++ escaped text.now) }
 {
@@ -36,7 +36,7 @@ fn put_escaped_byte(out: &mut Vec<u8>, byte: u8) -> Result<(), NoMemory>
 }
 
 /// Appends a step with this name: the lines of a trace, and below them a picture. Fails only if out of memory; `out`
-/// may then contain a part of it.
+/// may then contain a part of the step.
 pub fn put_step(
     out: &mut Vec<u8>,
     name: &[u8],
