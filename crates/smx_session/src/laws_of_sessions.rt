@@ -27,8 +27,8 @@ use smx_text::worked_texts::wrong_programs;
 use smx_words::laws::one_value_each;
 use smx_words::laws_of_reading::{each_line_has_a_reading, which_lines_are_calls};
 
-/// Apart from out-of-memory, a text has only one result: the session with its drivers, or a fault. Out-of-memory can
-/// occur only before the fault, so never if the fault is at the first or the second line.
+/// Apart from out-of-memory, a text has only one result: the session with its drivers, or a fault. If a text has a
+/// fault at line 1 or 2, out-of-memory is never reported.
 pub fn a_text_has_one_start()
     ensures one { (text : List ℕ) (one other : Result State StartFault) → StartsAs text one → StartsAs text other
         → IfErr one (λ t. t ≢ NoMemory) → IfErr other (λ t. t ≢ NoMemory) → one ≡ other }
@@ -40,7 +40,8 @@ pub fn a_text_has_one_start()
     drivers_have_one_fault();
 }
 
-/// A line is performed in only one way, or it is not a call that the version allows; never both.
+/// In each session, a line either leads to one new session, or is not a call (a process and a command) that the version
+/// allows; never both.
 pub fn a_line_is_performed_in_one_way()
     ensures one { (old new other : State) (line : List ℕ) → Performs old line new → Performs old line other
         → new ≡ other }
@@ -52,7 +53,8 @@ pub fn a_line_is_performed_in_one_way()
     each_line_has_a_reading();
 }
 
-/// The entries of the lines, in order, are a legal history, and the session has the configuration after it.
+/// The entries that the lines give, in order, are a legal history. The session has the configuration after this
+/// history.
 pub fn lines_make_a_legal_history()
     ensures begins { (text : List ℕ) (s : State) → IsStartOf text s → IsAfter [] s }
     ensures goes_on { (history : List Entry) (old new : State) (line : List ℕ) → IsAfter history old
@@ -61,8 +63,8 @@ pub fn lines_make_a_legal_history()
     one_entry_more();
 }
 
-/// The texts of a session form a transcript: the opening, the line of each entry, the lines of the configuration, and
-/// `end`.
+/// One after the other, these texts of a session form a transcript: the opening, the line of each entry, the lines of
+/// the configuration, and `end`.
 pub fn what_is_written_is_a_transcript()
     ensures grows { (s : State) (before : List Entry) (e : Entry) (text line : List ℕ)
         → BeginsTranscript s.version s.drivers before text → s.last ≡ Some e → FitsEntry e → IsLastLine s line
@@ -72,9 +74,9 @@ pub fn what_is_written_is_a_transcript()
         ≡ transcript_text (transcript_with s.version s.drivers entries (view s.drivers s.configuration)) }
 {}
 
-/// A worked session: how it starts, its states after its lines, and the lines of its entries. Lines that lead to no
-/// such state, and a line that shows none, are counterexamples. Also examples of lines that are not performed, and of
-/// sessions without an entry.
+/// An example: how a session starts, its states after two lines, and the line of an entry. Two counterexamples have a
+/// line that doesn't lead to the given state, and one has a line although there is no entry. The law also has lines
+/// that are not performed, and a session without an entry.
 pub fn a_worked_session()
     ensures starts { StartsAs table (Ok begun) }
     ensures no_memory { StartsAs table (Err NoMemory) }

@@ -1,4 +1,4 @@
-//! Sessions: a configuration that performs one line after the other, and can be shown at any time.
+//! Sessions: a session performs one line after the other on its configuration, which can be shown at any time.
 #![tactic(auto)]
 
 mod entry_fault;

@@ -1,4 +1,4 @@
-//! A configuration, with the version of its texts and its last entry.
+//! A session: a configuration, the version of the session's texts, and the last entry.
 
 ghost use Rattle.std.specs.Prelude.{◌≡◌, IfOk, IfErr, OnOk, OnErr, option_copied};
 ghost use Rattle.smx_model.specs.DriverList.{IsDriverList};
@@ -15,7 +15,8 @@ use smx_words::call_of_line;
 use std::alloc::Global;
 use std::marker::Model;
 
-/// A configuration that performs lines. Contracts see its version, its drivers, its configuration and its last entry.
+/// A configuration on which lines are performed. Contracts see the version of the session's texts, the drivers, the
+/// configuration and the last entry.
 #[derive(Debug, Drop)]
 pub struct Session {
     version: Version,
@@ -37,8 +38,8 @@ impl Model for Session {
 }
 
 impl Session {
-    /// Creates a session with the drivers and the version of a programs text. Nothing is open, and the programs are not
-    /// run. Fails with the first fault of the text. If the text has none, fails with the first fault of its drivers.
+    /// Creates a session with the drivers and the version of a text of programs. Nothing is open, and the programs are
+    /// not run. Fails with the first fault of the text, if it has one, and else with the first fault of its drivers.
     /// Can also fail because it is out of memory.
     pub fn new(alloc: Global, programs: &[u8]) -> Result<Session, StartFault>
         ensures { StartsAs programs.now result }
@@ -57,9 +58,10 @@ impl Session {
         }
     }
 
-    /// Performs the command of a line and keeps its entry, with the reply. The line is `PROCESS COMMAND`, as at the
-    /// start of an entry's line. Fails with `NoCommand` exactly if the line is not a process and a command of the
-    /// session's version. Otherwise fails only because it is out of memory. A failure changes nothing.
+    /// Performs the command of a line, and keeps the entry: the process, the command and the reply. The line is
+    /// `PROCESS COMMAND`, as in an entry's line before its `=`. Fails with `NoCommand` exactly if the line is not a
+    /// process and a command of the session's version. Otherwise fails only because it is out of memory. A failure
+    /// changes nothing.
     pub fn perform(&mut self, alloc: Global, line: &[u8]) -> Result<(), LineFault>
         ensures ok { OnOk result (Performs self.old line.now self.new) }
         ensures err { OnErr result (self.new ≡ self.old) }
@@ -77,7 +79,7 @@ impl Session {
         Ok(())
     }
 
-    /// Returns the configuration. Fails only if it is out of memory.
+    /// Returns the view of the configuration: its parts, as lists of lines. Fails only if it is out of memory.
     pub fn show(&self) -> Result<ConfigView, NoMemory>
         ensures view { IfOk result (λ v. v ≡ view self.now.drivers self.now.configuration) }
         ensures kept { IsKept self.now.drivers self.now.configuration }
@@ -85,7 +87,7 @@ impl Session {
         self.config.show()
     }
 
-    /// Returns the version of its texts. Takes no memory.
+    /// Returns the version of the session's texts. Takes no memory.
     pub fn version(&self) -> Version
         ensures { result ≡ self.now.version }
     {

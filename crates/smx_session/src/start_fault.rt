@@ -14,7 +14,7 @@ use std::fmt;
 pub enum StartFault {
     /// An allocation failed.
     NoMemory,
-    /// The bytes are not a programs text. The cause is never out-of-memory.
+    /// The bytes are not a text of programs. The cause is never out-of-memory.
     Text(TextFault),
     /// No configuration can have these drivers. The fault is never out-of-memory.
     Drivers(ConfigFault),

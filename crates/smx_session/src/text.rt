@@ -16,8 +16,8 @@ use smx_words::Spell;
 use std::alloc::Global;
 
 impl Session {
-    /// Returns the beginning of its transcript: the header and a line for each driver. Fails only if it is out of
-    /// memory.
+    /// Returns the beginning of the session's transcript: the header and a line for each driver. Fails only if it is
+    /// out of memory.
     pub fn opening(&self, alloc: Global) -> Result<Vec<u8>, NoMemory>
         ensures { IfOk result (λ v. BeginsTranscript self.now.version self.now.drivers [] v.items) }
     {
