@@ -14,8 +14,8 @@ use smx_run::RunFault;
 use smx_types::{NoMemory, Version};
 use std::alloc::Global;
 
-/// Writes the answer to a line, with what is below it, and flushes it. Returns `true` if this ends the session, because
-/// the line was `end`.
+/// Writes the answer to a line, with the lines below the answer, and flushes them. Returns `true` if the session has
+/// ended, because the line was `end`.
 pub fn answer<S: Sink>(
     alloc: Global,
     sink: &mut S,
@@ -34,7 +34,7 @@ pub fn answer<S: Sink>(
     }
 }
 
-// Writes a text and flushes it. Returns `over` unchanged if both succeed.
+// Writes a text and flushes it. If this succeeds, returns `over`, which says whether the session has ended.
 fn say<S: Sink>(sink: &mut S, text: &[u8], over: bool) -> Result<bool, MainFault>
     requires { S.failures sink.old ≡ 0 }
     ensures { Says text.now over (S.contents sink.old) (S.contents sink.new) (S.flushed sink.new) (S.failures sink.new)
@@ -46,7 +46,7 @@ fn say<S: Sink>(sink: &mut S, text: &[u8], over: bool) -> Result<bool, MainFault
     }
 }
 
-// Writes the configuration. Begins or ends to trace entries, if the line asks for it.
+// Writes the configuration, the answer to this line. If the line is `trace on` or `trace off`, switches tracing.
 fn show<S: Sink>(
     alloc: Global,
     sink: &mut S,
@@ -68,7 +68,7 @@ fn show<S: Sink>(
     }
 }
 
-// Writes the rest of the transcript.
+// Writes the rest of the transcript, and ends the session.
 fn end<S: Sink>(alloc: Global, sink: &mut S, talk: &Talk, line: &[u8]) -> Result<bool, MainFault>
     requires asked { line.now ≡ codes "end" }
     requires sunk { S.failures sink.old ≡ 0 }
@@ -102,7 +102,7 @@ fn call<S: Sink>(
     }
 }
 
-// Writes why a line is refused. If `explain`, writes the explanation of a line that is not a command below that.
+// Writes why a line is refused. If `explain`, and the line is not a command, writes its explanation below.
 fn refuse<S: Sink>(
     alloc: Global,
     sink: &mut S,
@@ -125,7 +125,7 @@ fn refuse<S: Sink>(
     say(sink, line_of_fault(fault), false)
 }
 
-// Returns whether an explanation is below the line that reports this fault.
+// Returns whether the line that reports this fault is followed by an explanation.
 fn is_explained(fault: TurnFault, explain: bool) -> bool
     ensures { MatchBool result ((fault ≡ NoCommand) × (explain ≡ true)) ((fault ≡ NoCommand) × (explain ≡ true) → ⊥) }
 {

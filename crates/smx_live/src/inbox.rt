@@ -21,7 +21,7 @@ pub struct Inbox {
 }
 
 impl Inbox {
-    /// Creates an empty inbox. Takes no memory.
+    /// Creates an empty inbox. Does not allocate.
     pub fn new(alloc: Global) -> Inbox
         ensures held { result.held.items ≡ [] }
         ensures before_the_end { result.ended ≡ false }
@@ -33,10 +33,11 @@ impl Inbox {
     }
 
     /// Reads until the inbox starts with a whole line, and returns the length of the line without its line feed.
-    /// Returns `None` if the feed ends before that. Makes no read if the inbox already starts with a whole line.
+    /// Returns `None` if the feed ends before there is a whole line. Makes no read if the inbox already starts with a
+    /// whole line.
     ///
-    /// Fails with `TooLong` exactly if the line, whole or not, has more than `MAX_INPUT` bytes. Fails with `ReadFailed`
-    /// exactly if a read failed. Otherwise fails only because it is out of memory.
+    /// Fails with `TooLong` exactly if the line has more than `MAX_INPUT` bytes, even if its end was not read. Fails
+    /// with `ReadFailed` exactly if a read failed. Otherwise fails only because it is out of memory.
     pub fn next_line<F: Feed>(&mut self, feed: &mut F) -> Result<Option<usize>, MainFault>
         requires end { F.ended feed.old ≡ self.old.ended }
         requires fine_so_far { F.failures feed.old ≡ 0 }
@@ -66,7 +67,7 @@ impl Inbox {
         }
     }
 
-    /// Removes the first line, which has `n` bytes, and its line feed. Takes no memory.
+    /// Removes the first line, which has `n` bytes, and its line feed. Does not allocate.
     pub fn drop_line(&mut self, n: usize)
         requires { n < length self.old.held.items }
         ensures held { self.new.held.items ≡ drop (n + 1) self.old.held.items }
@@ -84,7 +85,7 @@ fn line_in(bytes: &[u8]) -> Option<usize>
     memchr(b'\n', bytes)
 }
 
-// Returns the length `n` of a line, or fails if it is over the limit.
+// Returns the length `n` of a line, or fails if `n` is over the limit.
 fn line_of(n: usize) -> Result<Option<usize>, MainFault>
     ensures { MayBeTaken n result }
 {
@@ -94,7 +95,7 @@ fn line_of(n: usize) -> Result<Option<usize>, MainFault>
     Ok(Some(n))
 }
 
-// Reads once and appends the bytes to what is held. Returns whether there were any.
+// Reads once and appends the bytes to `held`. Returns `false` if there were none, because the feed has ended.
 fn read_piece<F: Feed>(feed: &mut F, held: &mut Vec<u8>) -> Result<bool, MainFault>
     requires before_the_end { F.ended feed.old ≡ false }
     requires fine_so_far { F.failures feed.old ≡ 0 }

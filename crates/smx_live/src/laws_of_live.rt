@@ -43,8 +43,8 @@ use smx_text::worked_texts::wrong_programs;
 use smx_words::laws::one_value_each;
 use smx_words::laws_of_reading::which_lines_are_calls;
 
-/// Take the output of a session that has ended, without the answers that are not entries. It is the transcript of a
-/// legal history, and a check finds it legal.
+/// Take the output of a session that has ended, and remove the answers that are not entries, and the lines below
+/// answers. The rest is the transcript of a legal history, and a check finds it legal.
 pub fn live_sessions_are_legal_transcripts()
     ensures { (explain : Bool) (read : List ℕ) (ended : Bool) (output : List ℕ)
         (o : IsOver explain read ended output) → IsLegalTranscript o }
@@ -53,8 +53,9 @@ pub fn live_sessions_are_legal_transcripts()
     without_a_hangup_none_is_reported();
 }
 
-/// The bytes that a session has read determine its output, if the session has ended and no line was refused
-/// for lack of memory.
+/// Two sessions that have ended wrote the same output if three things are the same: the bytes that they read, whether
+/// the input has ended, and whether lines are explained. The law requires that neither session has refused a line for
+/// lack of memory.
 pub fn a_session_has_one_output()
     ensures { (explain : Bool) (read : List ℕ) (ended : Bool) (one other : List ℕ) (o : IsOver explain read ended one)
         (p : IsOver explain read ended other) → HasEnoughMemory o.live.turns → HasEnoughMemory p.live.turns
@@ -65,8 +66,9 @@ pub fn a_session_has_one_output()
     a_line_has_one_explanation();
 }
 
-/// The table of a session spells programs whose drivers are not refused, except as out of memory. The table and each
-/// line that the session has answered have at most 16,777,216 bytes.
+/// The table of a session, read as a programs text, has no fault except out-of-memory. Out-of-memory is also the only
+/// reason for which its drivers can be refused. The table and each line that was answered have at most 16,777,216
+/// bytes.
 pub fn a_session_has_its_drivers()
     ensures text { (explain : Bool) (read output : List ℕ) (ended : Bool) (fault : TextFault)
         → HasComeSoFar explain read ended output
@@ -83,10 +85,9 @@ pub fn a_session_has_its_drivers()
     drivers_have_one_fault();
 }
 
-/// If a session reports a fault of the table or refuses its drivers, then the table is not too long and
-/// nothing was written. The text of a table has at most one fault, and out-of-memory is not reported as a
-/// fault of the text. If the text has no fault, its drivers are refused for one fault only, or because memory
-/// has run out.
+/// If a fault of a table, read as a programs text, or of its drivers is reported, the table is not too long, and
+/// nothing was written. For the same bytes only one fault can be reported: one of the text, or one of the drivers.
+/// Besides, memory can run out; this is never reported as a fault of the text.
 pub fn a_table_has_one_fault()
     ensures one { (explain : Bool) (read output : List ℕ) (ended flushed : Bool) (reads writes : ℕ)
         (one other : TextFault)
@@ -123,9 +124,13 @@ pub fn a_table_has_one_fault()
     drivers_have_one_fault();
 }
 
-/// A table is too long only if more than 16,777,216 bytes were read, and a line only if it has more than that. A table
-/// that has ended and has at most that many bytes is not too long, whatever follows it. Nor is such a whole line, nor
-/// the table of a session, nor the bytes that the inbox still holds when a session has ended.
+/// A table is too long only if more than 16,777,216 bytes were read. A line is too long only if it has more than
+/// 16,777,216 bytes. These are not too long:
+///
+/// - a table that has ended and has at most 16,777,216 bytes, whatever follows it;
+/// - a whole line of at most 16,777,216 bytes;
+/// - the table of a session;
+/// - the bytes that were read but not yet taken as a line, when a session has ended.
 pub fn what_is_too_long()
     ensures table { (read : List ℕ) → IsEndlessTable read → MAX_INPUT < length read }
     ensures line { (held : List ℕ) → IsTooLong held → MAX_INPUT < length held }
@@ -138,9 +143,8 @@ pub fn what_is_too_long()
         → IsTooLong o.held → ⊥ }
 {}
 
-/// If a table has ended, and each whole line that was read belongs to it, the input has ended. A line belongs to a
-/// table if it begins with `driver`, which may be a whole word or the start of a longer one. A line `drive` does not
-/// belong to it.
+/// If a table has ended, and each whole line that was read belongs to it, the input has ended. A line `drivers` after
+/// the first line of a table belongs to the table, and a line `drive` does not.
 pub fn where_a_table_is_over()
     ensures finished { (ended : Bool) (table rest : List ℕ) → IsTable ended table rest
         → IsUnfinished (table ++ rest) → (ended ≡ true) × IsOneLine rest }
@@ -150,9 +154,9 @@ pub fn where_a_table_is_over()
     ensures not_unfinished { IsUnfinished (codes "programs 2\ndrivers\ndrive\n") → ⊥ }
 {}
 
-/// A worked session: its input and its output. Its table ends after its last driver line, even if that line is cut, and
-/// nowhere else. The lines that ask for the configuration or for the end are not refused. A line that is not a command
-/// is not performed.
+/// A worked session: its input and its output. Examples of tables show that a table ends after its last driver line,
+/// even if that line is cut, and nowhere else. Examples of answers show that the lines which ask for the configuration
+/// or for the end are not refused as `NoCommand`, and that a line which is not a command is not performed.
 pub fn a_worked_live_session()
     ensures over { (explain : Bool) → IsOver explain worked_input false (worked_output explain) }
     ensures table { IsTable false worked_table (codes "3 clone eth\n") }
@@ -177,8 +181,9 @@ pub fn a_worked_live_session()
     worked_explanations();
 }
 
-/// Entries are traced from an answered `trace on` to an answered `trace off`; no other line changes that. An example of
-/// what is below an entry: its changes if entries are traced, and else nothing.
+/// After a `trace on` that is answered by the configuration, entries are traced; after such a `trace off`, they are
+/// not. No other line changes this. There is also an example of an entry: if entries are traced, its changes are below
+/// it; else nothing is.
 pub fn when_entries_are_traced()
     ensures on { (tracing : Bool) (v : ConfigView) → traces_after tracing (codes "trace on") (Shown v) ≡ true }
     ensures off { (tracing : Bool) (v : ConfigView) → traces_after tracing (codes "trace off") (Shown v) ≡ false }
@@ -193,9 +198,9 @@ pub fn when_entries_are_traced()
         (Entered (3 does OpenClone eth gets Fd 0 0)) [] }
 {}
 
-/// Examples of the output when memory runs out. It is empty, or the output of the session so far. For the worked
-/// session that is its opening, or its opening and the answers to its lines. It has answers only to lines that were
-/// read, and never only a part of the opening.
+/// Examples of the output when memory runs out. The output can be empty, or the beginning of the transcript, or this
+/// beginning with the answers to the lines that were read. It can't have an answer to a line that was not read, and it
+/// can't be only a part of the beginning.
 pub fn what_is_out_when_memory_runs_out()
     ensures nothing { (explain : Bool) → IsBroken explain worked_input false [] }
     ensures opening { (explain : Bool)
@@ -212,10 +217,10 @@ pub fn what_is_out_when_memory_runs_out()
     one_text_has_one_reading();
 }
 
-/// Worked examples of why lines are refused. A history of 100,000 entries is full. Then only the lines that ask for the
-/// configuration or for the end are answered. Every other line is refused as `Full`, even if it is not a command.
-/// Out-of-memory is reported for a line that asks for these, and for a command of this version if the history is not
-/// full.
+/// Worked examples of why lines are refused. A history of 100,000 entries is full. A line that asks for the
+/// configuration or for the end is then not refused as `Full`. Every other line is, even if it is not a command.
+/// Out-of-memory can be reported for a line that asks for the configuration or for the end. It can also be reported for
+/// a command of this version, if the history is not full.
 pub fn why_lines_are_refused()
     ensures full { IsRefusedFor V2 100000 (codes "x") Full }
     ensures not_yet_full { IsRefusedFor V2 99999 (codes "x") Full → ⊥ }
@@ -243,9 +248,9 @@ pub fn an_unknown_line_is_explained()
     a_line_has_one_explanation();
 }
 
-/// If a text spells programs whose drivers are not valid, the drivers are refused, for their fault. If the drivers are
-/// valid, they are refused only because memory has run out. They are never refused for a full history, nor if the text
-/// spells no programs.
+/// Examples of texts whose drivers are refused. Invalid drivers are refused for their fault. Valid drivers are refused
+/// only because memory has run out. Drivers are never refused because a history is full. A text that is not a programs
+/// text has no drivers that could be refused.
 pub fn whose_drivers_are_refused()
     ensures refused { RefusesDriversOf (run.ConfigFault (config.BadSpec 0 BadMinors)) minorless_text }
     ensures not_for_want_of_memory { RefusesDriversOf run.NoMemory minorless_text → ⊥ }

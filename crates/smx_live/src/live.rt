@@ -22,20 +22,24 @@ use smx_session::{Session, StartFault};
 use smx_types::NoMemory;
 use std::alloc::{AllocError, Global};
 
-/// Reads a driver table and then lines, and answers each line at once. A line is `show`, `trace on`, `trace off`,
-/// `end`, empty, or a process with a command. The answer to a command is its entry. The answer to `show`, an empty
-/// line, `trace on` or `trace off` is the configuration. Between `trace on` and `trace off` each entry is followed by
-/// the lines of what it changed. The answer to any other line is `? no command` and, if `explain`, what is wrong with
-/// the line. After 100,000 entries the answer to such a line, and to each command, is `? history full`. If memory runs
-/// out for a line, its answer is `? no memory`. A line with one of these three answers changes nothing. `end` or the
-/// end of the input ends the transcript. So the output is the transcript of the commands that were performed, with
-/// other answers in between. If the table or its drivers have a fault, the returned `Refusal` has the table as a
-/// programs text; only tests show this.
+/// Reads a driver table and then lines, and answers each line at once:
+///
+/// - A process with a command: the answer is the entry of the command. Between `trace on` and `trace off` each entry is
+///   followed by the lines of what it changed.
+/// - `show`, an empty line, `trace on` or `trace off`: the answer is the configuration.
+/// - `end`: the transcript ends, as at the end of the input.
+/// - Any other line: the answer is `? no command` and, if `explain`, what is wrong with the line.
+///
+/// After 100,000 entries, the answer `? history full` takes the place of an entry and of `? no command`. If memory runs
+/// out for a line, its answer is `? no memory`. A line that is answered by `? no command`, `? history full` or
+/// `? no memory` changes nothing. So the output is the transcript of the commands that were performed, with other
+/// answers in between. If the table or its drivers have a fault, the returned `Refusal` has the table as a programs
+/// text; only tests show this.
 ///
 /// Requires that neither the feed nor the sink has failed before, and that the feed has not ended. Fails with the first
-/// fault that it meets: a failed read; a table or a line that is too long; a fault of the table as a text, and then of
-/// its drivers; a failed write; or out-of-memory, unless that is the answer to a line. Whenever it fails, it has
-/// written all earlier answers.
+/// fault that it meets: a failed read; a table or a line that is too long; a fault of the table as a programs text, and
+/// then of its drivers; a failed write; or out-of-memory, unless `? no memory` is the answer. If it fails, all earlier
+/// answers were written.
 pub fn live_text<F: Feed, S: Sink>(
     alloc: Global,
     feed: &mut F,
@@ -67,8 +71,8 @@ pub fn live_text<F: Feed, S: Sink>(
     }
 }
 
-// Reads the driver table: the first line, and the following lines that begin with `driver`. The last of these may be
-// cut.
+// Reads the driver table: the first line, and the lines after it that begin with `driver`. The last line of the table
+// may lack its line feed, if the input ends there.
 fn read_table<F: Feed>(alloc: Global, feed: &mut F, inbox: &mut Inbox) -> Result<Vec<u8>, MainFault>
     requires end { F.ended feed.old ≡ inbox.old.ended }
     requires fine_so_far { F.failures feed.old ≡ 0 }
@@ -93,8 +97,8 @@ fn read_table<F: Feed>(alloc: Global, feed: &mut F, inbox: &mut Inbox) -> Result
     Err(MainFault::TooLong)
 }
 
-// At the end of the input, appends the buffered bytes to the table if they begin a driver line. The reader of
-// the table then reports that line as cut.
+// Returns the table when the input has ended. Appends `held`, the rest of the input, to the table if it begins with
+// `driver` and the table has a first line. The table's reader then reports this driver line as cut.
 fn with_cut_line(table: Vec<u8>, held: &mut Vec<u8>) -> Result<Vec<u8>, MainFault>
     ensures { TakesCutLine table.items held.old.items held.new.items result }
 {
@@ -112,7 +116,7 @@ fn with_cut_line(table: Vec<u8>, held: &mut Vec<u8>) -> Result<Vec<u8>, MainFaul
     Ok(whole)
 }
 
-// Returns whether a line belongs to the table, if `before` bytes of the table come before it.
+// Returns whether a line belongs to the table. `before` is the number of bytes of the table before this line.
 fn is_of_table(before: usize, line: &[u8]) -> bool
     ensures { MatchBool result ((before ≡ 0) ⊎ (begins_driver line.now ≡ true))
         ((before ≢ 0) × (begins_driver line.now ≡ false)) }
@@ -120,7 +124,7 @@ fn is_of_table(before: usize, line: &[u8]) -> bool
     before == 0 || line.starts_with(b"driver")
 }
 
-// Returns the table as a programs text.
+// Returns the table as a programs text: adds the line `end`, if the table has a line and its last line is whole.
 fn text_of_table(table: Vec<u8>) -> Result<Vec<u8>, AllocError>
     ensures text { IfOk result (λ v. v.items ≡ table_text table.items) }
     ensures memory { OnErr result (ends_with nat_eq table.items (codes "\n") ≡ true) }
@@ -132,7 +136,8 @@ fn text_of_table(table: Vec<u8>) -> Result<Vec<u8>, AllocError>
     Ok(text)
 }
 
-// Starts a session with the drivers of a table. Keeps the text of the table if it or its drivers have a fault.
+// Starts a session with the drivers of a table. If the table or its drivers have a fault, the `Refusal` has the table
+// as a programs text.
 fn begin(alloc: Global, table: Vec<u8>) -> Result<Talk, Refusal>
     ensures { Begins table.items (answer_of result) }
 {
@@ -211,7 +216,7 @@ fn converse<F: Feed, S: Sink>(
     Err(MainFault::TooLong)
 }
 
-// Answers the first buffered line, which has `n` bytes. Returns whether the session has ended.
+// Answers the first line in the inbox, which has `n` bytes. Returns whether the session has ended.
 fn take_turn<S: Sink>(
     alloc: Global,
     sink: &mut S,
@@ -243,14 +248,14 @@ fn take_turn<S: Sink>(
     }
 }
 
-// Returns `? cut` and a line feed if `held`, the rest of the input, has bytes. Otherwise returns nothing.
+// Returns the answer to `held`, the rest of the input: `? cut` and a line feed, or nothing if `held` is empty.
 fn cut_words(held: &[u8]) -> &'static [u8]
     ensures { result.now ≡ cut_words held.now }
 {
     if held.is_empty() { b"" } else { b"? cut\n" }
 }
 
-// Returns the last lines of the output at the end of the input, with `held` still buffered.
+// Returns the last lines of the output when the input has ended. `held` is the rest of the input.
 fn closing(alloc: Global, session: &Session, held: &[u8]) -> Result<Vec<u8>, NoMemory>
     ensures written { IfOk result (λ v. v.items ≡ cut_words held.now ++ closing_text session.now) }
     ensures spellable { OnOk result (IsSpellableView (view session.now.drivers session.now.configuration)) }
@@ -273,7 +278,7 @@ fn write_last<S: Sink>(sink: &mut S, text: &[u8]) -> Result<(), MainFault>
     }
 }
 
-// Ends the session at the end of the input, with `held` still buffered.
+// Ends the session when the input has ended. `held` is the rest of the input.
 fn finish<S: Sink>(alloc: Global, sink: &mut S, talk: &Talk, held: &[u8]) -> Result<(), MainFault>
     requires { S.failures sink.old ≡ 0 }
     ensures { (explain : Bool) (read output : List ℕ) (ended : Bool)

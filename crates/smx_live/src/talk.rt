@@ -23,19 +23,19 @@ use std::alloc::Global;
 /// How far a session is.
 #[derive(Clone, Copy, Debug, PartialEq, Eq)]
 pub struct Progress {
-    /// The number of its entries.
+    /// The number of entries of the session.
     pub entries: usize,
     /// Whether the changes of each entry are written below it.
     pub tracing: bool,
 }
 
-// Room for a reply without a list of dropped messages, and for everything around it.
+// Room for a reply without a list of dropped messages, for ` = ` before it and for the line feed after it.
 const REPLY: usize = 2 * MAX_MESSAGE as usize + 64;
 
-// Room for the digits of a serial and the space before them.
+// Room for one dropped message in a reply: the digits of its serial, and the space before them.
 const SERIAL: usize = 11;
 
-/// A session, how far it is, and a buffer for texts.
+/// A session, how far it is, and a buffer for the text of an answer.
 #[derive(Drop)]
 pub struct Talk {
     pub session: Session,
@@ -74,15 +74,15 @@ fn is_switch(line: &[u8]) -> bool
     line == "trace on".as_bytes() || line == "trace off".as_bytes()
 }
 
-/// Returns whether entries are traced after this line, which asks for the configuration.
+/// Returns whether entries are traced after this line, if the configuration is the answer to it.
 pub fn switched(tracing: bool, line: &[u8]) -> bool
     ensures { result ≡ switched tracing line.now }
 {
     line == "trace on".as_bytes() || (tracing && line != "trace off".as_bytes())
 }
 
-// Empties `text`, and reserves room for the line of the next entry. The line that asks for this entry has `len` bytes,
-// and `count` entries come before it.
+// Empties `text`, and reserves room for the line of the next entry. The session has `count` entries, and the line with
+// the command has `len` bytes.
 fn make_room(text: &mut Vec<u8>, len: usize, count: usize) -> Result<(), NoMemory>
     requires { count < MAX_COMMANDS }
     ensures { text.new.items ≡ [] }
@@ -92,8 +92,8 @@ fn make_room(text: &mut Vec<u8>, len: usize, count: usize) -> Result<(), NoMemor
     Ok(())
 }
 
-// Returns the reason for refusing a line if there is no room for the line of its entry. Only a command needs that room,
-// so any other line is refused as `NoCommand`.
+// Returns why a line is refused if memory ran out before its command was performed. Only a command
+// has an entry that needs memory, so any other line is refused as `NoCommand`.
 fn fault_without_room(alloc: Global, version: Version, line: &[u8]) -> TurnFault
     ensures { ((result ≡ fault.NoMemory) × IsCallLine version line.now)
         ⊎ ((result ≡ fault.NoCommand) × IsNoCallLine version line.now) }
@@ -107,8 +107,10 @@ fn fault_without_room(alloc: Global, version: Version, line: &[u8]) -> TurnFault
 impl Talk {
     /// Performs the command in `line`. Puts into `text` the line of the new entry and, if entries are traced, the
     /// entry's changes below it. If `line` is refused, returns the reason, and the session and the progress have not
-    /// changed. Room for the entry's line is reserved before the command is performed. Fails if this room was too
-    /// small, or if there is no memory for the changes; in both cases the command has already been performed.
+    /// changed.
+    ///
+    /// Room for the entry's line is reserved before the command is performed. The call fails if this room was too small
+    /// and memory ran out, or if there was no memory for the changes. The command has then already been performed.
     pub fn perform(&mut self, alloc: Global, line: &[u8]) -> Result<Option<TurnFault>, NoMemory>
         requires { AsksForNeither line.now }
         ensures answered { IfOk result (λ o. IsPerformed self.old.session self.old.progress line.now o
@@ -137,7 +139,7 @@ impl Talk {
         }
     }
 
-    // Makes the line of the last entry and counts the entry.
+    // Puts the line of the last entry into `text` and counts the entry.
     fn tell(&mut self) -> Result<(), NoMemory>
         requires empty { self.old.text.items ≡ [] }
         requires room { self.old.progress.entries < MAX_COMMANDS }
@@ -154,7 +156,7 @@ impl Talk {
         Ok(())
     }
 
-    // Returns the view of the configuration, if entries are traced.
+    // Returns the configuration as it is shown, if entries are traced.
     fn traced_view(&self) -> Result<Option<ConfigView>, NoMemory>
         ensures { IfOk result (IsTracedView self.now.progress.tracing self.now.session) }
     {
@@ -164,7 +166,7 @@ impl Talk {
         Ok(None)
     }
 
-    // Appends the changes since a view, if there is one, to the text.
+    // If entries are traced, appends the changes since `before`, the configuration before the entry, to the text.
     fn tell_changes(&mut self, alloc: Global, before: Option<ConfigView>) -> Result<(), NoMemory>
         requires { IfSome before (IsViewOfKept self.old.session.drivers) }
         ensures session { self.new.session ≡ self.old.session }

@@ -6,7 +6,8 @@ ghost use Rattle.smx_live.specs.Turns.{fault_line};
 /// Why a line is refused. A refused line changes nothing.
 #[derive(Clone, Copy, Debug, PartialEq, Eq)]
 pub enum TurnFault {
-    /// The line is not a process with a command of this version, and makes no other request.
+    /// The line is not a process with a command of the session's version. It is also not `show`, `trace on`, `trace
+    /// off`, `end` or empty.
     NoCommand,
     /// An allocation failed.
     NoMemory,
