@@ -10,7 +10,7 @@ use crate::texts::copy_out;
 use smx_session::Session;
 use std::alloc::Global;
 
-/// Creates a session with the drivers of a programs text.
+/// Puts a new session, with the drivers of a programs text, into a handle without a session.
 pub fn open(alloc: Global, handle: &mut Handle, programs: &[u8]) -> Result<(), CallFault>
     ensures { Opens handle.old.value programs.now handle.new.value result }
 {
@@ -43,7 +43,7 @@ pub fn perform(alloc: Global, handle: &mut Handle, line: &[u8]) -> Result<(), Ca
     Ok(())
 }
 
-/// Writes the line of the last entry.
+/// Writes the line of the last entry to `text`, and its length to `len`.
 pub fn entry(
     alloc: Global,
     handle: &mut Handle,
@@ -61,7 +61,7 @@ pub fn entry(
     copy_out(line?.as_slice(), text, len)
 }
 
-/// Writes the lines of the configuration.
+/// Writes the lines of the configuration to `text`, and their length to `len`.
 pub fn show(
     alloc: Global,
     handle: &mut Handle,

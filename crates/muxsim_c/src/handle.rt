@@ -1,4 +1,4 @@
-//! A session as C has it: a pointer.
+//! A session as C sees it: a pointer.
 
 ghost use Rattle.std.specs.Prelude.{◌≡◌, None, Some, MatchOption, Option};
 ghost use Rattle.smx_session.specs.Sessions.{State};
@@ -44,7 +44,7 @@ impl Handle {
         }
     }
 
-    /// Returns the handle of the session in a box that was taken apart.
+    /// Returns a handle with the session of `loose`, a box that was taken apart.
     pub fn of(loose: Loose<Session, Global>) -> Handle
         ensures { result.value ≡ Some loose.value }
     {
@@ -55,7 +55,7 @@ impl Handle {
         }
     }
 
-    /// Returns the session's box, taken apart, if there is one.
+    /// Returns the box of the session, taken apart, or `None` if the handle has no session.
     pub fn into_loose(self) -> Option<Loose<Session, Global>>
         ensures { MatchOption result (self.value ≡ None) (λ l. self.value ≡ Some l.value) }
     {

@@ -27,14 +27,15 @@ pub fn copies_keep_the_rest()
     ensures length_told { Copies (codes "ab") (codes "w") (codes "w") 1 (Err NoRoom) → ⊥ }
 {}
 
-/// There is only one reason why a text makes no session: the words of its first fault, or no words if it makes one.
+/// For each text there is only one answer to why no session can be opened with it. The answer is empty if one can be
+/// opened.
 pub fn words_are_those_of_the_text()
     ensures { (text one other : List ℕ) → IsWhy text one → IsWhy text other → one ≡ other }
 {
     a_text_has_one_start();
 }
 
-/// A worked session in C: the code of each call, and counterexamples.
+/// Calls of a worked session in C, and calls with texts that are rejected: the code of each call, and counterexamples.
 pub fn a_worked_session_in_c()
     ensures open { Answers (pos 0) (Opens None table (Some begun)) }
     ensures open_again { Answers (pos 8) (Opens (Some begun) table (Some begun)) }

@@ -1,4 +1,4 @@
-//! Why a text makes no session, in words.
+//! Why no session can be opened with a text, in words.
 
 ghost use Rattle.std.specs.Prelude.{◌≡◌, IfErr, IfOk, string_bytes};
 ghost use Rattle.muxsim_c.specs.Calls.{IsWhy, TellsWhy};
@@ -10,7 +10,8 @@ use crate::texts::copy_out;
 use smx_session::{Session, StartFault};
 use std::alloc::{AllocError, Global};
 
-/// Writes the words that say why a text makes no session, and no byte if it makes one.
+/// Writes the words that say why no session can be opened with the text `programs`. Writes no byte if one can be
+/// opened.
 pub fn why(
     alloc: Global,
     programs: &[u8],
@@ -23,7 +24,7 @@ pub fn why(
     copy_out(words.as_bytes(), text, len)
 }
 
-// Returns the words that say why a text makes no session, and none if it makes one.
+// Returns the words that say why no session can be opened with a text. The words are empty if one can be opened.
 fn reason(alloc: Global, programs: &[u8]) -> Result<String, CallFault>
     ensures words { IfOk result (λ words. IsWhy programs.now (string_bytes words)) }
     ensures none { IfErr result (λ t. t ≡ NoMemory) }
@@ -39,7 +40,7 @@ fn reason(alloc: Global, programs: &[u8]) -> Result<String, CallFault>
     }
 }
 
-// Returns a fault as it prints itself.
+// Returns the words that a fault prints.
 fn printed(alloc: Global, fault: StartFault) -> Result<String, AllocError>
     ensures { IfOk result (λ words. string_bytes words ≡ start_fault_words fault) }
 {
