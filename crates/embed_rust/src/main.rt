@@ -51,8 +51,8 @@ impl From<CloseFault> for Failure {
     }
 }
 
-// Performs a command of a seat's process. Returns the reply if the command got an entry; a refused command gets one
-// too.
+// Performs a command for the process of a seat. Returns the reply, which may refuse the command. Returns `None` if the
+// call fails.
 fn answer<R: Wait>(
     rt: &R,
     shared: &Shared,
@@ -69,7 +69,7 @@ fn answer<R: Wait>(
     }
 }
 
-// Links a stream of eth below one of ip for good, then exits. Returns whether all of that was done.
+// Links a stream of eth below one of ip by a persistent link, then exits. Returns whether all four commands succeeded.
 fn links_for_good<R: Wait>(
     rt: &R,
     shared: &Shared,
@@ -97,7 +97,7 @@ fn links_for_good<R: Wait>(
         && matches!(end, Some(Reply::Done { .. }))
 }
 
-// Returns the last seat and those before it.
+// Returns the seats before the last one, and the last one, if there is one.
 fn last_of(shared: &Shared, mut seats: Vec<Seat>) -> Option<(Vec<Seat>, Seat)>
     requires { All (λ s. s.shared ≡ shared.now.name) seats.items }
     ensures { IfSome result (λ r. All (λ s. s.shared ≡ shared.now.name) r.0.items × (r.1.shared ≡ shared.now.name)) }
@@ -159,7 +159,7 @@ fn shared_by_three<R: Threads + Wait + Sync>(
     Ok((all, shared.close(last)?))
 }
 
-// Returns the verdict on the history of the system, with its own view.
+// Returns the verdict on the history of the system and the configuration that it shows.
 fn verdict_of(alloc: Global, drivers: &[DriverSpec], system: &System) -> Result<Verdict, Failure> {
     let view = system.config().show()?;
     Ok(check_history(alloc, drivers, system.entries(), &view)?)
