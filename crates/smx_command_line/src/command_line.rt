@@ -17,11 +17,18 @@ use std::mem::forget;
 // What `--version` prints after the program's name.
 const VERSION: &str = "0.1.0";
 
-/// Parses the words of the command line, of which the first is the program's name. They ask for a job by `run`, with
-/// or without `--workers` and `--fronts`; `check`; `replay`, with or without `--at`; `trace`, with or without
-/// `--waits`; `draw`, with or without `--dot` or `--steps`; or `live`. Each also takes `--explain`. Fails with clap's
-/// error for any other words, and for a request for help or the version, such as `commands`. If it is out of memory,
-/// the kind of the error is `OutOfMemory`.
+/// Parses the words of the command line. The first is the program's name, and the second is the job, each with its
+/// options:
+///
+/// - `run`: `--workers` and `--fronts`
+/// - `check`
+/// - `replay`: `--at`
+/// - `trace`: `--waits`
+/// - `draw`: `--dot` or `--steps`
+/// - `live`
+///
+/// Each job also has the option `--explain`. For any other words, and for a request for help or the version, such as
+/// `commands`, fails with clap's error. If it is out of memory, the kind of the error is `OutOfMemory`.
 pub fn job<'a, S: AsStr>(alloc: Global, words: &'a [S]) -> Result<Job, Error>
     ensures { IfOk result CanRun }
 {
@@ -32,7 +39,7 @@ pub fn job<'a, S: AsStr>(alloc: Global, words: &'a [S]) -> Result<Job, Error>
     job
 }
 
-// Returns what these matches of the words ask for.
+// Returns the job that clap's matches of the words ask for.
 fn job_of(alloc: Global, matches: &ArgMatches) -> Result<Job, Error>
     ensures { IfOk result CanRun }
 {
@@ -62,8 +69,8 @@ fn job_of(alloc: Global, matches: &ArgMatches) -> Result<Job, Error>
     }
 }
 
-// Returns how many workers are asked for. clap gives 1 if the option is left out, and has already rejected any number
-// outside 1 to `MAX_WORKERS`, so the last arm is never reached.
+// Returns the number of workers that the words ask for. clap gives 1 if the option is left out, and has already
+// rejected any number outside 1 to `MAX_WORKERS`, so the last arm is never reached.
 fn workers_of(run: &ArgMatches) -> usize
     ensures { (1 ≤ result) × (result ≤ MAX_WORKERS) }
 {
@@ -94,7 +101,7 @@ fn drawing_of(draw: &ArgMatches) -> Job
     }
 }
 
-// Returns what clap answers to `help commands`: the page of help that `commands` by itself asks for too.
+// Returns clap's answer to `help commands`. The word `commands` alone asks for the same page of help.
 fn help_of_commands(alloc: Global) -> Result<Error, AllocError> {
     let mut program = program(alloc)?;
     match program.try_get_matches_from_mut(&["muxsim", "help", "commands"]) {

@@ -1,7 +1,7 @@
 //! The page that `muxsim commands` prints: how texts are written, and the commands of programs.
 
-/// The page of help on the texts: the lines of each text, and each command with its words and what it asks for. The
-/// words are those of docs/FORMATS.md.
+/// The page of help on the texts: the lines of each text, and the commands, each with its words and its meaning. The
+/// words are the same as in docs/FORMATS.md.
 pub const COMMANDS: &str = "Programs, the input of 'run', are written so:
 
     programs 1                            or 2, for up to 128 drivers in place of 64, and for 'hangup'

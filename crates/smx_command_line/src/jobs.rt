@@ -5,9 +5,10 @@ use smx_draw::Form;
 /// A job of the program.
 #[derive(Clone, Copy, Debug, PartialEq, Eq)]
 pub enum Job {
-    /// Runs the programs of the input and writes their transcript, or their fronts.
+    /// Runs the programs of the input and writes their transcript, or their fronts: how many entries and links each
+    /// process sees at its end.
     Run {
-        /// How many workers run them, 1 to 64.
+        /// The number of workers, 1 to 64.
         workers: usize,
         /// Whether the fronts are written in place of the transcript.
         fronts: bool,
@@ -19,16 +20,16 @@ pub enum Job {
         /// Whether the verdict, or a fault of the text or of its drivers, is explained.
         explain: bool,
     },
-    /// Performs the commands of the transcript of the input and writes the transcript that they give.
+    /// Performs the commands of the input, a transcript, and writes the transcript that results.
     Replay {
-        /// How many of its first entries are replayed, if not all.
+        /// The number of entries to replay, from the first on; `None` for all.
         at: Option<usize>,
         /// Whether a fault of the text or of its drivers is explained.
         explain: bool,
     },
-    /// Performs the commands of the transcript of the input and writes the trace of the transcript that they give.
+    /// Performs the commands of the input, a transcript, and writes each entry that results, with what it changes.
     Trace {
-        /// Whether all waits are written below each entry.
+        /// Whether each queue's first message that can't move is also listed below each entry.
         waits: bool,
         /// Whether a fault of the text or of its drivers is explained.
         explain: bool,
@@ -40,7 +41,7 @@ pub enum Job {
         /// Whether a fault of the text is explained.
         explain: bool,
     },
-    /// Performs the commands of the transcript of the input and writes a page with a step for each.
+    /// Performs the commands of the input, a transcript, and writes a page with a step for each command.
     Steps {
         /// Whether a fault of the text or of its drivers is explained.
         explain: bool,

@@ -128,7 +128,7 @@ fn explain<'a>(alloc: Global, help: &'a str) -> Arg<'a> {
         .action(ArgAction::SetTrue)
 }
 
-// Returns the option for the number of entries.
+// Returns the option for the number of entries to replay.
 fn at<'a>(alloc: Global) -> Arg<'a> {
     Arg::new(alloc, "at")
         .long("at")
@@ -137,7 +137,7 @@ fn at<'a>(alloc: Global) -> Arg<'a> {
         .value_parser(value_parser!(usize))
 }
 
-// Returns the option that writes the waits below each entry.
+// Returns the option that writes below each entry which messages wait.
 fn waits<'a>(alloc: Global) -> Arg<'a> {
     Arg::new(alloc, "waits")
         .long("waits")
