@@ -146,8 +146,8 @@ fn written<R: Eprint>(
     }
 }
 
-// Returns the status of a fault. Prints its line on standard error and, below it, what is wrong with a text that is
-// refused, or that a thread could not be started.
+// Returns the status of a fault. Prints the fault's line on standard error. Below this line it prints what is wrong
+// with a refused text, or that a thread could not be started.
 fn refused<R: Eprint>(rt: &R, kind: TextKind, refusal: Refusal) -> ExitCode
     ensures { exit_status result ≡ status_of refusal.fault }
 {
@@ -164,7 +164,7 @@ fn refused<R: Eprint>(rt: &R, kind: TextKind, refusal: Refusal) -> ExitCode
     code
 }
 
-// A fault that can be shown in a text.
+// A fault that is explained below its line: one of the text, one of its drivers, or none.
 #[derive(Clone, Copy)]
 enum ShownFault {
     Text(TextFault),
@@ -172,7 +172,7 @@ enum ShownFault {
     None,
 }
 
-// Shows what is wrong with a text or with its drivers, if anything is.
+// Prints what is wrong with a text or with its drivers, if the fault is one of them.
 fn show<R: Eprint>(rt: &R, kind: TextKind, text: &[u8], fault: ShownFault) {
     match fault {
         ShownFault::Text(fault) => {
@@ -187,7 +187,8 @@ fn show<R: Eprint>(rt: &R, kind: TextKind, text: &[u8], fault: ShownFault) {
     }
 }
 
-// Returns the fault of the text or of its drivers, if that is the fault. Out-of-memory is neither.
+// Returns the fault as one of the text or of its drivers. Returns `ShownFault::None` for any other fault, such as
+// out-of-memory.
 fn shown_fault(fault: &MainFault) -> ShownFault {
     match fault {
         MainFault::Text(fault) => match fault.cause {

@@ -21,9 +21,10 @@ ghost use Rattle.muxsim.specs.Ends.{Writes};
 ghost use Rattle.smx_command_line.specs.declared.jobs.Job.{Job as AnyJob};
 ghost use Rattle.smx_command_line.specs.declared.jobs.Job.TheVariants.{Live};
 
-/// The status 0 means that the job was done: the output is what was asked for, all of it, and flushed. For a check it
-/// means that the transcript is legal, and the status 4 that the verdict is another one, explained or not. For a live
-/// session the status 0 means that it has ended, and that the output is its answers.
+/// For an input and an output in memory: the status 0 means that the job was done, and that its whole output was
+/// written and flushed. For a check, with or without `--explain`, the status 0 also means that the transcript is legal,
+/// and the status 4 means that the verdict is another one. For a live session, the status 0 also means that the session
+/// has ended.
 pub fn a_status_tells_what_was_done()
     ensures run { (fronts : Bool) (workers : ℕ) (d : Devices) (code : ExitCode) (input output : List ℕ)
         → EndsRun fronts workers d code → Writes d input output → exit_status code ≡ 0

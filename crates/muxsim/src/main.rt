@@ -1,5 +1,5 @@
-//! Runs programs against a STREAMS multiplexer and writes the transcript, judges, replays or draws a transcript, or
-//! answers commands line by line.
+//! The program `muxsim`. It runs programs against a STREAMS multiplexer and writes the transcript. It also judges,
+//! replays, traces or draws a transcript, or answers commands line by line.
 #![tactic(auto)]
 
 mod doing;
@@ -19,9 +19,14 @@ use std::io::ErrorKind as IoKind;
 use std::process::ExitCode;
 use std::{env, io};
 
-/// Does what the command line asks for. The exit status is 0 if that was done, including help and the version; 1 if
-/// the job is refused, including out-of-memory; 2 if the command line is invalid; 3 if the text is; 4 if a transcript
-/// is illegal or its configuration differs; and 5 if input or output failed.
+/// Does what the command line asks for. The exit status is one of these:
+///
+/// - 0: the job was done, or help or the version was printed.
+/// - 1: the job is refused, or memory ran out.
+/// - 2: the command line is invalid.
+/// - 3: the text is malformed.
+/// - 4: a transcript is illegal, or its configuration differs.
+/// - 5: input or output failed.
 fn main(rt: HostRuntime) -> ExitCode {
     let words = match words(&rt) {
         Ok(words) => words,
@@ -43,8 +48,8 @@ fn words(rt: &HostRuntime) -> io::Result<Vec<String>> {
     Ok(env::args(rt)?.collect(rt.alloc())?)
 }
 
-// Prints clap's text: an error in the command line to standard error, and everything else to standard output. The
-// status is 1 if out of memory, 2 for an error, and 0 for help or the version, or 5 if that could not be printed.
+// Prints what clap says instead of a job: errors to standard error, help and the version to standard output. The status
+// is 1 for out-of-memory, 2 for any other error, 0 for help and the version, and 5 if these could not be printed.
 fn no_job<R: Print + Eprint>(rt: &R, error: &clap::Error) -> ExitCode
     ensures no_memory { kind_of error.now ≡ ErrorKind.OutOfMemory → exit_status result ≡ 1 }
     ensures mistake { kind_of error.now ≢ ErrorKind.OutOfMemory
