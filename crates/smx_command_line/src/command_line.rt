@@ -17,8 +17,8 @@ use std::mem::forget;
 // What `--version` prints after the program's name.
 const VERSION: &str = "0.1.0";
 
-/// Parses the words of the command line. The first is the program's name, and the second is the job, each with its
-/// options:
+/// Parses the words of the command line. The first word is the program's name, and the second names the job. The others
+/// are options of this job:
 ///
 /// - `run`: `--workers` and `--fronts`
 /// - `check`
