@@ -5,7 +5,7 @@ use smx_types::{Binding, StreamId};
 use std::mem::forget;
 use std::process::Abort;
 
-// Binds a stream. Neither the stream nor the address is taken.
+// Binds a stream to an address. Checks that neither was bound before.
 fn binds(rt: &impl Abort, table: &mut Bindings, at: (u8, u8), addr: u32) {
     let stream = StreamId {
         driver: at.0,
@@ -65,7 +65,7 @@ fn copy_has_bindings(rt: &(impl AllocGlobal + Abort), table: &Bindings) {
     forget(again);
 }
 
-// The third one is removed, and no other.
+// Removes the third binding. Checks that three are left.
 fn unbinds(rt: &impl Abort, table: &mut Bindings) {
     let stream = StreamId {
         driver: 1,

@@ -18,7 +18,7 @@ fn mark_four(bits: &mut Bits)
     bits.set(5);
 }
 
-// The least one from each number on.
+// Checks which number is the least marked one from a given number on.
 fn come_from(rt: &impl Abort, bits: &Bits)
     requires { bits.now.count ≡ 200 }
 {
@@ -30,7 +30,7 @@ fn come_from(rt: &impl Abort, bits: &Bits)
     assert!(rt; bits.first_from(200).is_none());
 }
 
-// The least of them all comes, and is cleared.
+// Checks that `n` is the least marked number, and clears its mark.
 fn comes(rt: &impl Abort, bits: &mut Bits, n: usize)
     ensures { bits.new.count ≡ bits.old.count }
 {
@@ -39,7 +39,7 @@ fn comes(rt: &impl Abort, bits: &mut Bits, n: usize)
     assert!(rt; bits.first() != Some(n));
 }
 
-// All come in order; and then one that is lower than any before.
+// Checks that all marked numbers come in order, and then a lower number that is marked last.
 fn all_come(rt: &impl Abort, bits: &mut Bits)
     requires { bits.old.count ≡ 200 }
 {

@@ -1,5 +1,4 @@
-//! Queues by place: the messages that arrive there, also in a copy; and the first messages with an address, for each
-//! of two drivers.
+//! Queues by place: messages that arrive at two places, and which place is full, also in a copy.
 
 ghost use Rattle.std.specs.Prelude.{◌≡◌, Ok};
 ghost use Rattle.smx_types.specs.Drivers.{spec_check};
@@ -27,7 +26,7 @@ fn driver(rt: &impl Abort, name: &str) -> DriverSpec
     driver
 }
 
-/// Returns one of these drivers.
+/// Returns such a driver, with the name `eth`.
 pub fn ethernet(rt: &impl Abort) -> DriverSpec
     ensures minors { result.minors ≡ 2 }
     ensures good { spec_check result ≡ Ok tt }
@@ -35,7 +34,7 @@ pub fn ethernet(rt: &impl Abort) -> DriverSpec
     driver(rt, "eth")
 }
 
-/// Returns the table of its queues.
+/// Returns the table of the queues of `eth`, without messages.
 pub fn table(rt: &(impl AllocGlobal + Abort)) -> FlowTable
     ensures first { IsKnown result.drivers (record { driver = 0; minor = 0 }) }
     ensures second { IsKnown result.drivers (record { driver = 0; minor = 1 }) }
@@ -78,7 +77,7 @@ pub const DOWN: Place = Place {
     side: Side::Write,
 };
 
-/// A read side after it.
+/// A read side, which comes after `DOWN`.
 pub const UP: Place = Place {
     stream: StreamId {
         driver: 0,
@@ -87,7 +86,7 @@ pub const UP: Place = Place {
     side: Side::Read,
 };
 
-/// Puts two messages with two addresses at a write side, and one that fills a read side after it.
+/// Puts two messages with different addresses at `DOWN`, and one message that fills `UP`.
 pub fn fill(rt: &(impl AllocGlobal + Abort), table: &mut FlowTable)
     requires first { IsKnown table.old.drivers (record { driver = 0; minor = 0 }) }
     requires second { IsKnown table.old.drivers (record { driver = 0; minor = 1 }) }

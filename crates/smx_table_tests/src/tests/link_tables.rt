@@ -1,5 +1,5 @@
-//! Tables of links: calls in a row, each with its answer; 1,024 links over 128 drivers, in a chain, a fan and a
-//! ladder, and no more; and copies of these.
+//! Tables of links: calls in a row, each with its answer; 1,024 links over 128 drivers, in a chain, in a fan and in a
+//! ladder, and one more link, which is refused; and copies of these tables.
 
 ghost use Rattle.std.specs.Prelude.{◌≡◌, ◌<◌};
 
@@ -8,7 +8,7 @@ use smx_types::{Link, LinkKind, StreamId};
 use std::mem::forget;
 use std::process::Abort;
 
-/// The drivers that have links.
+/// Which drivers are linked.
 #[derive(Clone, Copy)]
 enum Shape {
     /// Each driver above the next one, by as many streams as needed.
@@ -35,7 +35,7 @@ fn ends_of(shape: Shape, k: u32) -> (u8, (u8, u8))
     }
 }
 
-// Links a stream of this driver above that stream, or is refused, as expected.
+// Links a stream of driver `upper` above the stream `lower`. Checks the answer.
 fn links(
     rt: &impl Abort,
     table: &mut LinkTable,
@@ -69,7 +69,7 @@ fn fill(rt: &impl Abort, table: &mut LinkTable, shape: Shape)
     }
 }
 
-// Checks that no further link is possible. After one is removed, one more is, with the next id.
+// Checks that no further link is possible. Removes one link, and checks that one more is then possible.
 fn is_full(rt: &impl Abort, table: &mut LinkTable)
     requires { table.old.drivers ≡ 128 }
 {
@@ -88,7 +88,7 @@ fn copy_is_full(rt: &(impl AllocGlobal + Abort), table: &LinkTable)
     forget(again);
 }
 
-// Checks all links of this shape, in the table and in its copy.
+// Fills a table with links of this shape. Checks that the table and its copy are at the limit.
 fn is_at_its_limit(rt: &(impl AllocGlobal + Abort), shape: Shape) {
     let mut table = LinkTable::new(rt.alloc(), 128).expect(rt, "memory");
     fill(rt, &mut table, shape);
@@ -248,7 +248,7 @@ fn paths_after_removals(rt: HostRuntime) {
     forget(table);
 }
 
-// Three links, of which two are removed together; an id that no link has changes nothing.
+// Removes two of three links together. An id that no link has changes nothing.
 #[test]
 fn several_links_go(rt: HostRuntime) {
     let ordinary = LinkKind::Ordinary;

@@ -1,4 +1,4 @@
-//! Calls of queues that take no memory, with the answer of each: by number, and by place.
+//! Calls of queues that don't allocate, each with its answer: calls by number, and calls by place.
 
 use super::flow_tables::{DOWN, UP, fill, table};
 use super::queues::{adds, put};
@@ -15,7 +15,7 @@ fn has_two(rt: &impl Abort, queues: &Queues) {
     assert!(rt; queues.nth(0, 1).expect(rt, "a message").serial == 8);
 }
 
-// Checks that their serials are appended to a list with room for them.
+// Checks that the serials of these two messages are appended to a list with room for them.
 fn adds_serials(rt: &(impl AllocGlobal + Abort), queues: &Queues) {
     let mut serials = Vec::with_capacity(rt.alloc(), 2).expect(rt, "memory");
     assert!(rt; queues.has_place(0));
@@ -42,7 +42,7 @@ fn of_queues(rt: HostRuntime) {
     forget(queues);
 }
 
-// A place between the other two.
+// A place between `DOWN` and `UP`.
 const ACROSS: Place = Place {
     stream: StreamId {
         driver: 0,
@@ -60,7 +60,7 @@ fn are_numbered(rt: &impl Abort, table: &FlowTable) {
     assert!(rt; table.place_at(2) == ACROSS);
 }
 
-// The first of two messages moves on, to a place without messages.
+// Moves the first message of `DOWN` on to `ACROSS`, which has no messages.
 fn moves(rt: &impl Abort, table: &mut FlowTable) {
     assert!(rt; table.place_count() == 4);
     assert!(rt; table.has_messages_at(0));
@@ -71,7 +71,7 @@ fn moves(rt: &impl Abort, table: &mut FlowTable) {
     assert!(rt; table.len() == 3);
 }
 
-// Checks that each is now the first at its place, and that one place is full.
+// Checks which messages are now the first at `UP` and at `DOWN`, and that only `UP` is full.
 fn stand_in_front(rt: &(impl AllocGlobal + Abort), table: &FlowTable) {
     assert!(rt; table.front(UP).expect(rt, "a message").serial == 1);
     assert!(rt; table.front(DOWN).expect(rt, "a message").serial == 3);
@@ -81,7 +81,7 @@ fn stand_in_front(rt: &(impl AllocGlobal + Abort), table: &FlowTable) {
     forget(full);
 }
 
-// Drops one message by its place.
+// Drops the message at `DOWN`.
 fn drops_one(rt: &(impl AllocGlobal + Abort), table: &mut FlowTable) {
     let mut dropped = Vec::with_capacity(rt.alloc(), table.len()).expect(rt, "memory");
     table.drop_at(DOWN, &mut dropped);
@@ -90,7 +90,7 @@ fn drops_one(rt: &(impl AllocGlobal + Abort), table: &mut FlowTable) {
     forget(dropped);
 }
 
-// Removes another one, so that only the one that moved on is left.
+// Takes the message at `UP`, so that only the message at `ACROSS` is left.
 fn takes_one(rt: &impl Abort, table: &mut FlowTable) {
     assert!(rt; table.take(UP).expect(rt, "a message").serial == 1);
     assert!(rt; table.front(ACROSS).expect(rt, "a message").serial == 2);

@@ -1,5 +1,5 @@
-//! Queues of places: the messages that arrive, leave and move, and the marks, also for 4,096 messages. Each call that
-//! runs out of memory is repeated once.
+//! Queues of places: messages that arrive, leave and move, the marks of full places, and a queue of 4,096 messages.
+//! Each call that runs out of memory is repeated once.
 
 use smx_queues::Queues;
 use smx_types::{Bytes, Message};
@@ -9,18 +9,18 @@ use std::process::Abort;
 /// A call with its expected answer. Places are numbers.
 #[derive(Clone, Copy)]
 enum Act {
-    /// A place with these marks, high and low, gets this number.
+    /// A place with these water marks, high and low, is added and gets this number.
     Add(usize, usize, usize),
     /// A message with this serial and this many bytes arrives.
     Put(usize, u32, usize),
-    /// The message with this serial leaves, or none.
+    /// The message with this serial leaves; `None` if there is no message.
     Take(usize, Option<u32>),
     /// The first message of one place moves on to another place.
     Move(usize, usize),
     /// All messages of the place are dropped.
     Clear(usize),
-    /// The place has this many bytes, this mark and messages with these serials, the first of them at its front, also
-    /// in a copy.
+    /// The place has this many bytes, is full or not, and has messages with these serials, in this order. So has the
+    /// place in a copy.
     Has(usize, usize, bool, &'static [u32]),
 }
 
@@ -28,7 +28,7 @@ fn is_out_of_memory(rt: &(impl Abort + Print)) {
     assert!(rt; println!(rt; "a call wanted memory").is_ok());
 }
 
-/// Adds a place with these marks, and checks its number.
+/// Adds a place with these water marks, and checks its number.
 pub fn adds(
     rt: &(impl Abort + Print),
     queues: &mut Queues,
@@ -61,7 +61,7 @@ fn bytes(rt: &(impl AllocGlobal + Abort), size: usize) -> Bytes {
     Bytes::from_vec(vec![in alloc; 0xaa; size].expect(rt, "memory"))
 }
 
-// Puts a message with this serial and this many bytes, for which there is room.
+// Puts a message with this serial and this many bytes. Room for it is already reserved.
 fn put_in_room(
     rt: &(impl AllocGlobal + Abort),
     queues: &mut Queues,
@@ -175,7 +175,7 @@ fn do_act(rt: &(impl AllocGlobal + Abort + Print), queues: &mut Queues, act: Act
     }
 }
 
-// Two places, a move between them, and the marks on the way.
+// A message moves between two places. After each step: which places are full.
 const ACROSS_A_MOVE: [Act; 16] = [
     Act::Add(8, 3, 0),
     Act::Add(1, 0, 1),
@@ -201,7 +201,7 @@ fn do_acts(rt: &(impl AllocGlobal + Abort + Print), queues: &mut Queues) {
     }
 }
 
-/// Checks two places, a move between them, and the marks on the way, with a copy after each step.
+/// Moves a message between two places. Checks after each step which places are full, also in a copy.
 pub fn marks_across_a_move(rt: &(impl AllocGlobal + Abort + Print)) {
     let mut queues = Queues::new(rt.alloc());
     do_acts(rt, &mut queues);
@@ -223,7 +223,7 @@ fn copy_is_full(rt: &(impl AllocGlobal + Abort + Print), queues: &Queues) {
     forget(again);
 }
 
-// Puts that number of messages.
+// Puts 4,096 messages of one byte at place 2.
 fn fill(rt: &(impl AllocGlobal + Abort + Print), queues: &mut Queues) {
     for number in 0..3usize {
         adds(rt, queues, 4096, 4095, number);
@@ -233,7 +233,7 @@ fn fill(rt: &(impl AllocGlobal + Abort + Print), queues: &mut Queues) {
     }
 }
 
-// Puts messages for as long as there is room, without reserving any.
+// Puts messages until the room that is reserved is used up.
 fn fill_the_room(rt: &(impl AllocGlobal + Abort), queues: &mut Queues) {
     for serial in 2..4096u32 {
         if !queues.has_spare() {
@@ -244,7 +244,7 @@ fn fill_the_room(rt: &(impl AllocGlobal + Abort), queues: &mut Queues) {
     panic!(rt; "room for more than can be");
 }
 
-// The first message moves on and leaves, and one more arrives in its room.
+// The first message moves on and leaves, and another message takes its room.
 fn goes_round(rt: &(impl AllocGlobal + Abort), queues: &mut Queues, serial: u32) {
     move_front(rt, queues, 0, 1);
     assert!(rt; queues.has_place(1) && queues.take(1).is_some());

@@ -6,7 +6,7 @@ use smx_queues::Rings;
 use std::mem::forget;
 use std::process::Abort;
 
-// Two numbers are in the ring of one, and a third in that of another. One of them was in that before.
+// Numbers 1 and 2 enter ring 3, and number 0 enters ring 2. Number 1 was in ring 2 before.
 fn three_enter(rings: &mut Rings)
     requires { rings.old.count ≡ 4 }
     ensures { rings.new.count ≡ 4 }
@@ -17,7 +17,7 @@ fn three_enter(rings: &mut Rings)
     rings.enter(0, 2);
 }
 
-// The last one to enter comes first.
+// Takes all numbers out. The number that entered a ring last comes out first.
 fn three_come(rt: &impl Abort, rings: &mut Rings)
     requires { rings.old.count ≡ 4 }
 {

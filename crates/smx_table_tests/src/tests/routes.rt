@@ -10,7 +10,8 @@ fn is_listed(rt: &(impl AllocGlobal + Abort), table: &Routes, wanted: &[Route]) 
     assert!(rt; list.as_slice() == wanted);
 }
 
-// Routes of two drivers, in no order. One address is routed anew, to another link and to the same.
+// Routes of two drivers, not in order. Address 5 of driver 0 is routed again, to another link, and its address 4 to the
+// same link.
 const ROUTED: [(u8, u32, u32); 6] = [
     (0, 5, 1),
     (1, 5, 3),
@@ -57,7 +58,7 @@ fn copy_has_routes(rt: &(impl AllocGlobal + Abort), table: &Routes) {
     forget(again);
 }
 
-// Removes one by its address, then that of link 3, then those of link 2.
+// Removes a route by its address, then the route to link 3, then the routes to links 1 and 2.
 fn unroutes(rt: &impl Abort, table: &mut Routes) {
     let first = Some(Route {
         driver: 0,

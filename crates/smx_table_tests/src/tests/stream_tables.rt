@@ -29,7 +29,7 @@ fn opens(rt: &impl Abort, table: &mut Streams, p: u32, at: (u8, u32), wanted: Gi
     assert!(rt; given == wanted, "of process {p}");
 }
 
-// The process has its stream of driver 0, in 16 descriptors, and gets no more.
+// Opens 16 descriptors of one stream of driver 0 for the process. Checks that it gets no more.
 fn fill(rt: &impl Abort, table: &mut Streams, p: u32)
     requires { p < 64 }
 {
@@ -41,7 +41,7 @@ fn fill(rt: &impl Abort, table: &mut Streams, p: u32)
     clones(rt, table, p, 1, Err(StreamFault::TooManyDescriptors));
 }
 
-// If one descriptor is closed, there is room for one more.
+// Checks that driver 0 has no free minor, and that a process which closes one descriptor has room for another one.
 fn is_full(rt: &impl Abort, table: &mut Streams) {
     clones(rt, table, 0, 0, Err(StreamFault::NoMinor));
     assert!(rt; table.close_fd(process(rt, 63), 15).is_some());
@@ -77,7 +77,7 @@ fn the_most_drivers(rt: HostRuntime) {
     forget(table);
 }
 
-// Process 5 has two descriptors of one stream, and process 2 has one of another.
+// Gives process 5 two descriptors of one stream, and process 2 one descriptor of another stream.
 fn open_two(rt: &impl Abort, table: &mut Streams) {
     assert!(rt; table.first_fd().is_none());
     clones(rt, table, 5, 0, Ok((0, stream(0, 0))));
@@ -107,7 +107,7 @@ fn come_in_order(rt: &impl Abort, table: &Streams) {
     assert!(rt; table.next_fd(process(rt, 2), 1) == Some(second));
 }
 
-// The stream hangs up, is held, and loses its descriptors.
+// Hangs up the stream, holds it, and then closes its descriptors.
 fn holds(rt: &impl Abort, table: &mut Streams, held: StreamId) {
     assert!(rt; table.exists(held));
     assert!(rt; table.holds_of(held) == 0);
@@ -117,7 +117,7 @@ fn holds(rt: &impl Abort, table: &mut Streams, held: StreamId) {
     assert!(rt; table.is_hung(held));
 }
 
-// It is the only hung-up stream, and goes with its hold.
+// Checks that this is the only hung-up stream, and that it no longer exists when its hold is released.
 fn releases(rt: &impl Abort, table: &mut Streams, held: StreamId) {
     let mut rest = table.hungs();
     assert!(rt; rest.next() == Some(held));

@@ -1,4 +1,5 @@
-//! Worked queues. They also pass if any one allocation fails, and tests/refused_growths runs them so.
+//! A test of queues that also passes if any one allocation fails. tests/refused_growths runs it with each allocation
+//! failing in turn.
 
 use super::queues::marks_across_a_move;
 
