@@ -2,13 +2,14 @@
 
 use std::alloc::{AllocError, Global};
 
-/// A part of a text. In a repeated line, `{n}` is its number; `{n + 1}`, `{66 - n}`, `{n / 64}` and `{n % 64}` are
-/// computed from it. Followed by ` hex`, as in `{n hex}`, each of them is written as a byte in hex.
+/// A part of a text. In a repeated line, `{n}` is the number of the repetition; `{n + 1}`, `{66 - n}`, `{n / 64}` and
+/// `{n % 64}` are computed from this number. With ` hex` at its end, as in `{n hex}`, a formula is written as a byte in
+/// hex.
 #[derive(Clone, Copy)]
 pub enum Part<'a> {
     /// This text, once.
     Once(&'a str),
-    /// This line, once for each number from the first to the one before the second.
+    /// This line, once for each number. The numbers start at the first one and stop before the second one.
     Each(u32, u32, &'a str),
     /// The line with this number, once.
     At(u32, &'a str),
