@@ -1,4 +1,4 @@
-//! A worked history and its view, values in it, and the copy of each.
+//! A worked history, its view and some of its values, and the copy of each.
 
 use super::spelling::spells_transcript;
 use smx_samples::Part::Once;
@@ -71,7 +71,7 @@ fn transmit(rt: &(impl AllocGlobal + Abort)) -> Entry {
     }
 }
 
-// The message that was written and taken.
+// The message of `write` and `transmit`.
 fn message(rt: &(impl AllocGlobal + Abort)) -> Message {
     Message {
         serial: 1,
@@ -80,7 +80,7 @@ fn message(rt: &(impl AllocGlobal + Abort)) -> Message {
     }
 }
 
-// Checks that the copy of a value is the same.
+// Checks that the copy of a value equals it.
 fn is_copied<T: Copied + Same>(rt: &(impl AllocGlobal + Abort), value: T) {
     let again = value.copied(rt.alloc()).expect(rt, "memory");
     assert!(rt; again.is_same(&value));

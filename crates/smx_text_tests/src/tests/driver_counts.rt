@@ -1,4 +1,4 @@
-//! The largest number of drivers in each version, and one more.
+//! Every number of drivers, in each version, up to the largest and beyond.
 
 use super::spelling::{are_none, is_none, spells_programs, spells_transcript};
 use smx_samples::Part::{Each, Once};

@@ -89,7 +89,7 @@ const NO_PROGRAMS: [(&[Part], usize, Cause); 8] = [
     (ALMOST_A_RING_OF_VERSION_1, 66, Cause::Many),
 ];
 
-// The same for transcripts.
+// Texts that are not transcripts, with the number of the malformed line and the cause.
 const NO_TRANSCRIPTS: [(&[Part], usize, Cause); 20] = [
     (&[Once("")], 1, Cause::Cut),
     (&[Once("programs 1\n")], 1, Cause::Header),

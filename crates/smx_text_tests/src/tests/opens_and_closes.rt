@@ -1,5 +1,5 @@
-//! One example through the calls: its programs text of 83 bytes and its transcript are read and written again. Each
-//! beginning of the programs text is read, and the text with each of its bytes replaced.
+//! One example: its programs text of 83 bytes and its transcript are read and written again. Each beginning of the
+//! programs text is read too, and the programs text with one byte replaced, each in turn.
 
 use super::program_texts::OPENS_AND_CLOSES;
 use super::spelling::{spells_programs, spells_transcript};
@@ -41,7 +41,8 @@ fn damaged(rt: &(impl AllocGlobal + Abort), place: usize) -> Vec<u8> {
     text
 }
 
-// In the first line the header is then wrong, and the last line doesn't end.
+// Returns the cause of the fault if the byte at `place` is replaced. In the first line, the header is then wrong. If
+// the last byte is replaced, the last line has no line feed.
 fn cause_at(place: usize) -> Cause {
     match place {
         0..11 => Cause::Header,

@@ -57,7 +57,7 @@ fn programs_of(rt: &(impl AllocGlobal + Abort), counts: &[usize]) -> ProgramList
     programs
 }
 
-// The number of drivers, the numbers of commands of each process, and whether these are programs.
+// The number of drivers, the number of commands of each process, and whether `Programs::new` accepts both lists.
 const LISTS: [(usize, &[usize], bool); 6] = [
     (128, &[1], true),
     (129, &[1], false),
@@ -67,7 +67,7 @@ const LISTS: [(usize, &[usize], bool); 6] = [
     (1, &[50_000, 50_001], false),
 ];
 
-// Checks that both lists make programs, or are handed back.
+// Checks that `Programs::new` accepts a list of drivers and a list of programs, or hands both back.
 fn are_programs(rt: &(impl AllocGlobal + Abort), drivers: usize, counts: &[usize], wanted: bool) {
     let given = Many {
         drivers: drivers_of(rt, drivers),

@@ -39,8 +39,8 @@ transmit eth 31
 end
 ";
 
-// A ring of 128 multiplexers, each above the next, with one link missing; then that link, and what it takes to have
-// it.
+// Links 128 multiplexers in a chain, each above the next. Then tries to link the last one above the first, removes a
+// link in the middle, and tries again.
 const ALMOST_A_RING: &[Part] = &[
     Once("programs 2\n"),
     Each(0, 128, "driver d{n} mux 2 8 3 16\n"),
@@ -49,7 +49,7 @@ const ALMOST_A_RING: &[Part] = &[
     Once("clone d127\nclone d0\nplink 0 1\nopen d1 0\nclone d63\npunlink 2 all\nplink 0 1\nend\n"),
 ];
 
-/// The same with the header of version 1, which has no 65th driver.
+/// The same text with the header of version 1, which allows only 64 drivers.
 pub const ALMOST_A_RING_OF_VERSION_1: &[Part] = &[
     Once("programs 1\n"),
     Each(0, 128, "driver d{n} mux 2 8 3 16\n"),
@@ -58,7 +58,7 @@ pub const ALMOST_A_RING_OF_VERSION_1: &[Part] = &[
     Once("clone d127\nclone d0\nplink 0 1\nopen d1 0\nclone d63\npunlink 2 all\nplink 0 1\nend\n"),
 ];
 
-// Texts of either version, and the first version that allows the same.
+// Texts of both versions, each with the first version that allows what it says.
 const ROWS: [(&[Part], Version); 7] = [
     (ALMOST_A_RING, Version::V2),
     (&[Once(OPENS_AND_CLOSES)], Version::V1),

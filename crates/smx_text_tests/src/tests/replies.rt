@@ -60,7 +60,7 @@ fn other_texts_are_none(rt: HostRuntime) {
     assert!(rt; !is_reply(&rt, Version::V2, b"EINVAL hangup"));
 }
 
-// Checks that the reply adds this to the line of an entry.
+// Checks that the reply adds this text to the line of an entry.
 fn is_written(rt: &impl Abort, alloc: Global, reply: &Reply, text: &[u8]) {
     let mut out = Vec::new(alloc);
     write_reply(&mut out, reply).expect(rt, "memory");

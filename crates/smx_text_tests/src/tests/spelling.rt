@@ -34,7 +34,8 @@ pub fn transcript(rt: &(impl AllocGlobal + Abort), text: &[Part]) -> Transcript 
     }
 }
 
-/// Checks that the programs are written as this text and copied, and that this is the first version that allows them.
+/// Checks that the programs are written as this text and copied, and that `least` is the first version that allows
+/// them.
 pub fn are_spelled(
     rt: &(impl AllocGlobal + Abort),
     value: &Programs,
@@ -48,7 +49,7 @@ pub fn are_spelled(
     are_copied(rt, value);
 }
 
-/// Checks that the text spells programs, and then checks these.
+/// Checks that the text spells programs. Then checks these programs as [`are_spelled`] does.
 pub fn spells_programs(rt: &(impl AllocGlobal + Abort), text: &[Part], least: Version) {
     let value = programs(rt, text);
     are_spelled(rt, &value, text, least);
@@ -81,8 +82,8 @@ fn is_written(rt: &(impl AllocGlobal + Abort), value: &Transcript, text: &str) {
     );
 }
 
-/// Checks that the text spells a transcript, which is written as this text and copied, and that this is the first
-/// version that allows it.
+/// Checks that the text spells a transcript. Then checks that the transcript is written as this text and copied, and
+/// that `least` is the first version that allows it.
 pub fn spells_transcript(rt: &(impl AllocGlobal + Abort), text: &[Part], least: Version) {
     let value = transcript(rt, text);
     let text = whole(rt, text);

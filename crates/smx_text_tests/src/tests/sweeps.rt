@@ -1,5 +1,5 @@
-//! Every number of programs, every size of a message, and commands at many addresses: at none of them reading or
-//! writing runs out of memory.
+//! Every number of programs, every size of a message, and commands with many addresses. Each text is read and written
+//! without running out of memory.
 
 use super::spelling::spells_programs;
 use smx_samples::Part::{At, Each, Once};

@@ -62,7 +62,8 @@ end
 /// Only hung-up streams.
 pub const HUNGS: &str = "config\nnext 1 1\nhung eth 0\nhung eth 4294967295\nend\n";
 
-// The view after the marks were reached across a join, with a bound address.
+// A view with each group: a link with its route, queues with messages, a full queue, a bound address, and a hung-up
+// stream.
 const EACH_GROUP: &str = "transcript 2
 0 transmit eth 0 = got 1 5 00000001
 0 write 0 5 00000001 = took 2
@@ -82,7 +83,7 @@ hung eth 0
 end
 ";
 
-// Texts of either version, and the first version that allows the same.
+// Texts of both versions, each with the first version that allows what it says.
 const ROWS: [(&[Part], Version); 12] = [
     (&[Once(REPLIES)], Version::V1),
     (&[Once(GROUPS)], Version::V1),
