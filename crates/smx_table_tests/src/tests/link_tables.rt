@@ -8,7 +8,7 @@ use smx_types::{Link, LinkKind, StreamId};
 use std::mem::forget;
 use std::process::Abort;
 
-/// Which drivers are linked.
+/// The drivers that are linked.
 #[derive(Clone, Copy)]
 enum Shape {
     /// Each driver above the next one, by as many streams as needed.
