@@ -5,7 +5,7 @@ ghost use Rattle.smx_links.specs.Keys.{key_of};
 
 use smx_types::StreamId;
 
-/// A driver and a minor.
+/// The number of a driver, and a minor.
 pub type Key = (u8, u8);
 
 /// Returns the stream as a key.

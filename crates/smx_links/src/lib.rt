@@ -1,4 +1,5 @@
-//! The table of links between drivers. It has a bit for each pair of drivers, so its test for cycles reads one bit.
+//! The table of links between drivers. It has a bit for each pair of drivers, which says whether a path of links leads
+//! from one to the other. So the test for cycles reads one bit.
 #![tactic(auto)]
 
 mod key;

@@ -2,7 +2,7 @@
 
 use smx_types::NoMemory;
 
-/// The reason why a stream was not linked below another.
+/// The reason why a stream was not linked below a driver.
 #[derive(Clone, Copy, Debug, PartialEq, Eq)]
 pub enum LinkFault {
     /// The stream is already below a link.

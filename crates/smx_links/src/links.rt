@@ -19,7 +19,7 @@ use std::marker::Model;
 #[derive(Debug, Drop)]
 pub struct Links {
     by_id: IndexMap<u32, Link>,
-    // The id of the link that each stream is below.
+    // For each stream below a link, the id of this link.
     ids: IndexMap<Key, u32>,
 }
 
@@ -78,8 +78,8 @@ impl Links {
         self.ids.contains_key(&key_of(lower))
     }
 
-    /// Adds a link. Its id must be above all others, and its lower stream must be below no link. Allocates before the
-    /// first change.
+    /// Adds a link. Its id must be greater than all ids of the list, and its lower stream must not be below a link yet.
+    /// Allocates before the first change.
     pub fn push(&mut self, link: Link) -> Result<(), NoMemory>
         requires new { All (λ l. l.id < link.id) self.old }
         requires free { is_below self.old link.lower ≡ false }
@@ -93,7 +93,8 @@ impl Links {
         Ok(())
     }
 
-    /// Removes only the link with this id. Returns `None` if there is no such link. Does not allocate.
+    /// Removes the link with this id and no other, and returns it. Returns `None` if there is no such link. Does not
+    /// allocate.
     pub fn remove(&mut self, id: u32) -> Option<Link>
         requires lowers { AreLowersApart self.old }
         requires rise { IsRising (λ l k. nat_lt l.id k.id) self.old }
@@ -106,7 +107,7 @@ impl Links {
         Some(link)
     }
 
-    /// Removes only the links with these ids. Does not allocate.
+    /// Removes the links with these ids and no others. Does not allocate.
     pub fn remove_each(&mut self, ids: &[u32])
         requires lowers { AreLowersApart self.old }
         requires rise { IsRising (λ l k. nat_lt l.id k.id) self.old }

@@ -1,4 +1,4 @@
-//! The drivers that paths lead to: one word of bits for each driver.
+//! One word of bits (a mask) for each driver: it says which drivers paths of links lead to from this driver.
 
 ghost use Rattle.std.specs.Prelude.{◌≡◌, ◌<◌, ◌≤◌, ◌^◌, List, [], ◌∷◌, ◌++◌, bit_or, length};
 ghost use Rattle.std.specs.List.{All};
@@ -21,7 +21,7 @@ fn is_set(word: Word, b: u8) -> bool
     word >> b & 1 == 1
 }
 
-/// Returns whether bit b of word a is set. No bit is set past the last word, or past the last bit of a word.
+/// Returns whether bit b of word a is set. Returns false if there is no word a, or if words have no bit b.
 pub fn has_bit(words: &[Word], a: u8, b: u8) -> bool
     ensures { result ≡ has_bit words.now a b }
 {
@@ -34,7 +34,7 @@ pub fn has_bit(words: &[Word], a: u8, b: u8) -> bool
     }
 }
 
-/// Returns whether a bit of word a is set. No bit is set past the last word.
+/// Returns whether some bit of word a is set. Returns false if there is no word a.
 pub fn has_any_bit(words: &[Word], a: u8) -> bool
     ensures { HasAnyBit words.now a result }
 {
@@ -51,8 +51,8 @@ fn with_bit(word: Word, b: u8) -> Word
     word | 1 << b
 }
 
-// Sets the bits for a new link. Its lower driver, and all drivers that this one reaches, are then reached by the upper
-// driver and by each driver that reaches the upper driver.
+// Sets the bits for a new link. Afterwards the upper driver, and each driver that reaches the upper driver, reach the
+// lower driver and all drivers that the lower driver reaches.
 fn join(words: &mut [Word], upper: u8, lower: u8)
     requires upper { upper < length words.old }
     requires lower { lower < length words.old }
@@ -81,7 +81,7 @@ pub fn join_link(words: &mut [Word], link: Link)
     }
 }
 
-/// Computes the masks of the links in place.
+/// Sets the words to the masks of these links.
 pub fn recompute(words: &mut [Word], links: &[Link])
     requires within { All (IsWithin (length words.old)) links.now }
     requires few { length words.old ≤ WORD_BITS }

@@ -53,9 +53,10 @@ impl LinkTable {
         })
     }
 
-    /// Links a stream below the driver of a controlling stream, and returns the id of the link. Fails with the first
-    /// of these: the lower stream is already below a link; both drivers are the same, or a path leads from the lower
-    /// one to the upper one; there are 1,024 links or no id is left; an allocation fails. A failure changes nothing.
+    /// Links the stream `lower` below the driver of the controlling stream `ctl`, and returns the id of the link. Fails
+    /// with the first of these: `lower` is already below a link; both streams are of one driver, or a path leads from
+    /// the driver of `lower` to the driver of `ctl`; there are 1,024 links or no id is left; an allocation fails. A
+    /// failure changes nothing.
     pub fn try_link(
         &mut self,
         ctl: StreamId,
@@ -85,7 +86,7 @@ impl LinkTable {
         Ok(id)
     }
 
-    // Returns the first refusal that applies to a link between the streams.
+    // Returns the first refusal that applies to a link of `lower` below the driver of `ctl`.
     fn refusal(&self, ctl: StreamId, lower: StreamId) -> Option<LinkFault>
         ensures { result ≡ refusal self.now ctl lower }
     {
@@ -100,7 +101,7 @@ impl LinkTable {
         }
     }
 
-    // Returns whether a link would close a cycle.
+    // Returns whether a link from the driver of `ctl` down to the driver of `lower` would close a cycle.
     fn leads_back(&self, ctl: StreamId, lower: StreamId) -> bool
         ensures { result ≡ ((lower.driver == ctl.driver) || reaches self.now.links lower.driver ctl.driver) }
     {
@@ -114,8 +115,8 @@ impl LinkTable {
         self.len() >= MAX_LINKS || self.next_id >= NUMBER_END
     }
 
-    /// Removes only the link with this id. Returns `None` if there is no such link. The next id doesn't change.
-    /// Does not allocate.
+    /// Removes the link with this id and no other, and returns it. Returns `None` if there is no such link. The next id
+    /// doesn't change. Does not allocate.
     pub fn remove(&mut self, id: u32) -> Option<Link>
         ensures link { result ≡ find (λ l. l.id == id) self.old.links }
         ensures rest { self.new ≡ without_id self.old id }
@@ -126,8 +127,8 @@ impl LinkTable {
         Some(link)
     }
 
-    /// Removes only the links with these ids, and then recomputes once which drivers each driver reaches. The next id
-    /// doesn't change. Does not allocate.
+    /// Removes the links with these ids and no others. Then recomputes, once for all of them, which drivers each driver
+    /// reaches. The next id doesn't change. Does not allocate.
     pub fn remove_each(&mut self, ids: &[u32])
         ensures rest { self.new ≡ without_ids self.old ids.now }
         ensures drivers { self.new.drivers ≡ self.old.drivers }
@@ -164,14 +165,14 @@ impl LinkTable {
         self.links.as_slice()
     }
 
-    /// Returns the link at an index of the list by rising id.
+    /// Returns the link at index `i` of the list of all links, which is sorted by id.
     pub fn at(&self, i: usize) -> Option<&Link>
         ensures { option_copied result ≡ slice_get self.now.links i }
     {
         self.links().get(i)
     }
 
-    /// Returns the number of drivers. The number of each driver of a link is less than it. Does not allocate.
+    /// Returns the number of drivers. The drivers of all links have smaller numbers. Does not allocate.
     pub fn driver_count(&self) -> u8
         ensures count { result ≡ self.now.drivers }
         ensures within { All (IsWithin result) self.now.links }
@@ -186,7 +187,7 @@ impl LinkTable {
         self.links().len()
     }
 
-    /// Returns the id that the next link gets: 1 in a new table, and one more after each link.
+    /// Returns the id that the next link gets. It is 1 in a new table, and each new link raises it by 1.
     pub fn next_id(&self) -> u32
         ensures { result ≡ self.now.next_id }
     {
@@ -200,19 +201,20 @@ impl LinkTable {
         has_bit(&self.masks, a, b)
     }
 
-    /// Returns whether the driver is the upper one of a link. Reads one word.
+    /// Returns whether the driver is the upper driver of some link. Reads one word.
     pub fn is_upper(&self, driver: u8) -> bool
         ensures { result ≡ is_upper self.now.links driver }
     {
         has_any_bit(&self.masks, driver)
     }
 
-    /// Ensures the properties of every table: its links form no cycle, no stream is below two of them, their ids rise
-    /// and are below the next id, and there are at most 1,024. Does nothing: a caller calls it to use these facts.
+    /// For proofs: gives the caller the properties of every table. The links form no cycle, no stream is below two
+    /// links, the ids rise and are below the next id, and there are at most 1,024 links. Does nothing when the program
+    /// runs.
     pub fn is_sound(&self)
         ensures { IsLinkList self.now }
     {
-        // Opens the invariant.
+        // For the proof: opens the invariant.
         let _next_id = self.next_id;
     }
 
