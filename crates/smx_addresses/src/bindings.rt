@@ -11,7 +11,8 @@ use smx_types::{Binding, NoMemory, StreamId};
 use std::alloc::Global;
 use std::marker::Model;
 
-/// The stream that each address of a driver is bound to. Contracts see the list of bindings, by driver and address.
+/// For each driver and address, the stream that is bound to the address. Contracts see the list of bindings, sorted by
+/// driver and address.
 #[derive(Debug, Drop)]
 pub struct Bindings {
     // The minor for each driver and address.
@@ -44,7 +45,7 @@ impl Bindings {
         }
     }
 
-    /// Returns the binding of a driver's address. Does one look-up.
+    /// Returns the binding of a driver's address, if there is one. Does one look-up.
     pub fn at(&self, driver: u8, addr: u32) -> Option<Binding>
         ensures { result ≡ find (λ b. (b.driver == driver) && (b.addr == addr)) self.now }
     {
@@ -56,7 +57,7 @@ impl Bindings {
         })
     }
 
-    /// Returns the binding of a stream. Does one look-up.
+    /// Returns the binding of a stream, if there is one. Does one look-up.
     pub fn of(&self, stream: StreamId) -> Option<Binding>
         ensures { result ≡ find (is_binding_of stream) self.now }
     {
@@ -68,8 +69,8 @@ impl Bindings {
         })
     }
 
-    /// Returns whether a stream of this driver is bound to the address, or this stream is bound to any address. Does
-    /// two look-ups.
+    /// Returns whether some stream of the stream's driver is bound to the address, or the stream is bound to any
+    /// address. Does at most two look-ups.
     pub fn is_taken(&self, stream: StreamId, addr: u32) -> bool
         ensures { result ≡ is_taken self.now stream addr }
     {
@@ -93,7 +94,8 @@ impl Bindings {
         Ok(())
     }
 
-    /// Removes only the stream's binding. Returns `None` if it has none. Does not allocate.
+    /// Removes the binding of the stream and no other, and returns it. Returns `None` if the stream has no binding.
+    /// Does not allocate.
     pub fn unbind(&mut self, stream: StreamId) -> Option<Binding>
         ensures binding { result ≡ find (is_binding_of stream) self.old }
         ensures rest { self.new ≡ filter (λ b. not (is_binding_of stream b)) self.old }
@@ -121,7 +123,7 @@ impl Bindings {
         self.len() == 0
     }
 
-    /// Returns the bindings, by driver and address. No stream has two.
+    /// Returns the bindings, sorted by driver and address. No stream has two bindings.
     pub fn list(&self, alloc: Global) -> Result<Vec<Binding>, NoMemory>
         ensures value { IfOk result (λ v. v.items ≡ self.now) }
         ensures order { IfOk result (λ v. IsBindingList v.items) }

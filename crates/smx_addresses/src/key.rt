@@ -1,10 +1,10 @@
-//! The keys of both tables.
+//! The keys of the maps in both tables.
 
 ghost use Rattle.std.specs.Prelude.{◌≡◌};
 
 use smx_types::StreamId;
 
-/// A driver, and an address or a minor.
+/// The number of a driver, and an address or a minor.
 pub type Key = (u8, u32);
 
 // Returns the stream as a key.

@@ -1,4 +1,5 @@
-//! The bindings and routes of all drivers: the stream and the link for each address.
+//! The bindings and routes of all drivers: for each address, the stream that is bound to it, and the link to which it
+//! is routed.
 #![tactic(auto)]
 
 mod bindings;

@@ -15,12 +15,13 @@ use smx_types::{NoMemory, Route};
 use std::alloc::Global;
 use std::marker::Model;
 
-/// The link that each address of a driver is routed to. Contracts see the list of routes, by driver and address.
+/// For each driver and address, the link to which the address is routed. Contracts see the list of routes, sorted by
+/// driver and address.
 #[derive(Debug, Drop)]
 pub struct Routes {
     // The link id for each driver and address.
     ids: IndexMap<Key, u32>,
-    // The routes to each link.
+    // The keys of the routes to each link.
     targets: Targets,
 }
 
@@ -60,7 +61,7 @@ impl Routes {
         }
     }
 
-    /// Returns the route of a driver's address. Does one look-up.
+    /// Returns the route of a driver's address, if there is one. Does one look-up.
     pub fn at(&self, driver: u8, addr: u32) -> Option<Route>
         ensures { result ≡ find (is_route driver addr) self.now }
     {
@@ -68,8 +69,8 @@ impl Routes {
         Some(Route { driver, addr, id })
     }
 
-    /// Routes a driver's address to a link, and replaces an earlier route. Fails only if out of memory, and then
-    /// changes nothing.
+    /// Routes a driver's address to a link. This replaces any earlier route of the address. Fails only if out of
+    /// memory, and then changes nothing.
     pub fn route(&mut self, driver: u8, addr: u32, id: u32) -> Result<(), NoMemory>
         ensures ok { OnOk result (self.new ≡ with_inserted route_before
             (filter (λ r. not (is_route driver addr r)) self.old)
@@ -87,7 +88,8 @@ impl Routes {
         Ok(())
     }
 
-    /// Removes only the address's route. Returns `None` if it has none. Does not allocate.
+    /// Removes the route of the address and no other, and returns it. Returns `None` if the address has no route. Does
+    /// not allocate.
     pub fn unroute(&mut self, driver: u8, addr: u32) -> Option<Route>
         ensures route { result ≡ find (is_route driver addr) self.old }
         ensures rest { self.new ≡ filter (λ r. not (is_route driver addr r)) self.old }
@@ -98,7 +100,8 @@ impl Routes {
         Some(Route { driver, addr, id })
     }
 
-    /// Removes all routes to a link, and no others, in time proportional to their number. Does not allocate.
+    /// Removes all routes to a link, and no others. Takes time proportional to the number of these routes. Does not
+    /// allocate.
     pub fn unroute_link(&mut self, id: u32)
         ensures { self.new ≡ filter (λ r. not (r.id == id)) self.old }
     {
@@ -130,7 +133,7 @@ impl Routes {
         self.len() == 0
     }
 
-    /// Returns the routes, by driver and address.
+    /// Returns the routes, sorted by driver and address.
     pub fn list(&self, alloc: Global) -> Result<Vec<Route>, NoMemory>
         ensures value { IfOk result (λ v. v.items ≡ self.now) }
         ensures order { IfOk result (λ v. IsRouteList v.items) }

@@ -1,4 +1,4 @@
-//! The keys of the routes to each link.
+//! For each link, the routes to it, by their keys (driver and address).
 
 ghost use Rattle.std.specs.Prelude.{◌≡◌, ℕ, true, false, OnOk, OnErr};
 ghost use Rattle.smx_addresses.specs.Keys.{Key as AnyKey};
@@ -8,10 +8,11 @@ use crate::key::Key;
 use indexmap::{IndexMap, IndexSet};
 use smx_types::NoMemory;
 
-/// For each link that has had a route, by its id, the set of the keys that are routed to it now.
+/// For the id of each link that has had a route: the set of the keys (driver and address) that are routed to the link
+/// now.
 pub type Targets = IndexMap<u32, IndexSet<Key>>;
 
-// Adds a key to a link's set, if it isn't there. A link without a set gets one.
+// Adds a key to the set of a link, if the set doesn't have it. If the link has no set, makes one.
 pub fn put_target(targets: &mut Targets, id: u32, key: Key) -> Result<(), NoMemory>
     ensures ok { OnOk result (IsTargetSet targets.old.entries targets.new.entries id key true) }
     ensures err { OnErr result ((i : ℕ) (k : AnyKey) →
@@ -27,7 +28,7 @@ pub fn put_target(targets: &mut Targets, id: u32, key: Key) -> Result<(), NoMemo
     Ok(())
 }
 
-// Removes a key from a link's set.
+// Removes a key from the set of a link.
 pub fn drop_target(targets: &mut Targets, id: u32, key: Key)
     ensures { IsTargetSet targets.old.entries targets.new.entries id key false }
 {
