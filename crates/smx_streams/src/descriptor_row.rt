@@ -1,4 +1,4 @@
-//! The descriptors of one process by number.
+//! The descriptors of one process, by their numbers.
 
 ghost use Rattle.std.specs.Prelude.{◌≡◌, ◌<◌, [], None, length, slice_set, slice_index_or, IfOk, OnOk, OnErr, IsOk};
 ghost use Rattle.smx_streams.specs.RowRoom.{with_room};
@@ -7,7 +7,8 @@ use smx_types::{MAX_DESCRIPTORS, NoMemory, StreamId};
 use std::alloc::Global;
 use std::marker::Model;
 
-/// A stream or `None` at each number. The row is empty until the first open; from then on it has cells for all numbers.
+/// For each descriptor number a cell, with the stream of this descriptor or `None`. The row has no cells until the
+/// first open of the process. From then on it has cells for all numbers.
 #[derive(Debug, Drop)]
 pub struct DescriptorRow {
     cells: Vec<Option<StreamId>>,
@@ -43,7 +44,7 @@ impl DescriptorRow {
         }
     }
 
-    // Makes cells for all numbers, if the row is empty.
+    // Makes cells for all numbers, if the row has none.
     pub fn make_room(&mut self, alloc: Global) -> Result<(), NoMemory>
         ensures ok { OnOk result (self.new ≡ with_room self.old) }
         ensures err { OnErr result (self.new ≡ self.old) }

@@ -31,7 +31,7 @@ impl Model for Descriptors {
     ghost invariant = { λ d. AreRows d.processes.items };
 }
 
-// Returns the stream at a number of a process.
+// Returns the stream of the process' descriptor with this number, if there is one.
 fn cell_at(processes: &[DescriptorRow], process: Process, fd: u32) -> Option<StreamId>
     ensures { result ≡ cell_at processes.now process fd }
 {
@@ -42,7 +42,7 @@ fn cell_at(processes: &[DescriptorRow], process: Process, fd: u32) -> Option<Str
     }
 }
 
-// Sets the cell at a number of a process, which has a cell there.
+// Sets the cell of a process for this descriptor number. The process has such a cell.
 fn set_cell(processes: &mut Vec<DescriptorRow>, process: u32, fd: u32, cell: Option<StreamId>)
     requires process { process < length processes.old.items }
     requires room { fd < length (slice_index_or processes.old.items process []) }
@@ -51,7 +51,7 @@ fn set_cell(processes: &mut Vec<DescriptorRow>, process: u32, fd: u32, cell: Opt
     processes[process as usize].set(fd, cell);
 }
 
-// Makes cells for all numbers of a process.
+// Makes cells of a process for all descriptor numbers, if it has none.
 fn make_room(
     processes: &mut Vec<DescriptorRow>,
     alloc: Global,
@@ -87,7 +87,7 @@ fn copy_rows(alloc: Global, processes: &[DescriptorRow]) -> Result<Vec<Descripto
 }
 
 impl Descriptors {
-    /// Makes an empty list of descriptors, without cells.
+    /// Makes an empty list of descriptors. No process has cells yet.
     pub fn new(alloc: Global) -> Result<Descriptors, NoMemory>
         ensures { IfOk result (λ d. d.fds ≡ []) }
     {
@@ -102,14 +102,14 @@ impl Descriptors {
         cell_at(&self.processes, process, fd)
     }
 
-    // Returns whether the number is free.
+    // Returns whether the process has no descriptor with this number.
     fn is_free(&self, process: Process, fd: u32) -> bool
         ensures { result ≡ not (list_any (is_fd process fd) self.now.fds) }
     {
         !cell_at(&self.processes, process, fd).is_some()
     }
 
-    /// Returns the lowest free number.
+    /// Returns the lowest number from 0 to 15 that is not a descriptor of the process, if there is one.
     #[inline(always)]
     pub fn least_free(&self, process: Process) -> Option<u32>
         ensures { result ≡ least_fd self.now.fds process }
@@ -137,7 +137,7 @@ impl Descriptors {
         set_cell(&mut self.processes, process.get(), fd, Some(stream));
     }
 
-    /// Removes the descriptor with this number, and returns its stream.
+    /// Removes the descriptor with this number, and returns its stream. Returns `None` if there is no such descriptor.
     pub fn take(&mut self, process: Process, fd: u32) -> Option<StreamId>
         ensures stream { result ≡ stream_at self.old.fds process fd }
         ensures rest { self.new.fds ≡ filter (λ d. not (is_fd process fd d)) self.old.fds }
@@ -148,8 +148,8 @@ impl Descriptors {
         Some(stream)
     }
 
-    /// Returns the first descriptor from this process and number on. Looks at each cell from there up to the descriptor
-    /// that it returns.
+    /// Returns the first descriptor, in the order of processes and numbers, that is at or after this process and
+    /// number. Reads each cell from there up to the cell of the returned descriptor.
     pub fn next(&self, process: Process, fd: u32) -> Option<Descriptor>
         ensures { IsNext self.now.fds process fd result }
     {
@@ -172,11 +172,11 @@ impl Descriptors {
         }
     }
 
-    /// Ensures the properties of every list of descriptors.
+    /// For proofs: gives the caller the properties of every list of descriptors (`IsListed`).
     pub fn is_sound(&self)
         ensures { IsListed self.now.fds }
     {
-        // Opens the invariant.
+        // For the proof: opens the invariant.
         let _processes = &self.processes;
     }
 

@@ -1,4 +1,4 @@
-//! The hung-up streams.
+//! An iterator over the hung-up streams.
 
 ghost use Rattle.std.specs.Prelude.{◌≡◌};
 ghost use Rattle.std.specs.Iterator.{YieldsFirstBy};
@@ -8,7 +8,8 @@ use crate::records::Records;
 use smx_types::StreamId;
 use std::marker::Model;
 
-/// An iterator over the hung-up streams, in order. Contracts see the list of those that are left. Does not allocate.
+/// An iterator over the hung-up streams, sorted by driver and minor. Contracts see the list of the streams that are
+/// left. Does not allocate.
 #[derive(Drop)]
 pub struct HungStreams<'a> {
     records: &'a Records,
@@ -27,7 +28,7 @@ impl<'a> Model for HungStreams<'a> {
     ghost view = { λ it. streams_from it.driver it.minor (hungs_from 0 it.records.now.hungs) };
 }
 
-// Returns the first hung-up stream from a minor of a driver on.
+// Returns the first hung-up stream, in the order of drivers and minors, that is at or after this driver and minor.
 fn first_from(records: &Records, driver: u8, minor: u8) -> Option<StreamId>
     ensures { IsNextOf (hungs_from 0 records.now.hungs) driver minor result }
 {

@@ -1,4 +1,4 @@
-//! The keys of the records of one driver's streams, by minor.
+//! The streams of one driver: for each minor, the key of the stream's record.
 
 ghost use Rattle.std.specs.Prelude.{◌≡◌, ◌<◌, None, length, replicate, slice_set, slice_index_or, IfOk};
 
@@ -6,7 +6,7 @@ use smx_types::NoMemory;
 use std::alloc::Global;
 use std::marker::Model;
 
-/// A key or `None` for each minor.
+/// For each minor of a driver, the key of the stream's record in the slab of all records, or `None`.
 #[derive(Debug, Drop)]
 pub struct Keys {
     cells: Vec<Option<usize>>,

@@ -1,4 +1,5 @@
-//! The table of streams: the descriptors of each process, and a record of each stream that is open or held.
+//! The table of streams: the descriptors of each process, and a record of each stream that a descriptor names or that
+//! is held. (A hold keeps a stream in the table even if no descriptor names it.)
 #![tactic(auto)]
 
 mod descriptor_row;

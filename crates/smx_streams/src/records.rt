@@ -17,8 +17,8 @@ use smx_types::{NoMemory, StreamId};
 use std::alloc::Global;
 use std::marker::Model;
 
-/// The number of descriptors and the number of holds of a stream, at least one in total, and whether the stream is hung
-/// up.
+/// A stream, the number of its descriptors, the number of its holds, and whether it is hung up. There is at least one
+/// descriptor or hold.
 #[derive(Clone, Copy, Debug)]
 pub struct Record {
     pub stream: StreamId,
@@ -27,8 +27,9 @@ pub struct Record {
     pub hung: bool,
 }
 
-/// The records in one slab, and for each driver the keys of its streams' records. Contracts see the number of minors
-/// of each driver, and two numbers and a flag for each minor.
+/// The records in one slab, and for each driver the keys of the records of its streams. Contracts see the number of
+/// minors of each driver. For each minor they see the number of descriptors, the number of holds, and whether the
+/// stream is hung up.
 #[derive(Debug, Drop)]
 pub struct Records {
     drivers: Vec<Keys>,
@@ -45,7 +46,7 @@ impl Model for Records {
     ghost invariant = { λ r. AreRecords r.drivers.items r.records };
 }
 
-// Returns the key of the stream's record.
+// Returns the key of the stream's record, if it has one.
 fn key_of(drivers: &[Keys], stream: StreamId) -> Option<usize>
     ensures { result ≡ key_at drivers.now stream }
 {
@@ -99,14 +100,15 @@ fn minors_of_each(alloc: Global, drivers: &[Keys]) -> Result<Vec<u8>, NoMemory>
     Ok(minors)
 }
 
-// Returns whether the record counts at least one descriptor or hold.
+// Returns whether the record has at least one descriptor or hold.
 fn is_used(counted: Record) -> bool
     ensures { result ≡ nat_lt 0 (counted.opens + counted.holds) }
 {
     counted.opens > 0 || counted.holds > 0
 }
 
-// Puts the record back at its key. If the record counts nothing any more, removes it and the key instead.
+// Replaces the record at `key` by `changed`. If `changed` has no descriptor and no hold, removes the record and the key
+// instead.
 fn put_back(drivers: &mut Vec<Keys>, records: &mut Slab<Record>, key: usize, changed: Record)
     requires whole { AreRecords drivers.old.items records.old }
     requires there { key_at drivers.old.items changed.stream ≡ Some key }
@@ -177,7 +179,7 @@ impl Records {
         }
     }
 
-    /// Returns whether the stream has one descriptor and no hold.
+    /// Returns whether the stream has exactly one descriptor and no hold.
     pub fn is_opened_once(&self, stream: StreamId) -> bool
         ensures { result ≡ ((number_at self.now.opens stream == 1) && (number_at self.now.holds stream == 0)) }
     {
@@ -204,7 +206,7 @@ impl Records {
         key_of(&self.drivers, stream).is_some()
     }
 
-    /// Counts one more descriptor of a stream.
+    /// Counts one more descriptor of a stream. A stream without a record gets one.
     #[inline(always)]
     pub fn open(&mut self, stream: StreamId) -> Result<(), NoMemory>
         requires range { is_in_range self.old.minors stream.driver stream.minor ≡ true }
@@ -243,7 +245,8 @@ impl Records {
         Ok(())
     }
 
-    /// Counts one descriptor less of a stream that has one. Removes its record if it then counts nothing.
+    /// Counts one descriptor less of a stream that has a descriptor. Removes the record of the stream if no descriptor
+    /// and no hold is left.
     pub fn close(&mut self, stream: StreamId)
         requires { 0 < number_at self.old.opens stream }
         ensures { AreSet self.old stream (number_at self.old.opens stream - 1) (number_at self.old.holds stream)
@@ -276,7 +279,8 @@ impl Records {
         }
     }
 
-    /// Counts one hold less of a stream that is held. Removes its record if it then counts nothing.
+    /// Counts one hold less of a stream that has a hold. Removes the record of the stream if no descriptor and no hold
+    /// is left.
     pub fn release(&mut self, stream: StreamId)
         requires { 0 < number_at self.old.holds stream }
         ensures { AreSet self.old stream (number_at self.old.opens stream) (number_at self.old.holds stream - 1)
@@ -307,7 +311,7 @@ impl Records {
         }
     }
 
-    // Replaces a stream's record. Removes the record if it counts nothing.
+    // Replaces the record of a stream. If the new record has no descriptor and no hold, removes the record instead.
     fn change(&mut self, changed: Record)
         requires { 0 < number_at self.old.opens changed.stream + number_at self.old.holds changed.stream }
         ensures { AreSet self.old changed.stream changed.opens changed.holds (is_used_and_hung changed) self.new }
@@ -317,8 +321,8 @@ impl Records {
         }
     }
 
-    /// Ensures the properties of every set of records: there are at most as many drivers as allowed; a stream that has
-    /// descriptors or is hung up is in range; a hung-up stream has a record.
+    /// For proofs: gives the caller the properties of every set of records. There are at most 128 drivers. If a stream
+    /// has descriptors or is hung up, its driver exists and has its minor. A hung-up stream has a descriptor or a hold.
     pub fn is_sound(&self)
         ensures few { length self.now.minors ≤ MAX_DRIVERS }
         ensures range { (s : StreamId) → 0 < number_at self.now.opens s
@@ -328,11 +332,11 @@ impl Records {
         ensures hung { (s : StreamId) → flag_at self.now.hungs s ≡ true
             → 0 < number_at self.now.opens s + number_at self.now.holds s }
     {
-        // Opens the invariant.
+        // For the proof: opens the invariant.
         let _records = &self.records;
     }
 
-    // Copies the stream's record, if it has one, to `self` from `others`.
+    // Copies the record of the stream from `others` to `self`, if the stream has one.
     fn copy_record(&mut self, others: &Records, stream: StreamId) -> Result<(), NoMemory>
         requires before { IsCopyBefore others.now stream.driver stream.minor self.old }
         requires range { is_in_range others.now.minors stream.driver stream.minor ≡ true }
@@ -344,7 +348,7 @@ impl Records {
         Ok(())
     }
 
-    // Copies the records of a driver's streams to `self` from `others`.
+    // Copies the records of a driver's streams from `others` to `self`.
     fn copy_driver(&mut self, others: &Records, driver: u8, minors: u8) -> Result<(), NoMemory>
         requires before { IsCopyBefore others.now driver 0 self.old }
         requires minors { minors ≡ slice_index others.now.minors driver }

@@ -25,12 +25,13 @@ use std::marker::Model;
 pub struct Closed {
     /// The stream that the descriptor named.
     pub stream: StreamId,
-    /// The stream has no descriptor and no hold left.
+    /// Whether the stream has no descriptor and no hold left.
     pub last: bool,
 }
 
-/// The descriptors of all processes, the number of holds of each stream, and the hung-up streams. Contracts see the
-/// number of minors of each driver, the list of descriptors, the holds, and the list of hung-up streams.
+/// The descriptors of all processes, the number of holds of each stream, and the hung-up streams. A hold keeps a stream
+/// in the table even if no descriptor names it. Contracts see the number of minors of each driver, the list of
+/// descriptors, the holds, and the list of hung-up streams.
 #[derive(Debug, Drop)]
 pub struct Streams {
     alloc: Global,
@@ -51,8 +52,8 @@ impl Model for Streams {
 }
 
 impl Streams {
-    /// Makes a table without streams, for drivers that are numbered from 0 and have these numbers of minors. The
-    /// table keeps the allocator. Fails only if out of memory.
+    /// Makes a table without streams. `minors` has the number of minors of each driver, from driver 0 on. The table
+    /// keeps the allocator. Fails only if out of memory.
     pub fn new(alloc: Global, minors: &[u8]) -> Result<Streams, NoMemory>
         requires { length minors.now ≤ MAX_DRIVERS }
         ensures minors { IfOk result (λ t. t.minors ≡ minors.now) }
@@ -67,7 +68,7 @@ impl Streams {
         })
     }
 
-    /// Returns whether the driver exists and the minor is below its number of minors.
+    /// Returns whether the driver exists, and the minor is below the driver's number of minors.
     pub fn in_range(&self, driver: u8, minor: u32) -> bool
         ensures { result ≡ is_in_range self.now.minors driver minor }
     {
@@ -91,7 +92,7 @@ impl Streams {
         self.records.is_hung(stream)
     }
 
-    /// Returns an iterator over the hung-up streams, in order. Does not allocate.
+    /// Returns an iterator over the hung-up streams, sorted by driver and minor. Does not allocate.
     pub fn hungs(&self) -> HungStreams<'_>
         ensures { result ≡ self.now.hungs }
     {
@@ -105,7 +106,7 @@ impl Streams {
         self.records.holds_of(stream)
     }
 
-    /// Returns the stream of a descriptor of the process.
+    /// Returns the stream of a descriptor of the process, if there is such a descriptor.
     pub fn stream_of(&self, process: Process, fd: u32) -> Option<StreamId>
         ensures { result ≡ stream_at self.now.fds process fd }
     {
@@ -126,7 +127,7 @@ impl Streams {
         })
     }
 
-    // Adds a descriptor, whose number is free.
+    // Adds a descriptor of a stream. Its number `fd` is the lowest free one of the process.
     #[inline(always)]
     fn open(&mut self, process: Process, fd: u32, stream: StreamId) -> Result<(), NoMemory>
         requires range { is_in_range self.old.minors stream.driver stream.minor ≡ true }
@@ -142,7 +143,7 @@ impl Streams {
         Ok(())
     }
 
-    // Opens the lowest free descriptor for a stream.
+    // Opens a stream as the lowest free descriptor of the process.
     #[inline(always)]
     fn give(&mut self, process: Process, stream: StreamId) -> Result<(u32, StreamId), StreamFault>
         requires range { is_in_range self.old.minors stream.driver stream.minor ≡ true }
@@ -160,9 +161,9 @@ impl Streams {
         Ok((fd, stream))
     }
 
-    /// Opens the driver's lowest minor whose stream doesn't exist, as the lowest free descriptor. Fails with the
-    /// first of these: there is no such driver; all its minors are in use; the process has 16 descriptors; an
-    /// allocation fails. A failure changes nothing.
+    /// Opens the lowest minor of the driver whose stream doesn't exist, as the lowest free descriptor of the process.
+    /// Fails with the first of these: there is no such driver; the streams of all its minors exist; the process has 16
+    /// descriptors; an allocation fails. A failure changes nothing.
     pub fn open_clone(
         &mut self,
         process: Process,
@@ -182,9 +183,9 @@ impl Streams {
         self.give(process, StreamId { driver, minor })
     }
 
-    /// Opens the stream of a minor as the lowest free descriptor, whether the stream exists already or not. Fails with
-    /// the first of these: there is no such driver; it has no such minor; the process has 16 descriptors; an allocation
-    /// fails. A failure changes nothing.
+    /// Opens the stream of a minor as the lowest free descriptor of the process, whether or not the stream exists
+    /// already. Fails with the first of these: there is no such driver; the driver has no such minor; the process has
+    /// 16 descriptors; an allocation fails. A failure changes nothing.
     pub fn open_minor(
         &mut self,
         process: Process,
@@ -206,8 +207,8 @@ impl Streams {
         self.give(process, StreamId { driver, minor })
     }
 
-    /// Opens the lowest free descriptor for the stream of another descriptor. Fails with the first of these: the
-    /// process has no such descriptor; it has 16 descriptors. Does not allocate.
+    /// Opens the stream of the descriptor `fd` once more, as the lowest free descriptor of the process. Fails with the
+    /// first of these: the process has no descriptor `fd`; the process has 16 descriptors. Does not allocate.
     pub fn dup(&mut self, process: Process, fd: u32) -> Result<(u32, StreamId), StreamFault>
         ensures answer { result ≡ dup_answer self.old process fd }
         ensures ok { IfOk result (λ x. HasOneMore self.old process x.0 x.1 self.new) }
@@ -220,8 +221,8 @@ impl Streams {
         self.give(process, stream)
     }
 
-    /// Returns whether the descriptor's stream has no other descriptor and no hold, so that it ends when the descriptor
-    /// is closed.
+    /// Returns whether the stream of the descriptor has no other descriptor and no hold. The stream then ceases to
+    /// exist when the descriptor is closed.
     pub fn is_last(&self, process: Process, fd: u32) -> bool
         ensures { result ≡ is_last self.now process fd }
     {
@@ -232,8 +233,8 @@ impl Streams {
         }
     }
 
-    /// Closes only this descriptor of the process. Returns `None` if there is no such descriptor. Only the
-    /// descriptor's stream can cease to exist. Does not allocate.
+    /// Closes this descriptor of the process and no other. Returns `None` if there is no such descriptor. No stream
+    /// other than that of the descriptor can cease to exist. Does not allocate.
     #[inline(always)]
     pub fn close_fd(&mut self, process: Process, fd: u32) -> Option<Closed>
         ensures stream { option_map (λ c. c.stream) result ≡ stream_at self.old.fds process fd }
@@ -253,7 +254,7 @@ impl Streams {
         })
     }
 
-    /// Closes all descriptors of a process, and no others. Only the streams that they name can cease to exist.
+    /// Closes all descriptors of a process, and no others. Only streams that these descriptors name can cease to exist.
     /// Does not allocate.
     pub fn close_process(&mut self, process: Process)
         ensures rest { HasNoneOf self.old process self.new }
@@ -267,22 +268,22 @@ impl Streams {
         }
     }
 
-    /// Returns the first descriptor, in the order of processes and numbers, from this process and number on, if there
-    /// is one.
+    /// Returns the first descriptor, in the order of processes and numbers, that is at or after this process and
+    /// number. Returns `None` if there is none.
     pub fn next_fd(&self, process: Process, fd: u32) -> Option<Descriptor>
         ensures { IsNext self.now.fds process fd result }
     {
         self.descriptors.next(process, fd)
     }
 
-    /// Returns the first descriptor, if there is one.
+    /// Returns the first descriptor, in the order of processes and numbers, if there is one.
     pub fn first_fd(&self) -> Option<Descriptor>
         ensures { IsNext self.now.fds 0 0 result }
     {
         self.next_fd(Process::new(0).unwrap(), 0)
     }
 
-    // Ensures the properties of every list of descriptors.
+    // For proofs: gives the caller the properties of every list of descriptors (`IsListed`).
     fn is_listed(&self)
         ensures { IsListed self.now.fds }
     {
@@ -300,7 +301,7 @@ impl Streams {
         self.records.hold(stream);
     }
 
-    /// Counts one hold less of a stream that is held. Returns whether no descriptor and no hold is left.
+    /// Counts one hold less of a stream that has a hold. Returns whether the stream then has no descriptor and no hold.
     /// Does not allocate.
     #[inline(always)]
     pub fn release(&mut self, stream: StreamId) -> bool
@@ -321,8 +322,8 @@ impl Streams {
         self.records.hang(stream);
     }
 
-    /// Ensures the properties of the hung-up streams: they are in order, and each exists. Does nothing: a caller
-    /// calls it to use these facts.
+    /// For proofs: gives the caller the properties of the hung-up streams. They are in order, and each exists. Does
+    /// nothing when the program runs.
     pub fn is_sound(&self)
         ensures { AreHungsSound self.now }
     {
