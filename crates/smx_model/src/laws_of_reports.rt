@@ -12,9 +12,9 @@ ghost use Rattle.smx_model.specs.Worked.Reports.{another_exited, copied, exited,
 ghost use Rattle.smx_model.specs.Worked.Reports.{programs, report_with, three, too_early, two};
 
 /// A report has the drivers of the programs, which are valid. Its history is legal and holds the programs: it has the
-/// commands of each program, each once, in order, and no others. Its view is that of the final configuration. It
-/// follows that the history is lawful after each entry, and that only commands that may drop messages name dropped
-/// messages. A transcript is a report if everything before "It follows" holds (`enough`).
+/// commands of each program, each once, in order, and no others. Its view is that of the final configuration. These
+/// properties are enough for a report (`enough`). It follows that the history is lawful after each entry, and that only
+/// commands that may drop messages name dropped messages.
 pub fn reports_are_legal()
     ensures drivers { (programs : ProgramLists) (report : Transcript) → IsReportOf programs report
         → (report.drivers ≡ programs.drivers) × IsDriverList programs.drivers }
