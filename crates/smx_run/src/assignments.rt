@@ -1,4 +1,5 @@
-//! The processes of each worker: worker `p` modulo the number of workers runs process `p`.
+//! Assigns processes to workers: process `p` to worker `p` modulo the number of workers. An assignment is the list of
+//! the processes of one worker.
 
 ghost use Rattle.std.specs.Prelude.{◌≡◌, ◌≢◌, ◌≤◌, ◌<◌, ℕ, [], ◌∷◌, ◌++◌, All, length, map, slice_index_or};
 ghost use Rattle.std.specs.Prelude.{vec_len, IfOk, OnOk};
@@ -14,7 +15,7 @@ use smx_types::{Commands, NoMemory, ProgramList};
 use std::alloc::Global;
 use std::snapshot::Snapshot;
 
-/// Gives each process, with its seat and its program, to its worker. Returns the assignment of each worker.
+/// Assigns each process, with its seat and its program, to its worker. Returns the assignment of each worker.
 pub fn assign<K: EntrySink>(
     alloc: Global,
     seats: Vec<Seat<K>>,
@@ -98,7 +99,7 @@ pub fn collect<K: EntrySink>(
     Ok(ended)
 }
 
-// Takes the first remaining process of a worker.
+// Removes the first remaining process of a worker, and returns it.
 fn take_first<K: EntrySink>(
     assignments: &mut Vec<Vec<EndedProgram<Seat<K>>>>,
     worker: usize,

@@ -20,10 +20,10 @@ use std::alloc::Global;
 
 const PROCESSES: usize = MAX_PROCESSES as usize;
 
-/// Makes a report of a system, if the transcript of each process (the list of entries that its caller has kept) has
-/// exactly the entries of that process in the history. If the number of a process is not below `transcripts.len()`, its
-/// transcript is empty. Fails with `Strange` for the lowest process whose transcript differs, or else because it is out
-/// of memory.
+/// Makes a report of a system, if the transcript of each process (the list of entries that its caller has kept) equals
+/// the entries of that process in the history. If the number of a process is not below `transcripts.len()`, its
+/// transcript is empty. Fails with `Strange` for the lowest process whose transcript differs. If no transcript differs,
+/// fails only if out of memory.
 pub fn gather(alloc: Global, system: System, transcripts: &[Entries]) -> Result<Report, GatherFault>
     requires { length transcripts.now ≤ MAX_PROCESSES }
     ensures report { IfOk result (Reports system) }
@@ -52,7 +52,7 @@ pub fn report(alloc: Global, system: System, fronts: Fronts) -> Result<Report, N
     })
 }
 
-/// Returns the lowest process whose entries in the history are not its transcript.
+/// Returns the lowest process whose entries in the history are not its transcript, if there is one.
 pub fn find_strange(history: &[Entry], transcripts: &[Entries]) -> Option<Process>
     requires { length transcripts.now ≤ MAX_PROCESSES }
     ensures strange { IfSome result (IsLeastStrange history.now transcripts.now) }
@@ -68,8 +68,8 @@ pub fn find_strange(history: &[Entry], transcripts: &[Entries]) -> Option<Proces
     None
 }
 
-// Returns for each process the number of its entries in the history, if these are a beginning of its transcript, and
-// otherwise `None`.
+// Returns a count for each process: the number of its entries in the history. If these entries are not a beginning of
+// the transcript of the process, the count is `None`.
 fn meet_all(history: &[Entry], transcripts: &[Entries]) -> [Option<usize>; PROCESSES]
     ensures met { (p : ℕ) → p < MAX_PROCESSES
         → IsMet (slice_index_or transcripts.now p []) (entries_of p history.now) (slice_index_or result p None) }
@@ -85,14 +85,14 @@ fn meet_all(history: &[Entry], transcripts: &[Entries]) -> [Option<usize>; PROCE
     met
 }
 
-// Returns the counts before the first entry.
+// Returns the counts for a history without entries.
 fn none_met() -> [Option<usize>; PROCESSES]
     ensures { result ≡ replicate MAX_PROCESSES (Some 0) }
 {
     [Some(0); PROCESSES]
 }
 
-// Returns the count after one more entry.
+// Returns the count of a process after its next entry, `entry`.
 fn meet(met: Option<usize>, transcript: &[Entry], entry: &Entry) -> Option<usize>
     ensures { (own : List Made) → IsMet transcript.now own met → IsMet transcript.now (own ++ entry.now ∷ []) result }
 {
@@ -105,7 +105,7 @@ fn meet(met: Option<usize>, transcript: &[Entry], entry: &Entry) -> Option<usize
     }
 }
 
-// Returns whether the counted entries are exactly those of the transcript.
+// Returns whether the counted entries of a process are its whole transcript.
 fn is_whole(met: Option<usize>, transcript: &[Entry]) -> bool
     ensures { (own : List Made) → IsMet transcript.now own met → (IsTrue result ↔ (own ≡ transcript.now)) }
 {

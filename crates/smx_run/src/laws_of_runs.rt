@@ -1,4 +1,5 @@
-//! Laws of runs, each the contract of a function that does nothing: examples and counterexamples of each definition.
+//! Laws of runs. A law is a theorem: the contract of a function that does nothing. These laws are examples and
+//! counterexamples of each definition.
 
 ghost use Rattle.std.specs.Prelude.{◌≡◌, ℕ, List, [], ◌∷◌, true, false, Result, Err};
 ghost use Rattle.smx_run.specs.RunFaults.{EitherFails};
@@ -37,7 +38,9 @@ pub fn fronts_of_an_example()
         (front 3 1 false ∷ front 2 0 true ∷ []) → ⊥ }
 {}
 
-/// If the second driver has the name of the first, the drivers are refused only for that.
+/// Two drivers with the same name are not refused for any of these faults: the name of the first driver, too many
+/// drivers, out of memory, a thread that can't be started, a full history, a turn that was never given back. For one
+/// valid driver, out of memory is not reported as a `ConfigFault`.
 pub fn refusals_of_an_example()
     ensures not_first { RefusesRun (mux ip 4 ∷ mux ip 4 ∷ []) (run.ConfigFault (config.SameName 0)) → ⊥ }
     ensures not_too_many { RefusesRun (mux ip 4 ∷ mux ip 4 ∷ []) (run.ConfigFault config.TooMany) → ⊥ }
@@ -49,7 +52,7 @@ pub fn refusals_of_an_example()
 {}
 
 /// No run is refused for a strange process, or for a turn that was never given back. A run on one thread is refused
-/// only for its drivers, or because memory ran out. Every run may be refused for these.
+/// only for its drivers, or because memory ran out. For these two reasons, any run may be refused.
 pub fn refusals_have_few_causes()
     ensures not_strange { (drivers : List DriverSpec) (p : ℕ) → RefusesRun drivers (run.Strange p) → ⊥ }
     ensures not_thread { (drivers : List DriverSpec) → RefusesAlone drivers run.NoThread → ⊥ }
@@ -61,9 +64,8 @@ pub fn refusals_have_few_causes()
         → RefusesAlone drivers fault → RefusesRun drivers fault }
 {}
 
-/// The calls of two programs come one program after the other, by rising number, each in its order. A nonempty
-/// beginning of these calls starts with the first call, not with a call of another process, and has only calls of the
-/// list.
+/// `calls_from` lists the calls of one program after the other, by rising number of the process, each in the order of
+/// its program. A nonempty beginning of this list starts with its first call, and has only calls of the list.
 pub fn calls_of_an_example()
     ensures in_turn { calls_from 0 programs.programs ≡ (0, OpenClone ip) ∷ (0, Dup 0) ∷ (1, CloseAll) ∷ [] }
     ensures none_yet { BeginsCalls [] 0 programs.programs }
@@ -73,8 +75,8 @@ pub fn calls_of_an_example()
         0 programs.programs → ⊥ }
 {}
 
-/// A worker that performs commands in order may stop before the last one. To stop after the last one, or after another
-/// command than the first, is no such stop.
+/// A worker that performs commands in order may stop before the last command. `StopsAmong` excludes a stop after the
+/// last command, and a stop after commands that don't begin the list.
 pub fn stops_of_an_example()
     ensures before_the_last { StopsAmong KeepsBehind (Dup 1 ∷ []) (OpenClone ip ∷ Dup 0 ∷ [])
         (Dup 1 ∷ OpenClone ip ∷ []) }
@@ -82,8 +84,9 @@ pub fn stops_of_an_example()
     ensures not_behind_another { StopsAmong KeepsBehind [] (OpenClone ip ∷ Dup 0 ∷ []) (Dup 0 ∷ []) → ⊥ }
 {}
 
-/// Between two moments, a process has called exactly the commands of the entries that were made with its seat in
-/// between, in order. It has called none for an entry that was only seen. The process is the same.
+/// Between two moments, a process has called exactly the commands of those entries that were made with its seat between
+/// these moments, in order. The process has called no command for an entry that its seat has only seen. Both moments
+/// are of the same process.
 pub fn what_a_process_has_called()
     ensures one { HasCalled (knows 0 0 9) (OpenClone ip ∷ []) (knows 0 1 9) }
     ensures none { HasCalled (knows 1 0 9) [] (knows 1 1 9) }
@@ -96,8 +99,8 @@ pub fn what_a_process_has_called()
     ensures not_elsewhere { HasCalled (knows 0 0 9) [] (knows 1 0 9) → ⊥ }
 {}
 
-/// A process is to be run if its seat belongs to the door, and no call was made with the seat yet, whatever the seat
-/// has seen. The door here has the seats of one process.
+/// A process is to be run if its seat belongs to the door (the shared system), and no call was made with the seat yet.
+/// It doesn't matter which entries the seat has seen. In these examples, the door has the seats of one process.
 pub fn what_is_to_be_run()
     ensures to_run { IsFirstToRun (knows 0 0 9) }
     ensures to_run_behind { IsFirstToRun idle }
@@ -105,8 +108,9 @@ pub fn what_is_to_be_run()
     ensures not_elsewhere { IsFirstToRun (knows 1 0 9) → ⊥ }
 {}
 
-/// A process has ended if three conditions hold. Its seat belongs to the door. The entries that were made with the seat
-/// are those of the process in the history that the seat has seen. The front is that of this history.
+/// A process has ended if three conditions hold. First, its seat belongs to the door. Second, the entries that were
+/// made with the seat are exactly those of the process in the history that the seat has seen. Third, the front is that
+/// of this history.
 pub fn what_has_ended()
     ensures ended { HasEndedOf 0 (knows 0 1 9) (front 1 0 false) }
     ensures ended_among_others { HasEndedOf 1 (knows 1 1 9) (front 1 0 false) }
@@ -117,23 +121,23 @@ pub fn what_has_ended()
     ensures not_at_another_front { HasEndedOf 0 (knows 0 1 9) (front 0 0 false) → ⊥ }
 {}
 
-/// The calls that a process is to make are the calls that it has made afterwards: the commands of its program, with its
-/// own number. Programs are numbered in their order.
+/// The calls that a process is to make, and the calls that it has made afterwards, have the same form: its number, and
+/// then its commands, each with this number. Programs are numbered in their order.
 pub fn whose_calls_they_are()
     ensures to_call { given (λ k. k) (to_run (knows 1 0 9) (Dup 0 ∷ [])) ≡ (1, (1, Dup 0) ∷ []) }
     ensures has_called { called (λ k. k) (ended_at second (front 2 0 false)) ≡ (1, (1, CloseAll) ∷ []) }
     ensures in_order { numbered 3 ((Dup 0 ∷ []) ∷ [] ∷ []) ≡ (3, (3, Dup 0) ∷ []) ∷ (4, []) ∷ [] }
 {}
 
-/// A history of one entry is known to be full if its limit is one, and not if its limit is two.
+/// A seat that has seen one entry knows that the history is full if the limit is one, and not if the limit is two.
 pub fn a_full_history_of_an_example()
     ensures full { KnowsItFull (knows 0 1 1) }
     ensures full_by_others { KnowsItFull (knows 1 1 1) }
     ensures not_full { KnowsItFull (knows 0 1 2) → ⊥ }
 {}
 
-/// A process is strange if its entries are not its transcript, even if the list has no transcript for it. Only the
-/// lowest strange process is reported.
+/// A process is strange if its entries in the history are not its transcript. If the list has no transcript for the
+/// process, its transcript is empty. Only the lowest strange process is reported.
 pub fn strange_processes_of_an_example()
     ensures strange { IsLeastStrange (opened ∷ exited ∷ copied ∷ []) ((opened ∷ copied ∷ []) ∷ []) 1 }
     ensures not_borne_out { IsLeastStrange (opened ∷ exited ∷ copied ∷ [])
@@ -141,7 +145,7 @@ pub fn strange_processes_of_an_example()
     ensures not_later { IsLeastStrange (opened ∷ exited ∷ copied ∷ []) ((opened ∷ []) ∷ []) 1 → ⊥ }
 {}
 
-/// A fault of either of two workers counts.
+/// `EitherFails` holds if either one of the two results has the given fault.
 pub fn either_of_two_fails()
     ensures first { (before last : Result ℕ WorkerFault) → before ≡ Err worker.HistoryFull
         → EitherFails worker.HistoryFull before last }

@@ -1,4 +1,4 @@
-//! Runs programs by many threads, and reports the one history that they make.
+//! Runs the programs of all processes, on one thread or on several, and reports the one history that the run makes.
 #![tactic(auto)]
 
 mod assignments;

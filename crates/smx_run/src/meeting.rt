@@ -1,4 +1,4 @@
-//! The meeting of all seats after their programs have ended.
+//! The meeting of all seats after their programs have ended: one seat takes over everything that the others have seen.
 
 ghost use Rattle.std.specs.Prelude.{◌≡◌, ◌≢◌, [], All, map, IfOk};
 ghost use Rattle.smx_shared.specs.Calls.{EndsAs};
@@ -12,7 +12,8 @@ use smx_types::NoMemory;
 use std::alloc::Global;
 
 /// Lets the first seat meet all the others. Returns this seat, and the front that each seat saw when its program had
-/// ended. The system that this seat closes has all entries that the seats made.
+/// ended. If this seat closes the shared system, the returned system has exactly the entries that the seats made, for
+/// each of their processes.
 pub fn meet_all<K: EntrySink>(
     alloc: Global,
     shared: &Shared<K>,

@@ -13,7 +13,8 @@ pub struct Report {
     pub drivers: Drivers,
     pub entries: Entries,
     pub view: ConfigView,
-    /// For each process, the front that was seen after its program had ended. A run fills this list.
+    /// For each process, the front (the numbers of entries and links) that was seen after its program had ended. A run
+    /// fills this list; `gather` leaves it empty.
     pub fronts: Fronts,
 }
 

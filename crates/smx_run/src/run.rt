@@ -1,4 +1,4 @@
-//! A run: the programs of all processes, by some workers.
+//! A run: some workers perform the programs of all processes.
 
 ghost use Rattle.std.specs.Prelude.{◌≡◌, ◌≤◌, ◌<◌, ◌⊎◌, [], length, map, IfOk, IfErr, OnOk, OnErr, IsErrOf};
 ghost use Rattle.std.specs.List.{sum_by};
@@ -37,8 +37,9 @@ pub const MAX_WORKERS: usize = 64;
 /// each program had ended.
 ///
 /// Fails before any command is performed if the drivers are invalid. Fails with out of memory if an allocation fails.
-/// On several workers it may also fail because a worker's thread can't be started, or because the history is full. Out
-/// of memory takes precedence over a thread that can't be started, and this over a full history.
+/// On several workers it may also fail because a worker's thread can't be started, or because the history is full. If
+/// several workers fail, the run reports the fault that comes first in this list: out of memory, a thread that can't be
+/// started, a full history.
 pub fn run_programs<R: Threads + Wait + Sync, G: Gate + Sync>(
     rt: &R,
     alloc: Global,
@@ -60,8 +61,8 @@ pub fn run_programs<R: Threads + Wait + Sync, G: Gate + Sync>(
 }
 
 /// Runs the programs as `run_programs` does, on a new system whose entries go to `sink`. Returns the system after all
-/// commands, and the front that was seen after each program had ended. A run on one worker, or of one process, is a
-/// loop on this thread.
+/// commands, and for each program the front that was seen after the program had ended. A run on one worker, or of one
+/// process, is a loop on this thread.
 pub fn run_system<R: Threads + Wait + Sync, K: EntrySink + Send, G: Gate + Sync>(
     rt: &R,
     alloc: Global,
@@ -117,8 +118,8 @@ fn front_of<K: EntrySink>(system: &System<K>) -> Front
     }
 }
 
-// Runs each program in turn, on this thread, and reads the front after each. The limit allows all commands, so this
-// fails only if it is out of memory. It then performs no more commands.
+// Runs one program after the other on this thread, and takes the front after each program. The limit allows all
+// commands, so the only fault is out of memory. After a fault, performs no more commands.
 fn run_alone<K: EntrySink, G: Gate>(
     alloc: Global,
     system: &mut System<K>,
@@ -146,7 +147,7 @@ fn run_alone<K: EntrySink, G: Gate>(
     Ok(Fronts::from_vec(fronts))
 }
 
-// Performs the commands of this process, in order, up to the first fault. Calls the gate for each.
+// Performs the commands of this process, in order, up to the first fault. Calls the gate before and after each command.
 fn perform_all<K: EntrySink, G: Gate>(
     system: &mut System<K>,
     process: Process,

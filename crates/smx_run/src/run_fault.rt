@@ -1,4 +1,4 @@
-//! Why a run is refused, in the words that a program prints.
+//! The reasons why a run is refused, and the words that they print.
 
 use crate::worker_fault::WorkerFault;
 use smx_config::ConfigFault;
@@ -6,34 +6,35 @@ use smx_shared::{ApplyFault, CloseFault};
 use smx_types::{NoMemory, Process};
 use std::fmt;
 
-/// Why a run was refused.
+/// The reason why a run was refused.
 #[derive(Clone, Copy, Debug, PartialEq, Eq)]
 pub enum RunFault {
     /// An allocation failed.
     NoMemory,
-    /// A worker's thread could not be started, or there was no memory for what it is given. Prints as `NoMemory` does.
-    /// No contract knows whether a thread starts, so only tests show that a run fails with this then, and not with
-    /// `NoMemory`.
+    /// A worker's thread could not be started, or there was no memory for the values that the thread gets. Prints as
+    /// `NoMemory` does. No contract knows whether a thread starts. So only tests show that a run then fails with
+    /// `NoThread`, and not with `NoMemory`.
     NoThread,
-    /// The entries of the process with this number in the history are not those that its calls returned. By the law
+    /// In the history, the entries of the process with this number are not those that its calls returned. By the law
     /// `refusals_have_few_causes`, no run is refused for this.
     Strange(u32),
     /// No configuration can have these drivers.
     ConfigFault(ConfigFault),
     /// The history is full.
     HistoryFull,
-    /// A worker never gave the turn back. By the same law, no run is refused for this.
+    /// A worker never gave the turn back. By the law `refusals_have_few_causes`, no run is refused for this.
     Held,
-    /// A transcript has this number of entries, fewer than were asked for. No run is refused for this.
+    /// A transcript has this number of entries, and more were asked for. No run is refused for this.
     FewEntries(usize),
-    /// A page of this number of entries is over the limit. No run is refused for this.
+    /// A page has no room for this number of entries. No run is refused for this.
     LongPage(usize),
 }
 
-/// Why no report was made of a system and the transcripts of its callers (the entries that each has kept).
+/// The reason why no report was made of a system and its transcripts. The transcript of a process is the list of
+/// entries that its caller has kept.
 #[derive(Clone, Copy, Debug, PartialEq, Eq)]
 pub enum GatherFault {
-    /// The entries of this process in the history are not its transcript.
+    /// In the history, the entries of this process are not its transcript.
     Strange(Process),
     /// An allocation failed.
     NoMemory,

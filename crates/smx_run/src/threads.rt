@@ -1,4 +1,4 @@
-//! Many workers on threads. The first worker runs on the calling thread.
+//! Runs several workers on threads. The first worker runs on the calling thread.
 
 ghost use Rattle.std.specs.Prelude.{◌≡◌, ◌≢◌, ◌≤◌, ◌⊎◌, List, [], ◌∷◌, ◌++◌, All, length, map, Err};
 ghost use Rattle.std.specs.Prelude.{IfOk, IfErr, IsErrOf};
@@ -95,8 +95,8 @@ fn run_worker<R: Wait, K: EntrySink, G: Gate>(
     Ok(run_assigned(rt, alloc, shared, assignment, gate)?)
 }
 
-// The values of which the promise of a worker's thread speaks (`kept_by` below): the assignment that the thread was
-// given, and the shared system on which it ran this assignment.
+// The result of a worker's thread keeps a promise (`kept_by` below) about two values: the assignment that the thread
+// was given, and the shared system on which the thread ran this assignment. `Runs` has these two.
 #[derive(Drop)]
 struct Runs<K: EntrySink>(Snapshot<Vec<SeatedProgram<Seat<K>>>>, Snapshot<Shared<K>>);
 
@@ -135,9 +135,9 @@ fn run_assignments<R: Threads + Wait + Sync, K: EntrySink + Send, G: Gate + Sync
     )
 }
 
-// If only one assignment is left, runs it on this thread. Otherwise starts a thread for the last one, meanwhile runs
-// those before it in the same way, and then waits for the thread. If the thread can't be started, those before it are
-// run all the same.
+// If there is only one assignment, runs it on this thread. Otherwise starts a thread for the last assignment, calls
+// itself for the assignments before the last, and then waits for the thread. If the thread can't be started, the
+// assignments before the last are still run.
 fn run_from<'s, E, R: Threads + Wait + Sync, K: EntrySink + Send, G: Gate + Sync>(
     scope: &'s Scope<'s, E>,
     rt: &'s R,
@@ -175,19 +175,19 @@ fn run_from<'s, E, R: Threads + Wait + Sync, K: EntrySink + Send, G: Gate + Sync
     }
 }
 
-// Joins the results of some assignments with that of one more. If both are faults, returns the first one in this order:
-// out of memory, no thread, a full history.
+// Joins the results of some assignments with the result of the next assignment. If both results are faults, returns the
+// fault that comes first in this order: out of memory, no thread, a full history.
 fn and_then<K: EntrySink>(
     before: Result<Vec<Vec<EndedProgram<Seat<K>>>>, WorkerFault>,
     last: Result<Vec<EndedProgram<Seat<K>>>, WorkerFault>,
 ) -> Result<Vec<Vec<EndedProgram<Seat<K>>>>, WorkerFault>
-    // what is returned
+    // on success
     ensures called { IfOk result (λ v. (all : List (List Calls)) (one : List Calls)
         → IfOk before (λ b. map made_calls b.items ≡ all) → IfOk last (λ d. made_calls d ≡ one)
         → map made_calls v.items ≡ all ++ one ∷ []) }
     ensures ended { IfOk result (λ v. (name : SharedId)
         → IfOk before (AllHaveEnded name) → IfOk last (HaveEnded name) → AllHaveEnded name v) }
-    // which fault is returned
+    // on failure
     ensures memory_first { EitherFails worker.NoMemory before last → result ≡ Err worker.NoMemory }
     ensures thread { result ≡ Err worker.NoThread → EitherFails worker.NoThread before last }
     ensures thread_next { EitherFails worker.NoThread before last → (EitherFails worker.NoMemory before last → ⊥)

@@ -19,7 +19,7 @@ pub struct SeatedProgram<S: Drop> {
     pub program: Commands,
 }
 
-/// A process whose program has ended: its seat, and the front that the seat saw then.
+/// A process whose program has ended: its seat, and the front that was seen with this seat afterwards.
 #[derive(Drop)]
 pub struct EndedProgram<S: Drop> {
     pub seat: S,
@@ -28,7 +28,7 @@ pub struct EndedProgram<S: Drop> {
 
 /// Runs the assigned processes one after the other, each to its end, up to the first fault. Fails if it is out of
 /// memory. Fails with `HistoryFull` only if some seat of the door has seen the history full. Works with any
-/// implementation of `Door`.
+/// implementation of a shared system (`Door`).
 pub fn run_assigned<D: Door, G: Gate, R: Wait>(
     rt: &R,
     alloc: Global,
@@ -71,8 +71,8 @@ where
     Ok(EndedProgram { seat, front })
 }
 
-// Performs the commands of a program with its seat, in order, up to the first fault. Calls the gate for each, with the
-// process of the seat.
+// Performs the commands of a program with its seat, in order, up to the first fault. Calls the gate before and after
+// each command, with the process of the seat.
 fn run_program<D: Door, G: Gate, R: Wait>(
     rt: &R,
     alloc: Global,

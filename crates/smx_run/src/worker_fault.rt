@@ -9,7 +9,7 @@ use std::alloc::AllocError;
 pub enum WorkerFault {
     /// An allocation failed.
     NoMemory,
-    /// The thread of a worker could not be started, or there was no memory for what it is given.
+    /// The thread of a worker could not be started, or there was no memory for the values that the thread gets.
     NoThread,
     /// The history is full.
     HistoryFull,
