@@ -9,19 +9,19 @@ use std::io::{Read, Write};
 #[derive(Clone, Copy, Debug, PartialEq, Eq)]
 pub struct Failed;
 
-/// A reader. No read may follow one that failed or showed the end.
+/// A reader. No read may follow a read that failed or that showed the end.
 pub trait Feed {
     /// The bytes that further reads will give, if they are known.
     ghost remaining: { Self → Option (List ℕ) };
 
-    /// Whether the end was reached: a read gave no bytes.
+    /// Whether the last read gave no bytes, which shows the end.
     ghost ended: { Self → Bool };
 
     /// How many reads have failed.
     ghost failures: { Self → ℕ };
 
-    /// Reads into the beginning of the buffer, which must not be empty, and returns the number of bytes: 0 only at
-    /// the end. Fails only if the reader failed; it then gave no bytes.
+    /// Reads into the beginning of the buffer, which must not be empty. Returns the number of bytes: 0 only at the end.
+    /// Fails only if the reader failed; the reader then gave no bytes.
     fn read(&mut self, buffer: &mut [u8]) -> Result<usize, Failed>
         requires room { 0 < length buffer.old }
         requires before_the_end { ended self.old ≡ false }
@@ -34,19 +34,19 @@ pub trait Feed {
         ensures failed { OnErr result (failures self.new ≡ 1) };
 }
 
-/// A writer. No write or flush may follow one that failed.
+/// A writer. After a write or flush that failed, neither may follow.
 pub trait Sink {
-    /// The bytes that it holds, if they are known.
+    /// The bytes that the writer holds, if they are known.
     ghost contents: { Self → Option (List ℕ) };
 
-    /// Whether it was flushed after the last write.
+    /// Whether the writer was flushed after the last write.
     ghost flushed: { Self → Bool };
 
     /// How many writes and flushes have failed. A write that takes none of its bytes has failed.
     ghost failures: { Self → ℕ };
 
-    /// Writes the beginning of some bytes and returns how many it wrote, at least one. Fails only if the writer
-    /// failed or took no byte; nothing was written then.
+    /// Writes the beginning of `bytes`, and returns the number of bytes that it wrote, at least one. Fails only if the
+    /// writer failed or took no byte; then nothing was written.
     fn write(&mut self, bytes: &[u8]) -> Result<usize, Failed>
         requires some { 0 < length bytes.now }
         requires fine_so_far { failures self.old ≡ 0 }
@@ -65,7 +65,7 @@ pub trait Sink {
         ensures failed { OnErr result (failures self.new ≡ 1) };
 }
 
-/// Makes a feed of a reader of std. Each of its errors is a failure, including an interrupted call.
+/// Makes a feed of a reader of std. Each error of the reader is a failure, even an interrupted call.
 #[derive(Drop)]
 pub struct Source<R> {
     pub reader: R,
@@ -111,12 +111,12 @@ impl<R: Read> Feed for Source<R> {
     }
 }
 
-/// Makes a sink of a writer of std. Each of its errors is a failure, including an interrupted call, and so is a write
-/// that takes none of its bytes.
+/// Makes a sink of a writer of std. Each error of the writer is a failure, even an interrupted call. A write that takes
+/// no byte is a failure too.
 #[derive(Drop)]
 pub struct Target<W> {
     pub writer: W,
-    /// Whether it was flushed after the last write.
+    /// Whether the writer was flushed after the last write.
     pub flushed: bool,
     /// How many writes and flushes have failed.
     pub failures: u64,

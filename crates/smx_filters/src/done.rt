@@ -8,10 +8,10 @@ use smx_config::Verdict;
 /// The work that the program has done.
 #[derive(Clone, Copy, Debug, PartialEq, Eq)]
 pub enum Done {
-    /// It wrote all that it was asked for: a transcript, fronts, a picture, the answers of a live session, help or
-    /// the version.
+    /// The program wrote everything that it was asked for: a transcript, fronts, a picture, the answers of a live
+    /// session, help or the version.
     Finished,
-    /// It judged a transcript and wrote the verdict.
+    /// The program judged a transcript and wrote the verdict.
     Judged(Verdict),
 }
 

@@ -15,9 +15,10 @@ use smx_draw::{Form, draw};
 use smx_text::read_transcript;
 use std::alloc::Global;
 
-/// Reads a transcript from `feed`, legal or not, and writes a picture of the configuration that it shows to `sink`, in
-/// this form. Keeps a malformed text. Requires that neither `feed` nor `sink` has failed before and that the feed has
-/// not ended. Reads at most 16,777,217 bytes. Checks for faults in this order: reading, text, drawing, writing.
+/// Reads a transcript from `feed`, legal or not, and writes to `sink`, in this form, a picture of the configuration
+/// that the transcript shows. Keeps the text if it is malformed. Requires that neither `feed` nor `sink` has failed
+/// before and that the feed has not ended. Reads at most 16,777,217 bytes. Checks for faults in this order: reading,
+/// text, drawing, writing.
 pub fn draw_text<F: Feed, S: Sink>(
     alloc: Global,
     feed: &mut F,

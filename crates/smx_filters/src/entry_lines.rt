@@ -8,8 +8,9 @@ use smx_text::add_entry_line;
 use smx_types::{Command, Entries, Entry, NoMemory, Process, Reply};
 use std::marker::Model;
 
-/// Writes the line of each entry that it is given, and then drops the entry. Contracts see the list of the entries.
-/// After an allocation has failed, it grows no further and has no lines to return.
+/// An entry sink, which receives the entries of a run: writes the line of each entry, and then drops the entry.
+/// Contracts see the list of the entries. After an allocation has failed, no line is written any more, and no lines can
+/// be returned.
 #[derive(Drop)]
 pub struct EntryLines {
     // `None` after an allocation has failed.
@@ -31,7 +32,8 @@ impl Model for EntryLines {
 }
 
 impl EntryLines {
-    /// Begins with no entry, in the memory of `room`, whose bytes are discarded. Takes no memory.
+    /// Begins with no entry. The lines will be written in the memory of `room`, whose bytes are discarded. Takes no
+    /// memory.
     pub fn new(room: Vec<u8>) -> EntryLines
         ensures { result ≡ [] }
     {

@@ -1,4 +1,4 @@
-//! Filters from bytes to bytes that keep a text whose fault is to be explained.
+//! A check and a run, from bytes to bytes, that keep a text with a fault, so that the fault can be explained.
 
 ghost use Rattle.std.specs.Prelude.{◌≡◌, ◌≤◌, ◌++◌, false, IfErr, IfOk};
 ghost use Rattle.smx_run.specs.declared.run.TheConstants.{MAX_WORKERS};
@@ -28,10 +28,10 @@ use std::alloc::{AllocError, Global};
 use std::sync::Wait;
 use std::thread::Threads;
 
-/// Judges the transcript in `feed` as `check_text` does. Writes to `sink` what that writes and, below it, the first
-/// line in which the transcript and its replay differ. Keeps the text if it or its drivers have a fault. Reports
-/// faults in the order of `check_text`. A fault of the explaining has the same place in this order as a fault of the
-/// judging.
+/// Judges the transcript in `feed` as `check_text` does. Writes to `sink` the line that `check_text` writes. If the
+/// transcript is not legal, writes below it the first line in which the transcript and its replay differ. Keeps the
+/// text if the text or its drivers have a fault. Checks for faults in the order of `check_text`: reading, text,
+/// drivers, judging and explaining, writing.
 pub fn check_explained<F: Feed, S: Sink>(
     alloc: Global,
     feed: &mut F,
@@ -54,8 +54,8 @@ pub fn check_explained<F: Feed, S: Sink>(
     }
 }
 
-/// Runs the programs in `feed` as `run_text` does, and writes to `sink` what that writes. Keeps the text if it or its
-/// drivers have a fault.
+/// Runs the programs in `feed` as `run_text` does, and writes to `sink` what `run_text` writes. Keeps the text if the
+/// text or its drivers have a fault.
 pub fn run_explained<R: Threads + Wait + Sync, F: Feed, S: Sink, G: Gate + Sync>(
     rt: &R,
     alloc: Global,
@@ -91,8 +91,8 @@ fn explained(alloc: Global, input: &[u8]) -> Result<(Verdict, Vec<u8>), MainFaul
     Ok((verdict, output))
 }
 
-// Returns the explanation of the transcript that the input spells, and that has this verdict. Only a verdict other than
-// `legal` takes a replay.
+// Returns the explanation of a transcript. `input` is the text that spells it, and `verdict` the verdict on it. If the
+// verdict is `legal`, no replay is made.
 fn told_of(
     alloc: Global,
     input: &[u8],
@@ -112,7 +112,7 @@ fn told_of(
     }
 }
 
-// Runs the programs that the input spells. Returns the requested text.
+// Runs the programs that the input spells. Returns the transcript, or the text of the fronts if `fronts` is set.
 fn run_of<R: Threads + Wait + Sync, G: Gate + Sync>(
     rt: &R,
     alloc: Global,

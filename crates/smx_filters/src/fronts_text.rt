@@ -1,4 +1,4 @@
-//! The fronts text.
+//! The text of fronts. A front is the number of entries of a history up to some moment, and the number of links then.
 
 ghost use Rattle.std.specs.Prelude.{◌≡◌, ◌++◌, IfOk, OnOk};
 ghost use Rattle.smx_filters.specs.FrontsText.{fronts_text, front_line};
@@ -7,8 +7,8 @@ use smx_shared::Front;
 use smx_types::NoMemory;
 use std::alloc::Global;
 
-/// Returns the text of fronts: one line for each, with its index as the number of the process. Fails only if it is
-/// out of memory.
+/// Returns the text of fronts. It has a line for each front, with the index of the front as the number of the process.
+/// Fails only if it is out of memory.
 pub fn fronts_text(alloc: Global, fronts: &[Front]) -> Result<Vec<u8>, NoMemory>
     ensures { IfOk result (λ text. text.items ≡ fronts_text fronts.now) }
 {
@@ -23,7 +23,7 @@ pub fn fronts_text(alloc: Global, fronts: &[Front]) -> Result<Vec<u8>, NoMemory>
     Ok(text)
 }
 
-// Adds the line of one more front.
+// Appends the line of a front.
 fn add_front(
     alloc: Global,
     text: &mut Vec<u8>,

@@ -31,9 +31,9 @@ use smx_text::laws::{one_text_has_one_reading, one_transcript_has_one_reading};
 use smx_trace::laws_of_replays::a_transcript_has_one_replay;
 use smx_trace::laws_of_traces::a_transcript_has_one_trace;
 
-/// A check, with or without an explanation, a replay, a trace, and a run on one worker each have only one answer to an
-/// input, and only one output, unless memory runs out. So no input both succeeds and is refused, and a refused input
-/// has only one fault.
+/// About a check (with or without an explanation), a replay, a trace, and a run on one worker whose output is a
+/// transcript. Unless memory runs out, each of these has only one result and one output for an input. So an input can't
+/// both succeed and be refused, and a refused input has only one fault.
 pub fn an_input_has_one_answer()
     ensures checked { (input : List ℕ) (one other : Result (Verdict × List ℕ) MainFault)
         → Answers checking input one → Answers checking input other
@@ -59,7 +59,8 @@ pub fn an_input_has_one_answer()
     one_transcript_has_one_reading();
 }
 
-/// The same holds of a run with at most one process, by any number of workers.
+/// Unless memory runs out, a run of at most one process whose output is a transcript has only one result and one output
+/// for an input, on any number of workers.
 pub fn a_run_of_one_process_has_one_answer()
     ensures { (workers : ℕ) (input : List ℕ) (one other : Result (Unit {0} × List ℕ) MainFault)
         → ((version : Version) (p : ProgramLists) → Spells (programs_grammar version) input p → length p.programs ≤ 1)
@@ -69,8 +70,8 @@ pub fn a_run_of_one_process_has_one_answer()
     one_text_has_one_reading();
 }
 
-/// Programs that any number of workers have run are not refused for their drivers, whether the run writes fronts or a
-/// transcript.
+/// If a run of an input can succeed, the input can't be refused for its drivers. This holds for any number of workers,
+/// whether the run writes a transcript or fronts.
 pub fn what_is_run_has_drivers()
     ensures { (fronts : Bool) (workers : ℕ) (input output : List ℕ) (done : Unit {0}) (fault : ConfigFault)
         → GivesFor (running fronts workers) input done output
@@ -79,8 +80,9 @@ pub fn what_is_run_has_drivers()
     one_text_has_one_reading();
 }
 
-/// The transcript that a run writes, by any number of workers, spells a report of the programs in their version, and
-/// nothing else. A check judges it legal.
+/// A check judges the transcript that a run writes legal, on any number of workers. Every transcript that its bytes
+/// spell is a report that is promised for the programs, in their version. (A report is drivers, a history and the view
+/// after it.)
 pub fn a_run_writes_one_legal_transcript()
     ensures legal { (workers : ℕ) (programs : ProgramLists) (output : List ℕ)
         → IsWrittenFor false workers programs output → (line : List ℕ) × GivesFor checking output Legal line }
@@ -92,8 +94,10 @@ pub fn a_run_writes_one_legal_transcript()
     one_transcript_has_one_reading();
 }
 
-/// The fronts that a run writes are those of one report of the programs: one for each process, none past the report's
-/// end, each after all commands of its process. On one worker the report has one program after the other.
+/// All fronts that a run writes are those of one report that is promised for the programs, and each process has one
+/// front. The front of a process is that of the first entries of the report, up to some point, and these entries have
+/// all commands of the process. No front counts more entries than the report has. On one worker the report has the
+/// programs one after the other.
 pub fn a_run_writes_the_fronts_of_one_report()
     ensures { (workers : ℕ) (programs : ProgramLists) (output : List ℕ) → IsWrittenFor true workers programs output
         → (report : Transcript) × (fronts : List Front) × IsReportOf programs report × (output ≡ fronts_text fronts)

@@ -1,5 +1,5 @@
-//! Laws of runs, checks, replays, traces, drawings and pages over memory, each the contract of a function that does
-//! nothing.
+//! Laws of runs, checks, replays, traces, drawings and pages whose input and output are in memory, each the contract of
+//! a function that does nothing.
 
 ghost use Rattle.std.specs.Prelude.{◌≡◌, ℕ, Bool, true, false, List, [], Option, Result, Some, Err};
 ghost use Rattle.smx_types.specs.ProgramLists.{ProgramLists};
@@ -18,9 +18,9 @@ ghost use Rattle.smx_filters.specs.TraceText.{TracesText, tracing};
 ghost use Rattle.smx_filters.specs.declared.main_fault.MainFault.{MainFault};
 ghost use Rattle.smx_filters.specs.declared.main_fault.MainFault.TheVariants.{ReadFailed};
 
-/// The results of a run for an input in memory, if neither the reader nor the writer fails. If the reader fails, the
-/// run reports that and writes nothing; if the writer fails, the run has seen the end of the input, and has written a
-/// beginning of its output.
+/// The results of a run for an input in memory: if nothing fails (`ends`), if the reader fails (`unread`), and if the
+/// writer fails (`cut_short`). A run whose reader fails reports that, and writes nothing. A run whose writer fails has
+/// seen the end of the input, and has written a beginning of an output that is allowed.
 pub fn runs_end_in_memory()
     ensures ends { (input left output : List ℕ) (workers : ℕ) (fronts ended flushed : Bool)
         (answer : Result (Unit {0}) MainFault)
@@ -42,7 +42,9 @@ pub fn one_worker_writes_one_transcript()
         → IsWrittenFor false 1 programs other → one ≡ other }
 {}
 
-/// The same of a check, which answers its verdict, but not that a failed writer leaves no input unread.
+/// The results of a check for an input in memory: if nothing fails (`ends`), if the reader fails (`unread`), and if the
+/// writer fails (`cut_short`). On success, the result is the verdict. Unlike the law on runs, `cut_short` doesn't say
+/// that the end of the input was seen.
 pub fn checks_end_in_memory()
     ensures ends { (input left output : List ℕ) (ended flushed : Bool) (answer : Result Verdict MainFault)
         → ChecksText (Some input) (Some left) ended 0 (Some []) (Some output) flushed 0 answer
@@ -55,7 +57,8 @@ pub fn checks_end_in_memory()
         → IsCutShort checking input output answer }
 {}
 
-/// The same of a replay, which answers that it is done.
+/// The results of a replay for an input in memory: if nothing fails (`ends`), if the reader fails (`unread`), and if
+/// the writer fails (`cut_short`). On success, the result only says that the replay is done.
 pub fn replays_end_in_memory()
     ensures ends { (at : Option ℕ) (input left output : List ℕ) (ended flushed : Bool)
         (answer : Result (Unit {0}) MainFault)
@@ -71,7 +74,8 @@ pub fn replays_end_in_memory()
         → IsCutShort (replaying at) input output answer }
 {}
 
-/// The same of a trace, which answers that it is done.
+/// The results of a trace for an input in memory: if nothing fails (`ends`), if the reader fails (`unread`), and if the
+/// writer fails (`cut_short`). On success, the result only says that the trace is done.
 pub fn traces_end_in_memory()
     ensures ends { (each : Bool) (input left output : List ℕ) (ended flushed : Bool)
         (answer : Result (Unit {0}) MainFault)
@@ -87,7 +91,8 @@ pub fn traces_end_in_memory()
         → IsCutShort (tracing each) input output answer }
 {}
 
-/// The same of a drawing, which answers that it is done.
+/// The results of a drawing for an input in memory: if nothing fails (`ends`), if the reader fails (`unread`), and if
+/// the writer fails (`cut_short`). On success, the result only says that the drawing is done.
 pub fn drawings_end_in_memory()
     ensures ends { (input left output : List ℕ) (form : Form) (ended flushed : Bool)
         (answer : Result (Unit {0}) MainFault)
@@ -103,7 +108,8 @@ pub fn drawings_end_in_memory()
         → IsCutShort (drawing form) input output answer }
 {}
 
-/// The same of a page of steps, which answers that it is done.
+/// The results of a page of steps for an input in memory: if nothing fails (`ends`), if the reader fails (`unread`),
+/// and if the writer fails (`cut_short`). On success, the result only says that the page is done.
 pub fn pages_end_in_memory()
     ensures ends { (input left output : List ℕ) (ended flushed : Bool)
         (answer : Result (Unit {0}) MainFault)
@@ -119,7 +125,8 @@ pub fn pages_end_in_memory()
         → IsCutShort stepping input output answer }
 {}
 
-/// A page is refused as too long from some number of entries on only if a page of that many is over a limit.
+/// If a page is refused as too long, the refusal names a number of entries. A page of this number of entries is over a
+/// limit.
 pub fn a_page_refused_as_long_is_over_a_limit()
     ensures { (t : Transcript) (count : ℕ) → RefusesSteps t (LongPage count) → IsOver t count }
 {}

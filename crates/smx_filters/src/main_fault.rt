@@ -1,4 +1,4 @@
-//! Why the program fails, in the words that it prints.
+//! Why the program fails, and the words that it then prints.
 
 ghost use Rattle.std.specs.Prelude.{◌≡◌};
 ghost use Rattle.smx_filters.specs.Statuses.{status_of};
@@ -17,10 +17,10 @@ use thiserror::Error;
 /// Why the program failed. Prints the words that follow `muxsim: ` on standard error.
 #[derive(Debug, Drop, Error)]
 pub enum MainFault {
-    /// A run was refused, or a transcript that was to be judged.
+    /// The programs or the transcript were refused, or memory ran out.
     #[error("refused: {0}")]
     Refused(RunFault),
-    /// The input is not a text of its kind, or memory ran out while it was read.
+    /// The input is not a text of the expected kind, or memory ran out while the text was read.
     #[error("{}", TextWords(*.0))]
     Text(TextFault),
     /// More than 16,777,216 bytes were read.

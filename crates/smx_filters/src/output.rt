@@ -8,8 +8,8 @@ ghost use Rattle.smx_filters.specs.declared.main_fault.MainFault.TheVariants.{Wr
 use crate::device::Sink;
 use crate::main_fault::MainFault;
 
-/// Writes all of the bytes, then flushes. Fails with `WriteFailed`, and only if the sink failed; a beginning of the
-/// bytes was written then. Each write takes at least one byte.
+/// Writes all of the bytes, then flushes. Fails only with `WriteFailed`, and only if the sink failed; then a beginning
+/// of the bytes was written.
 pub fn write_all<S: Sink>(sink: &mut S, bytes: &[u8]) -> Result<(), MainFault>
     requires { S.failures sink.old ≡ 0 }
     ensures written { OnOk result (Appends (S.contents sink.old) (S.contents sink.new) bytes.now) }

@@ -1,4 +1,4 @@
-//! A fault that is to be explained.
+//! The fault of a filter, with the text in which it can be shown.
 
 ghost use Rattle.std.specs.Prelude.{◌≡◌, false, true, None};
 ghost use Rattle.smx_filters.specs.ExplainText.{IsKept, is_in_text};
@@ -6,7 +6,7 @@ ghost use Rattle.smx_filters.specs.ExplainText.{IsKept, is_in_text};
 use crate::main_fault::MainFault;
 use smx_run::RunFault;
 
-/// Why a filter failed, and the text in which the fault is to be shown.
+/// Why a filter failed, and the text in which the fault can be shown.
 #[derive(Drop)]
 pub struct Refusal {
     pub fault: MainFault,
@@ -14,8 +14,8 @@ pub struct Refusal {
     pub text: Option<Vec<u8>>,
 }
 
-/// Returns the refusal for this fault, with the input if the fault is one of the text or of its drivers, and else
-/// without it.
+/// Returns the refusal for this fault. If the fault is one of the text or of its drivers, the refusal keeps the input;
+/// otherwise it keeps nothing.
 pub(crate) fn kept_for(fault: MainFault, input: Vec<u8>) -> Refusal
     ensures fault { result.fault ≡ fault }
     ensures kept { is_in_text fault ≡ true → IsKept result.text input.items }

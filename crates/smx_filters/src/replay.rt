@@ -19,11 +19,12 @@ use smx_trace::{first_entries, replay};
 use smx_types::Transcript;
 use std::alloc::Global;
 
-/// Reads a transcript from `feed`, performs its commands in order, and writes the transcript that they give to `sink`,
-/// in the same version; or those of its first `at` entries alone. Ignores the replies and the configuration of the
-/// transcript that it read. So it gives a legal transcript back. Keeps the text if it or its drivers have a fault.
-/// Requires that neither `feed` nor `sink` has failed before and that the feed has not ended. Reads at most 16,777,217
-/// bytes. Checks for faults in this order: reading, text, the number of entries, drivers, replaying, writing.
+/// Reads a transcript from `feed`, performs its commands in order, and writes the transcript that results to `sink`, in
+/// the same version. If `at` is a number, performs only the commands of this number of first entries. Ignores the
+/// replies and the configuration of the transcript that was read. So the replay of all entries of a legal transcript is
+/// this transcript. Keeps the text if the text or its drivers have a fault. Requires that neither `feed` nor `sink` has
+/// failed before and that the feed has not ended. Reads at most 16,777,217 bytes. Checks for faults in this order:
+/// reading, text, the number of entries, drivers, replaying, writing.
 pub fn replay_text<F: Feed, S: Sink>(
     alloc: Global,
     feed: &mut F,
@@ -44,7 +45,8 @@ pub fn replay_text<F: Feed, S: Sink>(
     }
 }
 
-// Returns the text of the replay of the transcript that the input spells, or of its first entries.
+// Returns the text of the replay of the transcript that the input spells. If `at` is a number, replays only this number
+// of first entries.
 fn text_of_replay(alloc: Global, input: &[u8], at: Option<usize>) -> Result<Vec<u8>, MainFault>
     ensures { Answers (replaying at) input.now (items_of result) }
 {
@@ -56,7 +58,7 @@ fn text_of_replay(alloc: Global, input: &[u8], at: Option<usize>) -> Result<Vec<
     Ok(text)
 }
 
-// Returns the part of the transcript that is to be replayed. Fails if more entries are asked for than it has.
+// Returns the part of the transcript that is to be replayed. Fails if `at` is more than the number of its entries.
 fn asked_part(transcript: Transcript, at: Option<usize>) -> Result<Transcript, RunFault>
     ensures part { IfOk result (λ part. part ≡ asked_part at transcript) }
     ensures enough { IfOk result (λ _. IsPastEnd at transcript → ⊥) }

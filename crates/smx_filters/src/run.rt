@@ -1,4 +1,4 @@
-//! A run from bytes to bytes.
+//! A run of programs, from bytes to bytes.
 
 ghost use Rattle.std.specs.Prelude.{◌≡◌, ◌≤◌, false, IfOk, IfErr};
 ghost use Rattle.smx_filters.specs.Filters.{Answers};
@@ -20,13 +20,13 @@ use std::alloc::Global;
 use std::sync::Wait;
 use std::thread::Threads;
 
-/// Reads programs from `feed`, runs them on `workers` workers, 1 to 64, and writes the transcript of the run to `sink`,
-/// in the version of the programs; with `fronts` it writes instead, for each program, the front of the history at one
-/// moment after this program had ended. One worker runs one program after the other, by rising number, so its
-/// transcript is determined. With several workers, worker `p` modulo `workers` runs process `p`. The gate hears of each
-/// command. No command is performed before the whole text was read and found valid. Requires that neither `feed` nor
-/// `sink` has failed before and that the feed has not ended. Checks for faults in this order: reading, text, drivers,
-/// run, writing.
+/// Reads programs from `feed`, and runs them on `workers` workers, 1 to 64. Writes the transcript of the run to `sink`,
+/// in the version of the programs. With `fronts` it writes, in place of the transcript, a front for each program: the
+/// number of entries and the number of links at one moment after this program had ended. One worker runs one program
+/// after the other, by rising number, so there is only one transcript that it can write. With several workers, worker
+/// `p` modulo `workers` runs process `p`. `gate` is called for each command. No command is performed before the whole
+/// text was read and found valid. Requires that neither `feed` nor `sink` has failed before and that the feed has not
+/// ended. Checks for faults in this order: reading, text, drivers, run, writing.
 pub fn run_text<R: Threads + Wait + Sync, F: Feed, S: Sink, G: Gate + Sync>(
     rt: &R,
     alloc: Global,
@@ -49,8 +49,8 @@ pub fn run_text<R: Threads + Wait + Sync, F: Feed, S: Sink, G: Gate + Sync>(
     write_all(sink, output.as_slice())
 }
 
-// Runs the programs that the input spells. Returns the requested text. A transcript is made in the memory of the input;
-// for the fronts the input is freed.
+// Runs the programs that the input spells. Returns the transcript, made in the memory of the input; or, if `fronts` is
+// set, frees the input and returns the text of the fronts.
 fn text_of_run<R: Threads + Wait + Sync, G: Gate + Sync>(
     rt: &R,
     alloc: Global,
@@ -67,8 +67,8 @@ fn text_of_run<R: Threads + Wait + Sync, G: Gate + Sync>(
     Ok(text)
 }
 
-/// Runs the programs. Returns the requested text. A transcript is made in the memory of `room`, whose bytes are
-/// discarded; for the fronts `room` is freed.
+/// Runs the programs. Returns the transcript, made in the memory of `room`, whose bytes are discarded; or, if `fronts`
+/// is set, frees `room` and returns the text of the fronts.
 pub(crate) fn text_of_programs<R: Threads + Wait + Sync, G: Gate + Sync>(
     rt: &R,
     alloc: Global,
@@ -89,7 +89,7 @@ pub(crate) fn text_of_programs<R: Threads + Wait + Sync, G: Gate + Sync>(
     transcript_of_run(rt, alloc, room, programs, workers, gate)
 }
 
-// Runs the programs. Returns the transcript, in their version and in the memory of `room`, whose bytes are discarded.
+// Runs the programs. Returns the transcript in their version, made in the memory of `room`, whose bytes are discarded.
 // The line of each entry is written when the entry is made, and no entry is kept.
 fn transcript_of_run<R: Threads + Wait + Sync, G: Gate + Sync>(
     rt: &R,

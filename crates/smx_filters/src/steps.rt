@@ -16,10 +16,10 @@ use smx_text::read_transcript;
 use std::alloc::Global;
 
 /// Reads a transcript from `feed`, performs its commands in order, and writes a page to `sink`: a step for the
-/// beginning and for each entry, with its lines of a trace and a picture of the configuration after it. Keeps the text
-/// if it or its drivers have a fault. Requires that neither `feed` nor `sink` has failed before and that the feed has
-/// not ended. Reads at most 16,777,217 bytes. Checks for faults in this order: reading, text, the number of entries,
-/// drivers, the page, writing.
+/// beginning, and one for each entry. The step of an entry has the lines of its trace, and a picture of the
+/// configuration after it. Keeps the text if the text or its drivers have a fault. Requires that neither `feed` nor
+/// `sink` has failed before and that the feed has not ended. Reads at most 16,777,217 bytes. Checks for faults in this
+/// order: reading, text, the number of entries, drivers, the page, writing.
 pub fn steps_text<F: Feed, S: Sink>(
     alloc: Global,
     feed: &mut F,

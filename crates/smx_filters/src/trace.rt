@@ -15,11 +15,12 @@ use smx_text::read_transcript;
 use smx_trace::trace;
 use std::alloc::Global;
 
-/// Reads a transcript from `feed` and performs its commands in order, which gives a new transcript. Writes to `sink`
-/// the trace of the new one: the changes below each entry, and in the configuration the wait of each queue below the
-/// queue. If `each` is set, all waits are below each entry too. Keeps the text if it or its drivers have a fault.
-/// Requires that neither `feed` nor `sink` has failed before and that the feed has not ended. Reads at most 16,777,217
-/// bytes. Checks for faults in this order: reading, text, drivers, tracing, writing.
+/// Reads a transcript from `feed`, and performs its commands in order, which gives a new transcript. Writes the trace
+/// of the new transcript to `sink`. A trace has more lines: below each entry its changes, and in the configuration,
+/// below each queue, its `waits` line (why its first message can't move). If `each` is set, the `waits` lines of all
+/// queues are below each entry too. Keeps the text if the text or its drivers have a fault. Requires that neither
+/// `feed` nor `sink` has failed before and that the feed has not ended. Reads at most 16,777,217 bytes. Checks for
+/// faults in this order: reading, text, drivers, tracing, writing.
 pub fn trace_text<F: Feed, S: Sink>(
     alloc: Global,
     feed: &mut F,
