@@ -27,7 +27,7 @@ impl fmt::Display for ColumnWords {
     }
 }
 
-// Returns the words for a line in which only a space at its end is wrong, if this is such a line.
+// If only a space at the end of the line is wrong, returns the words that say so, and else no words.
 fn space_words(wanted: Wanted, column: usize, len: usize) -> &'static str
     ensures { result.now ≡ space_words wanted column len }
 {

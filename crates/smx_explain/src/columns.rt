@@ -17,7 +17,7 @@ pub struct LineColumn {
     pub wanted: Wanted,
 }
 
-/// Returns the column of the first wrong word, or of a missing word. A word is wrong if no line of this kind and
+/// Returns the column of the first wrong word, or of a missing word. A word is wrong if no valid line of this kind and
 /// version begins with the words before it and then this word. Returns `None` if the line is valid. Takes no memory.
 pub fn column_of(kind: LineKind, version: Version, line: &[u8]) -> Option<LineColumn>
     ensures { MatchOption result (IsWhole kind version line.now) (λ at. IsColumn kind version line.now at) }
@@ -40,7 +40,8 @@ pub fn column_of(kind: LineKind, version: Version, line: &[u8]) -> Option<LineCo
     ended(column, row)
 }
 
-/// Returns the word of a line that begins at a column, counted from 1. It is empty if the line ends before that.
+/// Returns the word that begins at this column of a line. Columns are counted from 1. The word is empty if the line
+/// ends before the column.
 pub fn word_at(line: &[u8], column: usize) -> &[u8]
     ensures { (word : List ℕ) → IsPartAt line.now column word → result.now ≡ word }
 {
@@ -62,7 +63,7 @@ fn first_choice(kind: LineKind) -> Choice
     }
 }
 
-// Splits a text at its first space, if it has one. Returns the word before it and the rest.
+// Splits a text at its first space, if it has one. Returns the word before the space, and what comes after the space.
 fn first_word(text: &[u8]) -> (&[u8], Option<&[u8]>)
     ensures free { IsFree SPACE result.0.now }
     ensures cut { text.now ++ SPACE ∷ [] ≡ result.0.now ++ SPACE ∷ left_of result.1 }

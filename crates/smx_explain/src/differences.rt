@@ -1,4 +1,5 @@
-//! The explanation below the verdict on a transcript: the first line in which it and its replay differ.
+//! The explanation that is shown below the verdict on a transcript: the first line in which the transcript and its
+//! replay differ.
 
 ghost use Rattle.std.specs.Prelude.{◌≡◌, MatchOption, IfErr, IfOk};
 ghost use Rattle.smx_config.specs.DriverFaults.{RefusesDrivers};
@@ -24,9 +25,10 @@ pub struct Difference<'a> {
     pub has: &'a [u8],
 }
 
-/// Returns the explanation of the transcript that a text spells. It is empty if the transcript is its own replay,
-/// which is so exactly if it is legal. Else it shows the first line in which the text and that of its replay differ,
-/// as each has it. Fails if the drivers are not valid, or if it is out of memory.
+/// Returns the explanation of a transcript, which must be the one that `text` spells. If the transcript is its own
+/// replay, the explanation is empty; this is so exactly if the transcript is legal. Otherwise, the explanation shows
+/// the first line in which `text` and the text of the replay differ: this line of `text`, and this line of the replay.
+/// Fails if the drivers are not valid, or if it is out of memory.
 pub fn explain(alloc: Global, text: &[u8], transcript: Transcript) -> Result<Vec<u8>, ConfigFault>
     requires { SpellsTranscript text.now transcript }
     ensures told { IfOk result (λ told. IsExplanation transcript told.items) }
@@ -41,8 +43,8 @@ pub fn explain(alloc: Global, text: &[u8], transcript: Transcript) -> Result<Vec
     }
 }
 
-// Finds the first line in which two texts differ. Returns `None` if the whole lines of both are equal, one by one, up
-// to the point where one of them has no more. Takes no memory.
+// Finds the first line in which two texts differ. Returns `None` if the whole lines (those with a line feed) of the two
+// texts are equal, up to the point where one of the texts has no more. Takes no memory.
 fn first_difference<'a>(one: &'a [u8], other: &'a [u8]) -> Option<Difference<'a>>
     ensures { MatchOption result (AreAlike one.now other.now)
         (λ d. IsFirstDifference one.now other.now d.number d.told.now d.has.now) }

@@ -7,13 +7,14 @@ use smx_config::ConfigFault;
 use smx_types::SpecFault;
 use std::fmt;
 
-/// A text and the fault of its drivers. It prints two lines: the line of the driver, with its number, and what is wrong
-/// with it. For a name that an earlier driver has, the second line has this name and the number of that line.
+/// A text and the fault of its drivers. Prints two lines: the line of the driver that is refused, with the number of
+/// this line, and what is wrong with the driver. If an earlier driver has the same name, the second line has this name
+/// and the number of the earlier driver's line.
 #[derive(Clone, Copy)]
 pub struct DriverExplanation<'a> {
     /// The text that has the drivers.
     pub text: &'a [u8],
-    /// Why they are refused.
+    /// Why the drivers are refused.
     pub fault: ConfigFault,
 }
 
@@ -33,7 +34,7 @@ impl fmt::Display for DriverExplanation<'_> {
     }
 }
 
-// Returns the number of the line of a driver, which is numbered from 0. Lines are numbered from 1, and the first one is
+// Returns the number of a driver's line. Drivers are numbered from 0. Lines are numbered from 1, and the first line is
 // the header.
 fn line_of_driver(driver: usize) -> usize {
     driver.saturating_add(2)
@@ -60,7 +61,7 @@ fn spec_reason(fault: SpecFault) -> &'static str {
     }
 }
 
-// Writes which line before this one has the name of its driver too.
+// Writes the number of the first line before line `number` that has the same name of a driver.
 fn write_namesake<W: fmt::Write>(
     f: &mut fmt::Formatter<W>,
     text: &[u8],

@@ -11,10 +11,11 @@ use smx_text::{Cause, TextFault};
 use smx_types::Version;
 use std::fmt;
 
-/// A text and its fault. It prints two lines: at most 80 columns of the malformed line, with its number, and what is
-/// wrong with it. If the line is not valid in such a text by itself, the second line says from which column on, and
-/// what was expected there; the first line then shows that column. A third line follows if there is something that may
-/// help: the word of another version, a similar word, or that the line is one of another text.
+/// A text and its fault. Prints two lines: at most 80 columns of the malformed line, with its number, and what is wrong
+/// with it. If no text of this kind and version can have the line, the second line says in which column the line
+/// becomes invalid, and what was expected there. The first line then shows this column. A third line follows if there
+/// is a hint: that version 2 has the word, a similar word, that hex digits have small letters, or that the line is one
+/// of a session's output or of a trace.
 #[derive(Clone, Copy)]
 pub struct FaultExplanation<'a> {
     /// The text that was expected.
@@ -27,7 +28,7 @@ pub struct FaultExplanation<'a> {
 }
 
 impl FaultExplanation<'_> {
-    // Returns the column in which the line becomes invalid, if it is malformed by itself.
+    // Returns the column in which the line becomes invalid, if no text of this kind and version can have the line.
     fn column(&self, line: &[u8]) -> Option<LineColumn> {
         match self.fault.cause {
             Cause::Form => column_of(self.kind.lines(), version_of(self.text), line),
@@ -35,7 +36,7 @@ impl FaultExplanation<'_> {
         }
     }
 
-    // Returns what is wrong with a line that has no such column.
+    // Returns what is wrong with a line that becomes invalid in no column.
     fn reason(&self, line: &[u8]) -> &'static str {
         match self.fault.cause {
             Cause::Header => header_reason(self.kind, line),
@@ -66,7 +67,7 @@ impl fmt::Display for FaultExplanation<'_> {
     }
 }
 
-// Returns the version that the header of a text names.
+// Returns the version that the header of a text names, or 1 if there is no such header.
 fn version_of(text: &[u8]) -> Version {
     match line_at(text, 1) {
         b"programs 2" | b"transcript 2" => Version::V2,
@@ -88,7 +89,7 @@ fn write_column<W: fmt::Write>(
     writeln!(f, "\n{words}")
 }
 
-// Writes the line of what may help with a malformed line, if there is something.
+// Writes the line of the hint on a malformed line, if there is one.
 fn write_hint<W: fmt::Write>(
     f: &mut fmt::Formatter<W>,
     version: Version,

@@ -13,9 +13,9 @@ use std::fmt;
 /// A hint on a word that is not valid in its column.
 #[derive(Clone, Copy, Debug, PartialEq, Eq)]
 pub enum Hint {
-    /// Version 2 has this word there.
+    /// The version is 1, and version 2 has this word in this column.
     LaterVersion,
-    /// Bytes are expected, and the word consists of hex digits, some of them with capital letters.
+    /// Bytes are expected, and the word consists of hex digits, some of them capital letters.
     SmallLetters,
     /// The fixed word into which one edit turns the wrong word.
     Meant(&'static str),
@@ -36,7 +36,8 @@ impl fmt::Display for Hint {
     }
 }
 
-/// Returns the hint on a word, if it has one; `wanted` says what is expected in its column. Takes no memory.
+/// Returns the hint on a word, if there is one; `wanted` says what is expected in the column of the word. Takes no
+/// memory.
 pub fn hint_of(version: Version, wanted: Wanted, word: &[u8]) -> Option<Hint>
     ensures { IsHintOn version wanted word.now result }
 {
@@ -53,7 +54,7 @@ pub fn hint_of(version: Version, wanted: Wanted, word: &[u8]) -> Option<Hint>
     }
 }
 
-// Returns whether the version is 1, and version 2 has this word there.
+// Returns whether the version is 1, and version 2 has this word in this column.
 fn is_of_later_version(version: Version, wanted: Wanted, word: &[u8]) -> bool
     ensures { MatchBool result (IsLater version wanted word.now) (IsLater version wanted word.now → ⊥) }
 {
@@ -63,14 +64,14 @@ fn is_of_later_version(version: Version, wanted: Wanted, word: &[u8]) -> bool
     }
 }
 
-// Returns whether a word consists of hex digits, some of them with capital letters.
+// Returns whether a word consists of hex digits, some of them capital letters.
 fn is_capital_hex(word: &[u8]) -> bool
     ensures { result ≡ is_capital_hex word.now }
 {
     has_capital_digit(word) && are_any_digits(word)
 }
 
-// Returns whether a word has a capital letter that would be a hex digit if it were small.
+// Returns whether a word has a letter from `A` to `F`.
 fn has_capital_digit(word: &[u8]) -> bool
     ensures { result ≡ list_any is_capital_digit word.now }
 {
@@ -84,7 +85,7 @@ fn are_any_digits(word: &[u8]) -> bool
     word.iter().all(|byte| is_any_digit(*byte))
 }
 
-// Returns whether a byte is a capital letter that would be a hex digit if it were small.
+// Returns whether a byte is a letter from `A` to `F`.
 fn is_capital_digit(byte: u8) -> bool
     ensures { result ≡ is_capital_digit byte }
 {

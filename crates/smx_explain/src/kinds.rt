@@ -12,7 +12,7 @@ pub enum TextKind {
     Transcript,
 }
 
-/// The text that a line belongs to, or a session that reads it.
+/// Where a line belongs: to a text of programs, to a transcript, or to a session.
 #[derive(Clone, Copy, Debug, PartialEq, Eq)]
 pub enum LineKind {
     Programs,
@@ -76,7 +76,7 @@ pub enum Wanted {
 }
 
 impl TextKind {
-    /// Returns the kind of its lines.
+    /// Returns the kind of the lines of this text.
     pub fn lines(self) -> LineKind {
         match self {
             TextKind::Programs => LineKind::Programs,
@@ -86,7 +86,7 @@ impl TextKind {
 }
 
 impl Value {
-    // Returns the words that describe it.
+    // Returns the words that describe this kind of word.
     fn words(self) -> &'static str
         ensures { result.now ≡ value_words self }
     {
@@ -105,7 +105,7 @@ impl Value {
 }
 
 impl Choice {
-    // Returns the words that describe it.
+    // Returns the words that describe this kind of word.
     fn words(self) -> &'static str
         ensures { result.now ≡ choice_words self }
     {

@@ -16,8 +16,8 @@ ghost use Rattle.smx_explain.specs.declared.kinds.LineKind.TheVariants.{Programs
 ghost use Rattle.smx_explain.specs.declared.kinds.Value.TheVariants as value;
 ghost use Rattle.smx_explain.specs.declared.columns.LineColumn.{LineColumn as AnyColumn};
 
-/// Every line is either valid or becomes invalid in some column, never both. Any two answers for a line are the same:
-/// they agree in the column and in what is expected there.
+/// A line becomes invalid in at most one column, and only one kind of word is expected there. A valid line has no such
+/// column. (`column_of` returns a column for every line that is not valid.)
 pub fn a_line_has_one_column()
     ensures column { (kind : AnyKind) (version : AnyVersion) (line : List ℕ) (one other : AnyColumn)
         → IsColumn kind version line one → IsColumn kind version line other → one ≡ other }
@@ -25,7 +25,7 @@ pub fn a_line_has_one_column()
         → IsColumn kind version line at → IsWhole kind version line → ⊥ }
 {}
 
-/// Worked lines and their columns, typed in by hand; and one line that is valid.
+/// Examples, typed in by hand: lines with the column in which they become invalid, and lines that are valid.
 pub fn worked_columns()
     ensures empty { IsColumn Programs V1 (codes "") (choice_at 1 choice.ProgramsLine) }
     ensures missing_word { IsColumn Programs V1 (codes "dup") (value_at 5 value.Number) }
@@ -45,7 +45,7 @@ pub fn worked_columns()
     ensures no_switch { IsColumn Session V1 (codes "trace") (choice_at 7 choice.Switch) }
 {}
 
-/// A line of a session has only one explanation, which is empty exactly if the line is a request.
+/// A line of a session has only one explanation. The explanation is empty exactly if the line is valid.
 pub fn a_line_has_one_explanation()
     ensures one { (version : AnyVersion) (line one other : List ℕ) → IsExplanationOf version line one
         → IsExplanationOf version line other → one ≡ other }
@@ -55,7 +55,7 @@ pub fn a_line_has_one_explanation()
         → IsWhole Session version line }
 {}
 
-/// Worked explanations of lines, typed in by hand.
+/// Examples, typed in by hand: explanations of lines of a session, hints on words, and headers of texts.
 pub fn worked_explanations()
     ensures no_request { IsExplanationOf V2 (codes "x")
         (codes "  column 1: 'show', 'trace', 'end', or a process from 0 to 63 is wanted\n") }

@@ -18,7 +18,8 @@ use smx_model::laws::histories_are_determined;
 use smx_trace::laws_of_replays::{a_transcript_has_one_replay, replays_are_the_legal_transcripts};
 use smx_words::laws::{one_value_each, spellings_are_words};
 
-/// Two texts have at most one first difference, and none if they are alike. Bytes have only one first line.
+/// Two texts have at most one first difference. They have none if they are alike: their whole lines (those with a line
+/// feed) are equal, up to the point where one text has no more. Bytes have only one first line.
 pub fn texts_have_one_first_difference()
     ensures one { (one other : List ℕ) (number count : ℕ) (told has said had : List ℕ)
         → IsFirstDifference one other number told has → IsFirstDifference one other count said had
@@ -28,8 +29,8 @@ pub fn texts_have_one_first_difference()
     ensures line { (bytes one other : List ℕ) → IsFirstLine one bytes → IsFirstLine other bytes → one ≡ other }
 {}
 
-/// Worked texts, typed in by hand, with the first line in which they differ; and two texts whose last lines are not
-/// whole.
+/// Examples, typed in by hand: two pairs of texts with the first line in which they differ; a pair that is alike, since
+/// only their last lines differ, and these lack a line feed; and two texts with their first line.
 pub fn worked_differences()
     ensures second { IsFirstDifference (codes "a\nb\nc\n") (codes "a\nx\nd\n") 2 (codes "b") (codes "x") }
     ensures ends_early { IsFirstDifference (codes "a\nend\n") (codes "a\n\nend\n") 2 (codes "end") [] }
@@ -58,8 +59,9 @@ pub fn a_legal_transcript_needs_none()
     replays_are_the_legal_transcripts();
 }
 
-/// If an entry is the first illegal one, the explanation shows its line, with the number of the line in the text. It
-/// also shows the same entry with the reply that the model gives its command after the entries before it.
+/// About a transcript within the limits of its version. If an entry is the first illegal one, the explanation shows the
+/// line of this entry, with the number of this line in the text. It also shows the same entry with the reply that the
+/// model gives to its command after the earlier entries.
 pub fn an_illegal_entry_is_reported()
     ensures { (t : Transcript) (output : List ℕ) → IsAllowed t.version t → IsExplanation t output
         → (number : ℕ) (first : IsFirstIllegal t.drivers t.entries number)
@@ -70,7 +72,8 @@ pub fn an_illegal_entry_is_reported()
     spellings_are_words();
 }
 
-/// Below the verdict that the configuration differs, the explanation shows a line below `config`.
+/// About a transcript within the limits of its version. If the verdict is that only the configuration differs, the
+/// explanation shows a line after the line `config`.
 pub fn a_differing_line_is_reported()
     ensures { (t : Transcript) (output : List ℕ) → IsAllowed t.version t → IsExplanation t output
         → IsVerdict t.drivers t.entries t.view ConfigDiffers

@@ -8,8 +8,8 @@ ghost use Rattle.smx_text.specs.Grammar.{IsOneLine};
 
 use smx_text::next_line;
 
-/// Returns line `number` of a text, counted from 1, without its line feed. The last line need not have one. Takes no
-/// memory.
+/// Returns line `number` of a text, counted from 1, without its line feed. The last line may lack its line feed. Takes
+/// no memory.
 pub fn line_at(text: &[u8], number: usize) -> &[u8]
     ensures { (before : List (List ℕ)) (rest : List ℕ) → AllByRecursion IsOneLine before
         → number ≡ length before + 1 → text.now ≡ lines_text before ++ rest → IsFirstLine result.now rest }

@@ -9,10 +9,10 @@ use crate::kinds::Choice;
 use crate::tables::{Row, later_rows, rows};
 use smx_types::Version;
 
-/// Returns the first fixed word of a choice into which at most one edit turns this word: a byte is replaced, added or
-/// left out, or two neighbours are exchanged. (A fixed word of the choice needs no edit.) At the beginning of a line of
-/// programs, and after a process in a session, the words of the commands are tried too. Returns `None` for an empty
-/// word.
+/// Returns the first fixed word of a choice into which at most one edit turns this word. An edit replaces, adds or
+/// leaves out a byte, or exchanges two neighbouring bytes. (A fixed word of the choice needs no edit.) At the beginning
+/// of a line of programs, and after a process in a session, the words of the commands are tried too. Returns `None` for
+/// an empty word.
 #[tactic(auto, using(crate::proofs::NearLemmas::first_found, crate::proofs::NearLemmas::first_missed))]
 pub fn near_word(version: Version, choice: Choice, word: &[u8]) -> Option<&'static str>
     ensures { MatchOption result (meant version choice word.now ≡ None)
@@ -28,7 +28,7 @@ pub fn near_word(version: Version, choice: Choice, word: &[u8]) -> Option<&'stat
     }
 }
 
-// Returns whether a word that makes this choice may be that of a command without a reply.
+// Returns whether a word of this choice may be the first word of a command that no reply follows.
 fn may_be_command(choice: Choice) -> bool
     ensures { MatchBool result ((choice ≡ ProgramsLine) ⊎ (choice ≡ SessionCommand))
         ((choice ≡ ProgramsLine) ⊎ (choice ≡ SessionCommand) → ⊥) }
@@ -36,7 +36,7 @@ fn may_be_command(choice: Choice) -> bool
     choice == Choice::ProgramsLine || choice == Choice::SessionCommand
 }
 
-// Returns the first fixed word of a choice that is near this word.
+// Returns the first fixed word of a choice into which at most one edit turns this word.
 #[tactic(auto, using(crate::proofs::NearLemmas::first_found, crate::proofs::NearLemmas::first_missed))]
 fn near_fixed(version: Version, choice: Choice, word: &[u8]) -> Option<&'static str>
     ensures { MatchOption result (first_near (rows_in version choice) word.now ≡ None)
@@ -51,7 +51,7 @@ fn near_fixed(version: Version, choice: Choice, word: &[u8]) -> Option<&'static 
     }
 }
 
-// Returns the first word of some rows that is near this word.
+// Returns the first word of some rows into which at most one edit turns this word.
 fn near_row(rows: &'static [Row], word: &[u8]) -> Option<&'static str>
     ensures { MatchOption result (first_near (rows_of rows.now) word.now ≡ None)
         (λ verb. first_near (rows_of rows.now) word.now ≡ Some verb.now) }
@@ -82,7 +82,7 @@ fn is_near(word: &[u8], verb: &[u8]) -> bool
         || are_exchanged(word, verb)
 }
 
-// Returns whether the words begin with the same two bytes in exchanged order, and go on alike.
+// Returns whether the words begin with the same two bytes in exchanged order, and are equal after these.
 fn are_exchanged(word: &[u8], verb: &[u8]) -> bool
     ensures { result ≡ are_exchanged word.now verb.now }
 {

@@ -1,4 +1,4 @@
-//! Why a text is refused, if no word of the malformed line is reported.
+//! What is wrong with a malformed text, if no column of the malformed line is reported.
 
 ghost use Rattle.std.specs.Prelude.{◌≡◌, ◌⊎◌, MatchBool, MatchOption};
 ghost use Rattle.smx_explain.specs.Hints.{IsHeader};
@@ -7,7 +7,7 @@ ghost use Rattle.smx_explain.specs.declared.kinds.TextKind.TheVariants as kind;
 use crate::kinds::TextKind;
 use smx_types::Version;
 
-/// Returns the reason for a first line that is the header of the other text, or of neither.
+/// Returns what is wrong with a first line that is the header of the other kind of text, or no header.
 pub fn header_reason(kind: TextKind, line: &[u8]) -> &'static str {
     match (kind, kind_of(line)) {
         (TextKind::Programs, Some(TextKind::Transcript)) => {
@@ -19,7 +19,7 @@ pub fn header_reason(kind: TextKind, line: &[u8]) -> &'static str {
     }
 }
 
-/// Returns the kind of the text that has this first line, if it is the header of one.
+/// Returns the kind of text whose header this line is, if it is a header.
 pub fn kind_of(line: &[u8]) -> Option<TextKind>
     ensures { MatchOption result ((IsHeader kind.Programs line.now → ⊥) × (IsHeader kind.Transcript line.now → ⊥))
         (λ kind. IsHeader kind line.now) }
@@ -33,7 +33,7 @@ pub fn kind_of(line: &[u8]) -> Option<TextKind>
     }
 }
 
-// Returns whether a line is one of two.
+// Returns whether a line is one of two texts.
 fn is_one_of(line: &[u8], one: &str, other: &str) -> bool
     ensures { MatchBool result ((line.now ≡ one.now) ⊎ (line.now ≡ other.now))
         ((line.now ≡ one.now) ⊎ (line.now ≡ other.now) → ⊥) }
@@ -41,7 +41,7 @@ fn is_one_of(line: &[u8], one: &str, other: &str) -> bool
     line == one.as_bytes() || line == other.as_bytes()
 }
 
-/// Returns what to leave out of the output of a session or of a trace, if a malformed line is one that only these have.
+/// If a malformed line looks like one of a session's output or of a trace, returns what to leave out of this output.
 pub fn output_reason(line: &[u8]) -> Option<&'static str> {
     match line {
         b"shown" | [b'?', ..] => Some(
@@ -54,7 +54,7 @@ pub fn output_reason(line: &[u8]) -> Option<&'static str> {
     }
 }
 
-/// Returns the reason for a well-formed line that may not follow the lines before it.
+/// Returns what is wrong with a well-formed line that may not come after the earlier lines.
 pub fn order_reason(kind: TextKind, version: Version, line: &[u8]) -> &'static str {
     match kind {
         TextKind::Programs => order_of_programs(line),
@@ -62,7 +62,7 @@ pub fn order_reason(kind: TextKind, version: Version, line: &[u8]) -> &'static s
     }
 }
 
-/// Returns the reason for a line that is over the limit for its kind.
+/// Returns which limit a text exceeds that has too many lines like this one.
 pub fn limit_reason(kind: TextKind, version: Version, line: &[u8]) -> &'static str {
     if is_driver(line) {
         return limit_of_drivers(version);
@@ -85,7 +85,7 @@ fn order_of_programs(line: &[u8]) -> &'static str {
     }
 }
 
-// Returns where a line of a transcript may be. Among these lines only an entry begins with a digit.
+// Returns where a line of a transcript may be. Of the lines of a transcript, only an entry begins with a digit.
 fn order_of_transcript(version: Version, line: &[u8]) -> &'static str {
     match line {
         [b'0'..=b'9', ..] => "the entries come before 'config'",

@@ -11,7 +11,7 @@ use crate::tables::{Row, later_rows, rows};
 use smx_types::{MAX_PROCESSES, Version};
 use smx_words::{driver_kind, link_kind, name, number, side, sides, spells_bytes, which};
 
-// How a line goes on: with these values, then with a choice.
+// How a line goes on: with words for these values, and then with a word of a choice.
 #[derive(Clone, Copy)]
 pub struct FoundRow {
     pub values: &'static [Value],
@@ -76,7 +76,7 @@ fn is_process(word: &[u8]) -> bool
     }
 }
 
-// Returns the choice after a value, if the word gives that value.
+// If the word gives a value of this kind, returns that the line goes on with the choice `next`.
 fn then(value: Value, word: &[u8], next: Choice) -> Option<FoundRow>
     ensures { MatchOption result (IsValue value word.now → ⊥)
         (λ row. IsValue value word.now × (row.values.now ≡ []) × (row.next ≡ next)) }
@@ -87,7 +87,7 @@ fn then(value: Value, word: &[u8], next: Choice) -> Option<FoundRow>
     None
 }
 
-// Returns how a line goes on after a word that is not a fixed one.
+// Returns how a line goes on after a word that is not a fixed word.
 fn other(version: Version, choice: Choice, word: &[u8]) -> Option<FoundRow>
     ensures { MatchOption result
         ((values : List AnyValue) (next : AnyChoice) → IsOther version choice word.now values next → ⊥)
@@ -102,7 +102,7 @@ fn other(version: Version, choice: Choice, word: &[u8]) -> Option<FoundRow>
     }
 }
 
-// Returns how a line goes on after the first word of a command without a reply.
+// Returns how a line goes on after the first word of a command that no reply follows.
 fn command(version: Version, word: &[u8]) -> Option<FoundRow>
     ensures { MatchOption result
         ((values : List AnyValue) → IsFixed version AnyChoice.Command word.now values AnyChoice.Equals → ⊥)
@@ -118,7 +118,7 @@ fn command(version: Version, word: &[u8]) -> Option<FoundRow>
     }
 }
 
-// Returns how a line goes on after a word that makes this choice.
+// Returns how a line goes on after a word of this choice.
 fn chosen(version: Version, choice: Choice, word: &[u8]) -> Option<FoundRow>
     ensures { MatchOption result
         ((values : List AnyValue) (next : AnyChoice) → IsChosen version choice word.now values next → ⊥)
@@ -130,7 +130,8 @@ fn chosen(version: Version, choice: Choice, word: &[u8]) -> Option<FoundRow>
     }
 }
 
-/// Returns how a line goes on after a word. Before the word, `values` and then the choice `next` were expected.
+/// Returns how a line goes on after a word, or `None` if the word was not expected. Expected were words for `values`,
+/// and then a word of the choice `next`.
 pub fn go_on(
     version: Version,
     values: &'static [Value],

@@ -10,10 +10,10 @@ use crate::kinds::LineKind;
 use smx_types::{NoMemory, Version};
 use std::alloc::{AllocError, Global};
 
-/// Returns the explanation of a line of a session: the column in which the line becomes invalid and what was expected
-/// there, and below it what may help, if there is something. Each of its lines begins with two spaces. It is empty if
-/// the line is `show`, `trace on`, `trace off`, `end`, or a process with a command of this version. Fails only if it is
-/// out of memory.
+/// Returns the explanation of a line of a session. It names the column in which the line becomes invalid, and what was
+/// expected there; below that is a hint, if there is one. Each line of the explanation begins with two spaces. The
+/// explanation is empty if the given line is `show`, `trace on`, `trace off`, `end`, or a process with a command of
+/// this version. Fails only if it is out of memory.
 pub fn explain_line(alloc: Global, version: Version, line: &[u8]) -> Result<Vec<u8>, NoMemory>
     ensures { IfOk result (λ text. IsExplanationOf version line.now text.items) }
 {
@@ -29,7 +29,7 @@ pub fn explain_line(alloc: Global, version: Version, line: &[u8]) -> Result<Vec<
     Ok(text.into_bytes())
 }
 
-// Returns the line of a column, and that of its hint, if there is one.
+// Returns the line that names the column, and the line of the hint, if there is one.
 fn explanation(alloc: Global, words: ColumnWords, hint: Option<Hint>) -> Result<String, AllocError>
     ensures { IfOk result (λ text. string_bytes text ≡ explanation_text words.at words.len hint) }
 {

@@ -7,11 +7,12 @@ use std::fmt;
 // How many columns of a line are shown.
 const COLUMNS: usize = 80;
 
-// How many bytes are shown before the reported one, if the first columns don't include that.
+// How many bytes are shown before the reported byte, if the first `COLUMNS` columns don't include it.
 const BEFORE: usize = 60;
 
-/// Writes 80 columns of a line: the first ones, if they include byte `told`, counted from 1, or else those that start
-/// 60 bytes before it. Writes two dots at each end at which the line goes on.
+/// Writes at most 80 columns of a line. `told` is the number of a byte, counted from 1. Writes the first 80 columns if
+/// they include this byte, and else those that start 60 bytes before this byte. Writes two dots at each end at which
+/// the line goes on.
 pub fn write_line<W: fmt::Write>(
     f: &mut fmt::Formatter<W>,
     line: &[u8],
@@ -31,7 +32,7 @@ pub fn write_line<W: fmt::Write>(
     Ok(())
 }
 
-// Returns the index from which a line is shown, so that it includes byte `told`.
+// Returns the index from which a line is shown, so that byte `told` is shown.
 fn begin(line: &[u8], told: usize) -> usize
     ensures { result ≤ length line.now }
 {

@@ -1,4 +1,4 @@
-//! The fixed words that may occur in each column of a line, and what each is followed by.
+//! The fixed words that a line may have in each column, and what follows each of them.
 
 ghost use Rattle.std.specs.Prelude.{◌≡◌};
 ghost use Rattle.smx_explain.specs.Rows.{later_rows, rows, rows_of};
@@ -84,7 +84,7 @@ const INVALID: [Row; 7] = [
     ("unrouted", &[], End),
 ];
 
-/// Returns the rows of a choice in both versions.
+/// Returns the rows of a choice that both versions have.
 pub fn rows(choice: Choice) -> &'static [Row]
     ensures { rows_of result.now ≡ rows choice }
 {
@@ -108,7 +108,7 @@ pub fn rows(choice: Choice) -> &'static [Row]
     }
 }
 
-/// Returns the rows that only version 2 adds.
+/// Returns the rows of a choice that only version 2 has.
 pub fn later_rows(choice: Choice) -> &'static [Row]
     ensures { rows_of result.now ≡ later_rows choice }
 {
