@@ -24,7 +24,7 @@ pub const ROWS: usize = 14;
 // A kind of row of the read queue comes this many kinds after the same kind of the write queue.
 const READ: usize = 4;
 
-/// The position of a row: its driver, its stream if it has one, and its kind.
+/// The driver to which a row belongs, the stream, if it belongs to one, and the kind of the row.
 #[derive(Clone, Copy, Debug)]
 pub struct Seat {
     pub driver: Name,
