@@ -12,7 +12,7 @@ pub enum TextKind {
     Transcript,
 }
 
-/// Where a line belongs: to a text of programs, to a transcript, or to a session.
+/// The text to which a line belongs (programs or a transcript), or a session.
 #[derive(Clone, Copy, Debug, PartialEq, Eq)]
 pub enum LineKind {
     Programs,

@@ -1,4 +1,4 @@
-//! What is wrong with a malformed text, if no column of the malformed line is reported.
+//! The reason why a text is malformed, if no column of the malformed line is reported.
 
 ghost use Rattle.std.specs.Prelude.{◌≡◌, ◌⊎◌, MatchBool, MatchOption};
 ghost use Rattle.smx_explain.specs.Hints.{IsHeader};
@@ -85,7 +85,7 @@ fn order_of_programs(line: &[u8]) -> &'static str {
     }
 }
 
-// Returns where a line of a transcript may be. Of the lines of a transcript, only an entry begins with a digit.
+// Returns where a line of a transcript may be. Only an entry begins with a digit.
 fn order_of_transcript(version: Version, line: &[u8]) -> &'static str {
     match line {
         [b'0'..=b'9', ..] => "the entries come before 'config'",
