@@ -69,7 +69,8 @@ fn fill(rt: &impl Abort, table: &mut LinkTable, shape: Shape)
     }
 }
 
-// Checks that no further link is possible. Removes one link, and checks that one more is then possible.
+// Checks that no further link is possible. Removes one link, and checks that one more is then possible, with the
+// next id.
 fn is_full(rt: &impl Abort, table: &mut LinkTable)
     requires { table.old.drivers ≡ 128 }
 {
