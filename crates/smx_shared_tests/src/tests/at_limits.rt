@@ -5,9 +5,10 @@ use super::worked::is_worked;
 use smx_samples::Part;
 use smx_samples::Part::{Each, Once};
 
-// Links each driver above the next one by a persistent link. The upper stream is the driver's second one, because its
-// first is below; the first driver's is its first. After the link in the middle, with id 64, is removed, the last
-// driver may be linked above the first.
+// Links each driver above the next one by a persistent link. Each driver's first stream is below the driver before, so
+// its second stream is above the next driver. The first driver has no driver before it, so its first stream is above
+// the second driver. After the link in the middle, with id 64, is removed, the last driver may be linked above the
+// first.
 const CHAIN: &[Part] = &[
     Once("transcript 2\n"),
     Each(0, 128, "driver d{n} mux 2 8 3 16\n"),
@@ -54,7 +55,7 @@ const MOST_LINKS: &[Part] = &[
     Once("end\n"),
 ];
 
-// Each process opens minor 0 until its table is full.
+// Each process opens minor 0 until it has all of its 16 descriptors.
 const MOST_DESCRIPTORS: &[Part] = &[
     Once("transcript 1\ndriver ip mux 64 8 3 16\n"),
     Each(0, 1_024, "{n / 16} open ip 0 = fd {n % 16} 0\n"),
@@ -64,7 +65,7 @@ const MOST_DESCRIPTORS: &[Part] = &[
     Once("end\n"),
 ];
 
-// A leaf with one stream, whose queues take 4,096 bytes, and as many messages of one byte.
+// A queue that takes 4,096 bytes gets 4,096 messages of one byte.
 const MOST_MESSAGES: &[Part] = &[
     Once("transcript 1\ndriver eth leaf 1 4096 0 16\n0 clone eth = fd 0 0\n"),
     Each(1, 4_097, "0 write 0 5 bb = took {n}\n"),
@@ -73,7 +74,7 @@ const MOST_MESSAGES: &[Part] = &[
     Once("full eth 0 w\nend\n"),
 ];
 
-// The full queue takes no more, and a flush drops all.
+// A queue with 4,096 messages refuses one more, and a flush drops them all.
 const MOST_DROPPED: &[Part] = &[
     Once("transcript 1\ndriver eth leaf 1 4096 0 16\n0 clone eth = fd 0 0\n"),
     Each(1, 4_097, "0 write 0 5 bb = took {n}\n"),
@@ -82,7 +83,7 @@ const MOST_DROPPED: &[Part] = &[
     Once("\nconfig\nnext 1 4097\nfd 0 0 eth 0\nend\n"),
 ];
 
-// 1,024 bytes go down and come up.
+// A message of 1,024 bytes goes down, and one comes up.
 const LONGEST_MESSAGE: &[Part] = &[
     Once("transcript 1\ndriver eth0 leaf 64 4096 0 1024\n0 clone eth0 = fd 0 0\n0 write 0 5 "),
     Each(0, 1_024, "fe"),
@@ -95,7 +96,7 @@ const LONGEST_MESSAGE: &[Part] = &[
     Once("\nconfig\nnext 1 3\nfd 0 0 eth0 0\nend\n"),
 ];
 
-// Ten thousand times a message goes down through the link, and the device takes it.
+// Ten thousand times, a message goes down through a link, and the device takes it.
 const ROUNDS: &[Part] = &[
     Once("transcript 1\n"),
     Once("driver ip mux 4 8 3 16\ndriver eth leaf 2 8 3 16\n"),

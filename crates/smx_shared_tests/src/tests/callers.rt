@@ -51,7 +51,7 @@ pub fn last_two(rt: &impl Abort, shared: &Shared, mut seats: Vec<Seat>) -> (Seat
     (earlier, later)
 }
 
-/// Returns whether this entry opens the stream with this minor as its process's first.
+/// Returns whether the reply of this entry is descriptor 0 of the stream with this minor.
 pub fn opens(entry: &Entry, minor: u32) -> bool {
     entry.reply == Reply::Fd { fd: 0, minor }
 }

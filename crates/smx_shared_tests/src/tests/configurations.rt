@@ -47,7 +47,7 @@ fn opens_twice(rt: &impl Abort, config: &mut Config) {
     forget((reply, twin));
 }
 
-// `perform` writes the reply in place of the one before: an opened stream, and then the refusal of a `close`.
+// `perform` replaces the previous reply by the new one: the descriptor of a stream, and then the refusal of a `close`.
 fn performs_in_place(rt: &impl Abort, config: &mut Config) {
     let mut reply = Reply::Eof;
     let clone = clone_of(rt, "eth");

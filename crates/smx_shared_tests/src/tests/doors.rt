@@ -1,4 +1,5 @@
-//! Workers at a door of the test's own, whose seats own systems, and what a gate hears of them.
+//! Workers with a `Door` of the test's own, and the calls that a gate gets. A `Door` is the calls of a system that a
+//! worker uses. Here each seat owns a system.
 
 ghost use Rattle.std.specs.Prelude.{◌≡◌, [], All};
 
@@ -66,7 +67,7 @@ impl Door for OwnDoor {
     }
 }
 
-// Returns `clone ip` three times for a process, with its own seat at a system that has no entry and takes only one.
+// Returns a program of a process: `clone ip`, three times. Its seat owns a system that has no entry and takes only one.
 fn job_of(rt: &(impl AllocGlobal + Abort), process: u32) -> SeatedProgram<OwnSeat>
     ensures { result.seat.system.history ≡ [] }
 {
@@ -105,8 +106,8 @@ fn works<R: AllocGlobal + Abort + Wait>(
     run_assigned(rt, rt.alloc(), door, assigned(rt, earlier, later), log).err()
 }
 
-// Checks that a worker with these two processes stops when the history of the first is full. The log hears of the
-// command that was performed, of the one that was refused, and of no other.
+// Checks that a worker with these two processes stops when the history of the first is full. The log has the calls for
+// the command that was performed and for the command that failed, and no others.
 fn stops<R: AllocGlobal + Abort + Wait>(rt: &R, earlier: u32, later: u32) {
     let log = Log::of(rt, 12);
     let door = OwnDoor {

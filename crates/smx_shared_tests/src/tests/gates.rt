@@ -1,4 +1,5 @@
-//! Gates of tests: one at which processes go on one by one, one at which four meet, and one that logs what it hears.
+//! Gates of tests: one at which processes go on one by one, one at which four processes meet, and one that logs its
+//! calls.
 
 ghost use Rattle.std.specs.Prelude.{◌≤◌};
 
@@ -22,7 +23,7 @@ pub fn is_reached(count: &AtomicU64, wanted: u64) -> bool {
     false
 }
 
-/// A report to a gate about a process and the number of its command.
+/// A call of a gate, with a process and the number of the command.
 #[derive(Clone, Copy, PartialEq, Eq)]
 pub enum Reported {
     /// The command is performed next.
@@ -32,7 +33,7 @@ pub enum Reported {
 }
 
 impl Reported {
-    /// Returns the process that it is about.
+    /// Returns the process.
     pub fn process(&self) -> u32 {
         match self {
             Reported::Before(process, _) | Reported::After(process, _) => *process,
@@ -68,9 +69,9 @@ impl Line {
     }
 }
 
-/// Lets processes 0 to 4 of two workers go on one by one. Before its first command, each process except the first and
-/// the last waits until the next one starts. The next one starts when the one before it, on the same worker, has
-/// ended.
+/// Lets processes 0 to 4, on two workers, go on one by one. Before its first command, each process except the last
+/// waits until the next process has come. Processes 0 and 1 come at once. Each other process comes when the process
+/// before it on the same worker has ended.
 #[derive(Drop)]
 pub struct OneByOne {
     come: AtomicU64,
@@ -86,7 +87,6 @@ impl OneByOne {
 }
 
 impl Gate for OneByOne {
-    // The first and the second process come at once, and then one at a time.
     fn before(&self, process: Process, number: usize) {
         if number == 0 {
             self.come.fetch_add(1, Ordering::SeqCst);
@@ -97,7 +97,7 @@ impl Gate for OneByOne {
     fn after(&self, _process: Process, _number: usize) {}
 }
 
-/// Has each process wait before its first command until four are inside, and counts those that saw four.
+/// Has each process wait before its first command until four processes are there, and counts those that saw all four.
 #[derive(Drop)]
 pub struct FourInside {
     inside: AtomicU64,
@@ -105,7 +105,7 @@ pub struct FourInside {
 }
 
 impl FourInside {
-    /// Creates a gate with no process inside.
+    /// Creates a gate to which no process has come yet.
     pub fn new() -> FourInside {
         FourInside {
             inside: AtomicU64::new(0),
@@ -113,7 +113,7 @@ impl FourInside {
         }
     }
 
-    /// Returns how many saw four inside.
+    /// Returns how many processes saw four.
     pub fn met(&self) -> u64 {
         self.met.load(Ordering::SeqCst)
     }
@@ -132,7 +132,7 @@ impl Gate for FourInside {
     fn after(&self, _process: Process, _number: usize) {}
 }
 
-/// Logs all that it hears, in order, while it has lines left.
+/// Logs its calls in order, while it has lines left.
 #[derive(Drop)]
 pub struct Log {
     lines: Vec<Line>,
@@ -152,7 +152,7 @@ impl Log {
         }
     }
 
-    /// Returns whether this one of `workers` workers reported exactly this, in this order.
+    /// Returns whether worker `worker` of `workers` workers made exactly the calls `wanted`, in this order.
     pub fn has_reports(&self, worker: u32, workers: u32, wanted: &[Reported]) -> bool
         requires { 1 ≤ workers }
     {
@@ -166,7 +166,7 @@ impl Log {
         wanted.next().is_none()
     }
 
-    /// Returns whether exactly this was reported, in this order.
+    /// Returns whether exactly the calls `wanted` were made, in this order.
     pub fn has(&self, wanted: &[Reported]) -> bool {
         self.has_reports(0, 1, wanted)
     }

@@ -1,6 +1,7 @@
-//! A report of a system with three entries and of the replies that its callers got, and its copy; and transcripts
-//! with which the system doesn't agree. `three_seats` does the same for a system that three seats shared. The first
-//! test also passes if any one allocation fails, and tests/refused_growths runs it so.
+//! A report that is gathered from a system with three entries and from the entries that its callers kept; its copy; and
+//! kept entries with which the system doesn't agree. `three_seats` does this for a system that three seats shared. The
+//! first test also passes if any one allocation fails; tests/refused_growths runs it with each allocation failing in
+//! turn.
 
 use super::made::{numbered, read, system_over, tells_of_want};
 use super::systems::{copied, plays};
@@ -33,7 +34,7 @@ const BY_ONE: &[u8] = b"transcript 1\n1 clone ip = fd 0 2\nconfig\nnext 1 1\nend
 
 const BY_TWO: &[u8] = b"transcript 1\n2 clone ip = fd 0 1\nconfig\nnext 1 1\nend\n";
 
-// Returns a system whose processes have opened these streams.
+// Returns a system that has performed the commands of this transcript.
 fn three_opened(rt: &(impl AllocGlobal + Abort + Print), want: &Transcript) -> System {
     let mut system = system_over(rt, want.drivers.as_slice(), 10);
     plays(rt, &mut system, want.entries.as_slice());
@@ -47,7 +48,7 @@ fn room_for_three(rt: &(impl AllocGlobal + Abort)) -> Vec<Entries> {
     }
 }
 
-// Returns the transcripts of processes 0, 1 and so on.
+// Returns the entries that processes 0, 1 and so on kept.
 fn transcripts_of(rt: &(impl AllocGlobal + Abort), texts: &[&[u8]]) -> Vec<Entries> {
     let mut transcripts = room_for_three(rt);
     for text in texts {
@@ -66,7 +67,7 @@ fn gathered_of(
     gather(rt.alloc(), copied(rt, system), transcripts)
 }
 
-// Returns the report of the three, gathered again if memory ran out.
+// Gathers a report of the system from these kept entries; tries again if memory ran out.
 fn gathered(
     rt: &(impl AllocGlobal + Abort + Print),
     system: &System,
@@ -81,7 +82,7 @@ fn gathered(
     }
 }
 
-// Returns a copy, made again if memory ran out.
+// Returns a copy of the report; tries again if memory ran out.
 fn copy_of(rt: &(impl AllocGlobal + Abort + Print), report: &Report) -> Report {
     match report.copy(rt.alloc()) {
         Ok(again) => again,
@@ -98,7 +99,7 @@ fn is_copied(rt: &(impl AllocGlobal + Abort + Print), report: &Report) {
     forget(again);
 }
 
-/// Checks that the transcripts of the three give this report of the system.
+/// Checks that the report of the system, with the entries that the three processes kept, is `want`.
 pub fn are_reported(rt: &(impl AllocGlobal + Abort + Print), system: &System, want: &Transcript) {
     let transcripts = transcripts_of(rt, &[BY_ZERO, BY_ONE, BY_TWO]);
     let report = gathered(rt, system, transcripts.as_slice());
@@ -118,8 +119,8 @@ fn three_entries_are_reported(rt: HostRuntime) {
     forget(want);
 }
 
-// Transcripts of the three, and the process whose entries in the history are not its transcript: one is empty, one is
-// missing, two are exchanged.
+// Kept entries, and a process whose entries in the history are not those that were kept for it. One list is empty, one
+// is missing, and two are exchanged.
 const STRANGE: [(&[&[u8]], u32); 3] = [
     (&[BY_ZERO, BY_NONE, BY_TWO], 1),
     (&[BY_ZERO, BY_ONE], 2),
@@ -133,7 +134,7 @@ fn is_strange(rt: &(impl AllocGlobal + Abort), system: &System, texts: &[&[u8]],
     forget(transcripts);
 }
 
-/// Checks that the system doesn't agree with other transcripts.
+/// Checks that the system doesn't agree with wrong kept entries.
 pub fn are_strange(rt: &(impl AllocGlobal + Abort), system: &System) {
     for (texts, process) in STRANGE {
         is_strange(rt, system, texts, process);

@@ -1,5 +1,5 @@
-//! Histories of a device that hangs up: they are worked histories, and a run of their commands on one worker reports
-//! exactly them.
+//! Two worked histories of a device that hangs up. A run of their commands on one worker reports exactly these
+//! histories.
 
 use super::made::{front, read};
 use super::worked::is_judged;
@@ -11,7 +11,7 @@ use std::process::Abort;
 use std::sync::Wait;
 use std::thread::Threads;
 
-// The commands that a hung-up stream refuses, below a link and after it.
+// The commands that a hung-up stream refuses, while it is below a link and after the link is removed.
 const REFUSALS: &[u8] = b"transcript 2
 driver ip mux 4 8 3 16
 driver eth leaf 2 8 3 16
@@ -86,7 +86,7 @@ fn report_of<R: AllocGlobal + Abort + Threads + Wait + Sync>(rt: &R, want: &Tran
     run_programs(rt, rt.alloc(), programs, 1, &NoGate).expect(rt, "a report")
 }
 
-// Checks the report. The front at its end has this number of entries and links.
+// Checks the report of a run. At its end, the process sees this front: this number of entries and of links.
 fn is_reported<R: AllocGlobal + Abort + Threads + Wait + Sync>(
     rt: &R,
     text: &[u8],

@@ -1,5 +1,5 @@
-//! The values of the tests. If an allocation fails, the value is made once more, so one failed allocation fails no
-//! test.
+//! The values of the tests. If an allocation fails, the value is made once more. So no test fails if only one
+//! allocation does.
 
 ghost use Rattle.std.specs.Prelude.{◌≤◌};
 ghost use Rattle.smx_types.specs.declared.limits.TheConstants.{MAX_COMMANDS};
@@ -65,7 +65,7 @@ pub fn front(entries: u32, links: u32, held: bool) -> Front {
     }
 }
 
-/// Prints that an allocation for this failed.
+/// Prints that an allocation for `what` failed.
 pub fn tells_of_want(rt: &impl Print, what: &str) {
     let _ = println!(rt; "{what} wanted memory");
 }

@@ -1,5 +1,5 @@
-//! Drivers that are refused. No configuration and no system is made over them, nothing is judged under them, and a
-//! run of programs over them is refused before its gate hears of a command.
+//! Drivers that are refused: no configuration, no system, no verdict and no run over these drivers is possible. A run
+//! that is refused never calls its gate.
 
 ghost use Rattle.std.specs.Prelude.{◌≤◌};
 ghost use Rattle.smx_run.specs.declared.run.TheConstants.{MAX_WORKERS};
@@ -29,7 +29,7 @@ fn programs_over(rt: &(impl AllocGlobal + Abort), drivers: &str) -> Programs {
     read_programs(rt.alloc(), text.as_bytes()).expect(rt, "programs")
 }
 
-// Checks that a run of them by this number of workers is refused, and that its gate hears nothing.
+// Checks that a run over these drivers by this number of workers is refused, and that its gate is not called.
 fn are_not_run<R: AllocGlobal + Abort + Threads + Wait + Sync>(
     rt: &R,
     drivers: &str,
@@ -48,7 +48,7 @@ fn are_not_run<R: AllocGlobal + Abort + Threads + Wait + Sync>(
 // One entry, which is illegal over any drivers.
 const ILLEGAL: &[u8] = b"transcript 1\n0 close 0 = id 7\nconfig\nnext 1 1\nend\n";
 
-// Checks that no configuration and no system is made over them, and that no history is judged.
+// Checks that no configuration and no system is made over these drivers, and that no history is judged.
 fn are_refused(rt: &(impl AllocGlobal + Abort), drivers: &[DriverSpec], want: ConfigFault) {
     let count = drivers.len();
     assert!(rt;

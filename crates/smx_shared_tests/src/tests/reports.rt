@@ -1,4 +1,4 @@
-//! The reports that a gate gets of a run: on each command of each process, right before it and right after it.
+//! The calls that a gate gets during a run: right before and right after each command of each process.
 
 ghost use Rattle.std.specs.Prelude.{◌≤◌, length};
 ghost use Rattle.smx_run.specs.declared.run.TheConstants.{MAX_WORKERS};
@@ -36,7 +36,7 @@ exit
 end
 ";
 
-/// The reports that a gate gets of them on one worker.
+/// The calls that a gate gets during a run of `SIX` on one worker.
 pub const IN_TURN: [Reported; 26] = [
     Before(0, 0),
     After(0, 0),
@@ -66,8 +66,8 @@ pub const IN_TURN: [Reported; 26] = [
     After(5, 4),
 ];
 
-// The reports of each of three workers: of the first about processes 0 and 3, of the second about 1 and 4, and of the
-// third about 2 and 5.
+// The calls that each of three workers makes. The first worker runs processes 0 and 3, the second 1 and 4, and the
+// third 2 and 5.
 const BY_EACH: [&[Reported]; 3] = [
     &[
         Before(0, 0),
@@ -98,7 +98,7 @@ const BY_EACH: [&[Reported]; 3] = [
     ],
 ];
 
-// Runs the programs by one worker for each part. Checks that each worker reports its part to a log.
+// Runs `SIX` on as many workers as there are parts. Checks that each worker makes the calls of its part to a log.
 fn tells<R: AllocGlobal + Abort + Threads + Wait + Sync>(rt: &R, parts: &[&[Reported]])
     requires { (1 ≤ length parts.now) × (length parts.now ≤ MAX_WORKERS) }
 {

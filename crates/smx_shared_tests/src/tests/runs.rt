@@ -1,4 +1,5 @@
-//! Runs and their fronts, and a run of four processes that are inside at once.
+//! Runs with the fronts that processes see at their end (how many entries and links there are). Also a run whose four
+//! processes wait until all have begun.
 
 ghost use Rattle.std.specs.Prelude.{◌≤◌};
 ghost use Rattle.smx_run.specs.declared.run.TheConstants.{MAX_WORKERS};
@@ -13,7 +14,7 @@ use std::process::Abort;
 use std::sync::Wait;
 use std::thread::Threads;
 
-/// Returns the report of a run of the programs in this text. The gate hears of it.
+/// Returns the report of a run of the programs in this text, with this gate.
 pub fn report_of<R: AllocGlobal + Abort + Threads + Wait + Sync, G: Gate + Sync>(
     rt: &R,
     text: &[u8],
@@ -81,8 +82,8 @@ fn begins_with<R: AllocGlobal + Abort + Threads + Wait + Sync, G: Gate + Sync>(
     forget(report);
 }
 
-// On one worker; and on two workers, with five processes that go on one by one. Each of the first three fronts is seen
-// before a command of a later process is performed.
+// Runs on one worker, and on two workers with five processes that go on one by one. Each of the first three fronts is
+// seen before any command of a later process is performed.
 #[test]
 fn a_front_is_seen_before_the_next_program_of_its_worker(rt: HostRuntime) {
     let first = [front(2, 0, false), front(2, 0, false), front(3, 0, false)];

@@ -1,5 +1,6 @@
-//! Two seats of a shared system, on one thread: they call, try, look and meet, until the history is full. A `Hold` is
-//! called exactly once, even if the command or the call is refused.
+//! Two seats of a shared system, on one thread. They call, try (a call that fails if another seat has the turn), look,
+//! and meet (one seat takes over what the other knew), until the history is full. A `Hold` is called exactly once, even
+//! if the command or the call is refused.
 
 ghost use Rattle.std.specs.Prelude.{◌≡◌, All};
 
@@ -12,7 +13,7 @@ use std::process::Abort;
 use std::sync::Wait;
 use std::sync::atomic::{AtomicU64, Ordering};
 
-// Counts its calls.
+// A `Hold` that counts its calls.
 #[derive(Drop)]
 struct Count {
     calls: AtomicU64,
@@ -24,7 +25,7 @@ impl Hold for Count {
     }
 }
 
-// Returns the answer of a call that called its `Hold` once.
+// Returns the answer of a call. Checks that it called its `Hold` once.
 fn held_once<R: AllocGlobal + Abort + Wait>(
     rt: &R,
     shared: &Shared,
@@ -42,7 +43,7 @@ fn held_once<R: AllocGlobal + Abort + Wait>(
     answer
 }
 
-// Checks that such a call gets this reply.
+// Checks that a call gets this reply, and calls its `Hold` once.
 fn gets<R: AllocGlobal + Abort + Wait>(
     rt: &R,
     shared: &Shared,
@@ -98,7 +99,7 @@ fn tries(rt: &(impl AllocGlobal + Abort), shared: &Shared, seat: &mut Seat)
     forget(entry);
 }
 
-// Checks that a call, a try and a `perform` are refused, and that nothing is added.
+// Checks that a call, a try and a `perform` are refused, since the history is full, and that nothing is added.
 fn is_full<R: AllocGlobal + Abort + Wait>(rt: &R, shared: &Shared, seat: &mut Seat)
     requires { seat.old.shared ≡ shared.now.name }
     ensures { seat.new.shared ≡ shared.now.name }

@@ -1,5 +1,5 @@
-//! Seats that call, try and look, each on its own thread; all but the first are dropped. Some tests use few calls,
-//! and some many. The last two tests make many glances and tries; `bench/looks` takes their times.
+//! Seats that call, try and look, each on its own thread; all except the first are dropped. Some tests make few calls,
+//! and some make many. The last two tests make many looks and tries; `bench/looks` takes their times.
 
 ghost use Rattle.std.specs.Prelude.{◌≤◌};
 ghost use Rattle.smx_types.specs.declared.limits.TheConstants.{MAX_COMMANDS, MAX_PROCESSES};
@@ -11,7 +11,8 @@ use std::process::Abort;
 use std::sync::Wait;
 use std::thread::Threads;
 
-// Plays this stage with this number of seats, in a system over `driver ip mux 64 8 3 16` with this limit of entries.
+// Has this number of seats do the parts of this stage, in a system over `driver ip mux 64 8 3 16` with this limit of
+// entries. Checks the end.
 fn comes_to<R: AllocGlobal + Abort + Threads + Wait + Sync>(
     rt: &R,
     stage: Stage,
@@ -72,7 +73,7 @@ fn ten_million_glances(rt: HostRuntime) {
     comes_to(&rt, stage, 10, 2, (1, 0, 0, 0));
 }
 
-// Another seat has the turn.
+// The seat that tries finds that another seat has the turn.
 #[test]
 fn a_million_tries(rt: HostRuntime) {
     let stage = Stage::of(

@@ -21,13 +21,13 @@ pub enum Part {
     Rests,
     /// Looks this many times, and finds nothing.
     Looks(u32),
-    /// Holds the turn until the wanted number have seen it held, and gets the stream with minor 0.
+    /// Holds the turn until it was seen held the wanted number of times. Gets the stream with minor 0.
     Holds,
     /// Finds the turn held, with nothing in the history, by a look and then by each of this many tries.
     Tries(u32),
-    /// Looks on until two have ended, and never sees a shorter history.
+    /// Looks until two seats have ended their `OpensAndCloses`. The history never becomes shorter from look to look.
     LooksOn,
-    /// Opens a stream after somebody has seen the turn free, and then closes it and opens it 500 times.
+    /// Opens a stream after some seat has seen the turn free, and then closes it and opens one 500 times.
     OpensAndCloses,
     /// Calls this many times.
     Calls(u32),
@@ -35,15 +35,15 @@ pub enum Part {
     Opens(u32),
 }
 
-/// The parts of the first few seats and of the others, which are played at the same time; the part that the very first
-/// seat plays afterwards; and counts of the calls and of the turns that were seen.
+/// What seats do in a test. The first few seats have one part, and the others have another part, at the same time. Then
+/// the very first seat has a last part. The counts say what the seats have seen so far.
 #[derive(Drop)]
 pub struct Stage {
     clone_ip: Command,
     first: (u32, Part),
     others: Part,
     last: Part,
-    // How many have to see the turn held before it is given back.
+    // How often the turn has to be seen held before it is given back.
     wanted: u64,
     // Whether the turn is held, or was.
     begun: AtomicU64,
@@ -51,7 +51,7 @@ pub struct Stage {
     free: AtomicU64,
     // How often the turn was seen held.
     held: AtomicU64,
-    // How many of those that open and close have ended.
+    // How many seats have ended their `OpensAndCloses`.
     ended: AtomicU64,
     // How many tries found the turn held.
     busy: AtomicU64,
@@ -66,7 +66,8 @@ fn add_one(count: &AtomicU64) {
 }
 
 impl Stage {
-    /// Creates a stage on which nothing is done yet. `wanted` have to see the turn held before it is given back.
+    /// Creates a stage on which nothing is done yet. `wanted` says how often the turn has to be seen held before it
+    /// is given back.
     pub fn of(rt: &impl Abort, first: (u32, Part), others: Part, last: Part, wanted: u64) -> Stage {
         Stage {
             clone_ip: clone_of(rt, "ip"),
@@ -108,7 +109,7 @@ fn finds_nothing(rt: &impl Abort, shared: &Shared, seat: &mut Seat, count: u32)
     }
 }
 
-// Holds the turn until the wanted number have seen it held, and gets the stream with minor 0.
+// Holds the turn until it was seen held the wanted number of times. Gets the stream with minor 0.
 fn holds<R: AllocGlobal + Abort + Wait>(rt: &R, shared: &Shared, seat: &mut Seat, stage: &Stage)
     requires { seat.old.shared ≡ shared.now.name }
     ensures { seat.new.shared ≡ shared.now.name }
@@ -148,13 +149,13 @@ fn tries(
     add_one(&stage.held);
 }
 
-// Returns whether two have ended. Lets others go on first.
+// Lets other threads go on. Then returns whether two seats have ended their `OpensAndCloses`.
 fn is_ended(stage: &Stage) -> bool {
     thread::yield_now();
     stage.ended.load(Ordering::SeqCst) == 2
 }
 
-// Looks on until two have ended. Checks that the history never becomes shorter.
+// Looks until two seats have ended their `OpensAndCloses`. Checks that the history never becomes shorter.
 fn looks_on(rt: &impl Abort, shared: &Shared, seat: &mut Seat, stage: &Stage)
     requires { seat.old.shared ≡ shared.now.name }
     ensures { seat.new.shared ≡ shared.now.name }
@@ -187,7 +188,7 @@ fn is_answered<R: AllocGlobal + Abort + Wait>(
     forget(answer);
 }
 
-// Opens a stream after somebody has seen the turn free, and then closes it and opens one 500 times.
+// Opens a stream after some seat has seen the turn free, and then closes it and opens one 500 times.
 fn opens_and_closes<R: AllocGlobal + Abort + Wait>(
     rt: &R,
     shared: &Shared,
@@ -256,7 +257,7 @@ fn gets<R: AllocGlobal + Abort + Wait>(
     forget(entry);
 }
 
-// Lets this seat do this part.
+// Has this seat do this part.
 fn plays<R: AllocGlobal + Abort + Wait>(
     rt: &R,
     shared: &Shared,
@@ -279,7 +280,7 @@ fn plays<R: AllocGlobal + Abort + Wait>(
     }
 }
 
-// Lets this seat do its part, and returns it.
+// Has this seat do its part, and returns the seat.
 fn comes_back<R: AllocGlobal + Abort + Wait>(
     rt: &R,
     shared: &Shared,
@@ -294,7 +295,7 @@ fn comes_back<R: AllocGlobal + Abort + Wait>(
     seat
 }
 
-// Lets each of these seats do its part on its own thread, and drops it there.
+// Has each of these seats do its part on its own thread, and drops the seat there.
 fn start_all<'s, E, R: AllocGlobal + Abort + Threads + Wait + Sync>(
     scope: &'s Scope<'s, E>,
     rt: &'s R,
@@ -331,7 +332,7 @@ fn others_play<R: AllocGlobal + Abort + Threads + Wait + Sync>(
     );
 }
 
-// Returns the first of these seats, after all have played and it has done its last part.
+// Has all of these seats do their parts, and then the first seat its last part. Returns the first seat.
 fn all_play<R: AllocGlobal + Abort + Threads + Wait + Sync>(
     rt: &R,
     shared: &Shared,
@@ -356,12 +357,12 @@ fn all_play<R: AllocGlobal + Abort + Threads + Wait + Sync>(
     zero
 }
 
-/// The result when all have played: the number of entries at the end, of tries that found the turn held, of calls
-/// that succeeded, and of calls that found the history full.
+/// The numbers at the end: of entries, of tries that found the turn held, of calls that succeeded, and of calls that
+/// found the history full.
 pub type End = (usize, u64, u64, u64);
 
-/// Lets all of these seats play, each on its own thread. The first one comes back and closes. Checks that this is the
-/// end.
+/// Has all of these seats do their parts, each on its own thread. The first seat then closes the system. Checks the
+/// numbers at the end.
 pub fn is_played<R: AllocGlobal + Abort + Threads + Wait + Sync>(
     rt: &R,
     stage: &Stage,

@@ -1,5 +1,4 @@
-//! Every number of drivers, and every size of a message: at none of them a call of a configuration runs out of
-//! memory.
+//! Every number of drivers, and every size of a message. No call of a configuration runs out of memory.
 
 use super::worked::is_worked;
 use smx_samples::Part::{Each, Once};

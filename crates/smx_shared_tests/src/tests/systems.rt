@@ -1,5 +1,5 @@
-//! Systems: how they play a worked history, commands that are moved into them, their copies, and one that counts its
-//! entries.
+//! Systems: how they perform the commands of a worked history, commands that are moved into a system, copies of
+//! systems, and a system that only counts its entries.
 
 use super::made::{clone_of, numbered, read, system_over, tells_of_want};
 use super::worked::shown;
@@ -17,7 +17,7 @@ pub fn copied(rt: &(impl AllocGlobal + Abort), system: &System) -> System {
     }
 }
 
-// Returns the entry of this command, which is asked for again if memory ran out.
+// Performs the command of `want` and returns its entry. Tries again if memory ran out.
 fn applied(rt: &(impl Abort + Print), system: &mut System, want: &Entry) -> Entry {
     match system.apply(want.process, &want.command) {
         Ok(entry) => entry,
@@ -117,7 +117,7 @@ fn entries_that_are_only_counted(rt: HostRuntime) {
     forget(want);
 }
 
-// The same three commands get entries, and then the history is full.
+// Three commands get entries, and then the history is full.
 #[test]
 fn three_entries_are_the_most(rt: HostRuntime) {
     let want = read(&rt, THREE);

@@ -1,6 +1,6 @@
-//! Three seats, each on its own thread. Two look on while the third one holds the turn, and one of them also tries.
-//! Then they meet, and a report of the system that they shared is gathered. And a seat meets one that has called on its
-//! own thread.
+//! Three seats, each on its own thread. Two seats look while the third has the turn, and one of the two also tries to
+//! call. Then the seats meet (one takes over what the others knew), and a report of the system is gathered. In another
+//! test, a seat meets a seat that has called on its own thread.
 
 ghost use Rattle.std.specs.Prelude.{◌≡◌, All};
 
@@ -16,7 +16,7 @@ use std::sync::Wait;
 use std::sync::atomic::{AtomicU64, Ordering};
 use std::thread::{Threads, join};
 
-// Whether the turn is held, and how many looks and tries have seen it held. It is given back when three have.
+// Whether the turn is held, and how many looks and tries have seen it held. The turn is given back after three.
 #[derive(Drop)]
 struct Watched {
     held: AtomicU64,
@@ -30,7 +30,7 @@ impl Hold for Watched {
     }
 }
 
-// The seat that holds the turn gets the stream with minor 1.
+// Calls, and keeps the turn until it was seen held three times. Checks that the call gets the stream with minor 1.
 fn holds<R: AllocGlobal + Abort + Wait>(
     rt: &R,
     shared: &Shared,
@@ -48,7 +48,7 @@ fn holds<R: AllocGlobal + Abort + Wait>(
     seat
 }
 
-// Checks that a look sees it held, after one entry.
+// Checks that a look sees the turn held, after one entry.
 fn sees_it_held(rt: &impl Abort, shared: &Shared, mut seat: Seat, watched: &Watched) -> Seat
     requires { seat.shared ≡ shared.now.name }
     ensures { result.shared ≡ shared.now.name }
@@ -59,7 +59,7 @@ fn sees_it_held(rt: &impl Abort, shared: &Shared, mut seat: Seat, watched: &Watc
     seat
 }
 
-// Checks that a look does so, and then a try.
+// Checks that a look, and then a try, sees the turn held, after one entry.
 fn tries_while_held(
     rt: &(impl AllocGlobal + Abort),
     shared: &Shared,
@@ -76,7 +76,7 @@ fn tries_while_held(
     seat
 }
 
-// Returns the first two seats, which have both seen it held; the second one has tried.
+// Returns the first two seats. Both have seen the turn held by a look, and the second also by a try.
 fn two_look_on<R: AllocGlobal + Abort + Threads + Sync>(
     rt: &R,
     shared: &Shared,
@@ -100,7 +100,7 @@ fn two_look_on<R: AllocGlobal + Abort + Threads + Sync>(
     )
 }
 
-// Returns the three seats; the last one has held the turn.
+// Returns the three seats. The third has held the turn, and the first two have seen it held.
 fn three_on_threads<R: AllocGlobal + Abort + Threads + Wait + Sync>(
     rt: &R,
     shared: &Shared,
@@ -131,8 +131,8 @@ fn three_on_threads<R: AllocGlobal + Abort + Threads + Wait + Sync>(
     )
 }
 
-// The first one calls; two see the third one hold the turn; the second one tries again, without a look before; the
-// first one looks, and meets the others.
+// The first seat calls. The first and the second see the third hold the turn. The second tries again, without a look
+// before. The first looks, and meets the others.
 fn three_meet<R: AllocGlobal + Abort + Threads + Wait + Sync>(
     rt: &R,
     shared: &Shared,
@@ -156,7 +156,7 @@ fn three_meet<R: AllocGlobal + Abort + Threads + Wait + Sync>(
     zero
 }
 
-// Checks that these are the processes of the entries.
+// Checks that the entries are of these processes, in this order.
 fn are_of(rt: &impl Abort, entries: &[Entry], processes: [u32; 3]) {
     assert_eq!(rt; entries.len(), 3);
     for number in 0..3 {
@@ -189,7 +189,7 @@ fn gets<R: AllocGlobal + Abort + Wait>(rt: &R, shared: &Shared, seat: &mut Seat,
     forget(entry);
 }
 
-// Does so and returns the seat.
+// Calls, gets the stream with this minor, and returns the seat.
 fn gets_and_ends<R: AllocGlobal + Abort + Wait>(
     rt: &R,
     shared: &Shared,
@@ -203,8 +203,8 @@ fn gets_and_ends<R: AllocGlobal + Abort + Wait>(
     seat
 }
 
-// The first one calls, and then the third one on its own thread, which returns it. The second one meets the third,
-// and calls.
+// The first seat calls. The third seat calls on its own thread and comes back. The second seat meets the third, and
+// calls.
 fn second_meets_third<R: AllocGlobal + Abort + Threads + Wait + Sync>(
     rt: &R,
     shared: &Shared,

@@ -1,4 +1,5 @@
-//! Whole worked histories. They also pass if any one allocation fails, and tests/refused_growths runs them so.
+//! Worked histories, calls of two seats, and a run. These tests also pass if any one allocation fails;
+//! tests/refused_growths runs them with each allocation failing in turn.
 
 ghost use Rattle.std.specs.Prelude.{◌≡◌, All};
 
@@ -16,7 +17,8 @@ use std::process::Abort;
 use std::sync::Wait;
 use std::thread::Threads;
 
-// Marks across a join, three causes of dropping, deliveries, and a device that hangs up.
+// Four worked histories: full queues on both sides of a link, three causes for dropping messages, deliveries, and a
+// device that hangs up.
 const WORKED: [&[u8]; 4] = [
     b"transcript 1
 driver ip mux 4 8 3 16
@@ -87,8 +89,7 @@ fn worked_histories(rt: HostRuntime) {
     }
 }
 
-// Returns a system over `ip`, with a limit of ten entries, shared by two processes. It is started again if memory ran
-// out.
+// Returns a system over `ip`, with a limit of ten entries, shared by two processes. Tries again if memory ran out.
 fn shared_by_two(rt: &(impl AllocGlobal + Abort)) -> (Shared, Vec<Seat>)
     ensures { All (λ s. s.shared ≡ result.0.name) result.1.items }
 {
@@ -98,7 +99,7 @@ fn shared_by_two(rt: &(impl AllocGlobal + Abort)) -> (Shared, Vec<Seat>)
     }
 }
 
-// Calls, and calls again if memory ran out. Then the other seat has seen no entry.
+// Calls, and calls again if memory ran out. Before it calls again, the other seat sees no entry.
 fn called(
     rt: &(impl AllocGlobal + Abort + Print + Wait),
     shared: &Shared,
@@ -120,7 +121,7 @@ fn called(
     }
 }
 
-// The same for a try, after one entry.
+// Tries, and tries again if memory ran out. Before it tries again, the other seat sees only one entry.
 fn tried(
     rt: &(impl AllocGlobal + Abort + Print),
     shared: &Shared,
@@ -180,7 +181,7 @@ exit
 end
 ";
 
-// Returns the two programs, read again if memory ran out.
+// Reads the two programs. Tries again if memory ran out.
 fn two_programs(rt: &(impl AllocGlobal + Abort)) -> Programs {
     match read_programs(rt.alloc(), TWO) {
         Ok(programs) => programs,

@@ -13,7 +13,7 @@ const LAST_TWO: Part = Once("0 close 1 = EBADF fd\n1 read 0 = EAGAIN empty\n");
 
 const END: Part = Once("config\nnext 1 1\nfd 0 0 ip 0\nfd 1 0 ip 1\nend\n");
 
-// Verdicts on four entries: all legal, with another view, and wrong at each place.
+// Verdicts on four entries: all are legal; the view is another one; one entry is wrong, at each of the four places.
 const FOUR: [(&[Part], Verdict); 6] = [
     (&[DRIVER, FIRST_TWO, LAST_TWO, END], Verdict::Legal),
     (
@@ -63,7 +63,7 @@ const FOUR: [(&[Part], Verdict); 6] = [
     ),
 ];
 
-// Verdicts on transcripts. In the last two the 100,000th entry is the one that may be wrong.
+// Verdicts on transcripts. The last two have 100,000 entries, of which only the last may be wrong.
 const JUDGED: [(&[Part], Verdict); 5] = [
     (
         &[Once("transcript 1\nconfig\nnext 1 1\nend\n")],

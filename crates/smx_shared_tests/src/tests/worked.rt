@@ -1,7 +1,8 @@
-//! How a worked history is tested. It is typed in as a transcript. Its entries are legal. Its commands get the replies
-//! of its entries from `step`, from a system, and twice from `step_twin`. At its end its view is shown, also by a copy
-//! and by a configuration that is consumed. A call that ran out of memory is repeated; after such a step the view is as
-//! before. Large values are given to `forget`, because dropping one makes the proof longer.
+//! How a worked history is tested. It is typed in as a transcript, and its entries are legal. Its commands get the
+//! replies of its entries: from `step`, from a system, and twice from `step_twin`. At the end the transcript's view is
+//! shown, also by a copy and by a configuration that is consumed. A call that ran out of memory is repeated; after a
+//! step that ran out of memory, the view is as before. Large values are given to `forget`, because dropping one makes
+//! the proof longer.
 
 use super::made::{read, system_over, tells_of_want};
 use super::systems::plays;
@@ -30,7 +31,8 @@ fn is_behind(rt: &(impl AllocGlobal + Abort), config: &Config, entries: &[Entry]
     forget((other, now, want));
 }
 
-// Returns the reply to the command of an entry that comes after these others.
+// Returns the reply of `step` to the command of an entry. `others` are the entries before it. Tries again if memory ran
+// out.
 fn reply_to(
     rt: &(impl AllocGlobal + Abort + Print),
     config: &mut Config,
@@ -48,7 +50,8 @@ fn reply_to(
     }
 }
 
-// The same for a step that returns two replies.
+// Returns both replies of `step_twin` to the command of an entry. `others` are the entries before it. Tries again if
+// memory ran out.
 fn replies_to(
     rt: &(impl AllocGlobal + Abort + Print),
     config: &mut Config,
@@ -126,7 +129,7 @@ fn copy_is_so(rt: &(impl AllocGlobal + Abort), config: &Config, want: &Transcrip
     forget(view);
 }
 
-// How the replies are asked for.
+// Which call gives the replies.
 #[derive(Clone, Copy)]
 enum Way {
     OneByOne,
