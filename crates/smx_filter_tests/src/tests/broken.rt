@@ -23,7 +23,7 @@ const DONE: [(Task, &[u8], &[u8], u8); 6] = [
     (Task::Trace, IN_TURN, IN_TURN_TRACED, 0),
 ];
 
-// The same of a run and of checks that explain faults.
+// A run and checks that explain faults, each with its input, its expected output and its expected status.
 const EXPLAINED: [(Task, &[u8], &[u8], u8); 3] = [
     (Task::ExplainedRun, OPENS_AND_CLOSES, OPENED_AND_CLOSED, 0),
     (Task::ExplainedCheck, TWO_PROCESSES, b"legal 2\n", 0),
@@ -35,7 +35,7 @@ const EXPLAINED: [(Task, &[u8], &[u8], u8); 3] = [
     ),
 ];
 
-// Checks that nothing is written, and nothing read again, if the read after this many fails.
+// Has the read after `reads` reads fail. Checks that nothing is written, and that nothing more is read.
 fn writes_nothing<R: AllocGlobal + Abort + Threads + Wait + Sync>(
     rt: &R,
     task: Task,
@@ -50,7 +50,7 @@ fn writes_nothing<R: AllocGlobal + Abort + Threads + Wait + Sync>(
     forget(ran);
 }
 
-// Checks the same at each read, including the one that shows the end.
+// Has each read in turn fail, including the read that shows the end. Checks what `writes_nothing` checks.
 fn reads_no_more<R: AllocGlobal + Abort + Threads + Wait + Sync>(rt: &R, task: Task, input: &[u8]) {
     for kind in &TWO_ERRORS {
         for reads in 0..input.len().saturating_add(1) {
@@ -63,7 +63,7 @@ fn reads_no_more<R: AllocGlobal + Abort + Threads + Wait + Sync>(rt: &R, task: T
     }
 }
 
-// Checks that the task ends byte by byte, with no more calls than it needs.
+// Checks that the task succeeds if each call moves one byte, with no more calls than needed.
 fn ends<R: AllocGlobal + Abort + Threads + Wait + Sync>(
     rt: &R,
     task: Task,
@@ -109,7 +109,7 @@ fn leaves<R: AllocGlobal + Abort + Threads + Wait + Sync>(
     forget(ran);
 }
 
-// Checks the same for each beginning, and for the whole output if the flush fails.
+// Has each write in turn stop, and also the flush. Checks that exactly the earlier bytes of the output are left.
 fn writes_no_more<R: AllocGlobal + Abort + Threads + Wait + Sync>(
     rt: &R,
     task: Task,

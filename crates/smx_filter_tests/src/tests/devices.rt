@@ -1,5 +1,6 @@
 //! A reader and a writer that move one byte in each call, stop once at a given call, and would then go on; and a writer
-//! that takes everything at once. They count their calls. `Source` and `Target` make a feed and a sink of them.
+//! that takes everything at once. All count their calls. `Source` makes a feed of a reader, and `Target` a sink of a
+//! writer.
 
 ghost use Rattle.std.specs.Prelude.{◌≡◌, Some, false};
 
@@ -20,7 +21,7 @@ pub enum Stop {
 /// Two kinds of error with which a call stops: a final one, and one after which a caller could retry.
 pub const TWO_ERRORS: [ErrorKind; 2] = [ErrorKind::Other, ErrorKind::Interrupted];
 
-/// All kinds.
+/// All kinds of error.
 pub const ERRORS: [ErrorKind; 42] = [
     ErrorKind::NotFound,
     ErrorKind::PermissionDenied,

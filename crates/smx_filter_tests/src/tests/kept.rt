@@ -1,4 +1,4 @@
-//! The text that a filter keeps if it or its drivers have a fault.
+//! The text that a filter keeps if the text or its drivers have a fault.
 
 use smx_draw::Form;
 use smx_filters::{

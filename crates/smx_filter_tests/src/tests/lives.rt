@@ -55,8 +55,8 @@ fn explains_lines_that_are_not_commands(rt: HostRuntime) {
     forget(ran);
 }
 
-// Checks that a session whose read after this many fails has answered the lines before it, and no more. These are the
-// answers, if given, and they are flushed.
+// Has the read after `reads` reads fail. Checks that the output is a beginning of `ANSWERS`, and is flushed; and that
+// it is `answers`, if these are given.
 fn is_left<R: AllocGlobal + Abort + Threads + Wait + Sync>(
     rt: &R,
     reads: usize,
@@ -81,7 +81,8 @@ fn is_left<R: AllocGlobal + Abort + Threads + Wait + Sync>(
     forget(ran);
 }
 
-// Within the table, after it, after the first and the second line, and after the last line but one.
+// Numbers of reads, and the answers after them. The reads end after the last line of the table, within and after the
+// line `show`, within and after the line `0 clone ip`, and after the line `SHOW`.
 const BEFORE: [(usize, &[u8]); 6] = [
     (59, b""),
     (63, b""),
@@ -118,7 +119,7 @@ fn leaves_what_was_answered_before_a_failed_read(rt: HostRuntime) {
     }
 }
 
-// Checks that exactly this beginning is left of a session whose writer stops after it.
+// Has the writer stop after `beginning`. Checks that exactly this beginning of the output is left.
 fn leaves<R: AllocGlobal + Abort + Threads + Wait + Sync>(rt: &R, beginning: &[u8], stop: Stop) {
     let (reads, kind) = (usize::MAX, ErrorKind::Other);
     let ran = outcome(rt, Task::Live, LINES, reads, kind, beginning.len(), stop);

@@ -29,7 +29,7 @@ fn reads_to_the_end(rt: HostRuntime) {
 
 const ABC: &[u8] = b"abc";
 
-// Checks that a read that stops fails, is not retried, and leaves these bytes.
+// Checks that the reading fails if one read fails, that this read is not retried, and that these bytes are not read.
 fn stops_before(rt: &(impl AllocGlobal + Abort), reads: usize, left: &[u8], kind: ErrorKind) {
     let mut feed = one_byte_feed(ABC, reads, kind);
     let fault = read_all(rt.alloc(), &mut feed).err();
@@ -82,7 +82,8 @@ fn takes_the_longest_input_in_few_reads_and_none_longer(rt: HostRuntime) {
     assert!(rt; matches!(answer, Err(MainFault::TooLong)));
 }
 
-// The longest input takes 16,777,217 reads. The same number shows that an input with one more byte is too long.
+// Read byte by byte, the longest input takes 16,777,217 reads. An input with one more byte is too long; this too takes
+// 16,777,217 reads.
 #[test]
 fn takes_the_longest_input_byte_by_byte_and_none_longer(rt: HostRuntime) {
     let mut input = Vec::new(rt.alloc());

@@ -1,4 +1,4 @@
-//! The tasks of filters and of live sessions.
+//! Tasks: each is a filter or a live session, from a reader to a writer.
 
 ghost use Rattle.std.specs.Prelude.{◌≡◌, false};
 

@@ -7,11 +7,11 @@ use smx_samples::Part::{Each, Once};
 pub const TWO_PROCESSES: &[u8] =
     b"transcript 1\ndriver ip mux 4 8 3 16\n0 clone ip = fd 0 0\n1 clone ip = fd 0 1\nconfig\nnext 1 1\nfd 0 0 ip 0\nfd 1 0 ip 1\nend\n";
 
-/// The same with another reply to the second command.
+/// `TWO_PROCESSES` with another reply to the second command.
 pub const WRONG_REPLY: &[u8] =
     b"transcript 1\ndriver ip mux 4 8 3 16\n0 clone ip = fd 0 0\n1 clone ip = fd 0 2\nconfig\nnext 1 1\nfd 0 0 ip 0\nfd 1 0 ip 1\nend\n";
 
-/// The same with another minor in the configuration.
+/// `TWO_PROCESSES` with another minor in the configuration.
 pub const OTHER_CONFIGURATION: &[u8] =
     b"transcript 1\ndriver ip mux 4 8 3 16\n0 clone ip = fd 0 0\n1 clone ip = fd 0 1\nconfig\nnext 1 1\nfd 0 0 ip 0\nfd 1 0 ip 2\nend\n";
 
@@ -23,7 +23,7 @@ pub const MARKS_ACROSS_THE_JOIN: &[u8] =
 pub const HANGUP_END_OF_FILE: &[u8] =
     b"transcript 2\ndriver ip mux 4 8 3 16\ndriver eth leaf 2 8 3 16\n0 clone eth = fd 0 0\n0 inject eth 0 9 aa = took 1\n0 hangup eth 0 = done\n0 hangup eth 0 = done\n0 read 0 = got 1 9 aa\n0 read 0 = eof\n0 clone ip = fd 1 0\n0 plink 1 0 = id 1\n0 read 0 = EINVAL below\nconfig\nnext 2 2\nfd 0 0 eth 0\nfd 0 1 ip 0\nlink 1 ip 0 eth 0 plink\nhung eth 0\nend\n";
 
-/// Two opens, a close, and an open that gets what was closed.
+/// Two opens, a close, and an open that gets the descriptor and the stream that were closed.
 pub const OPENS_AND_CLOSES: &[u8] =
     b"programs 1\ndriver ip mux 4 8 3 16\nprocess 0\nclone ip\nclone ip\nclose 0\nclone ip\nend\n";
 
@@ -31,15 +31,15 @@ pub const OPENS_AND_CLOSES: &[u8] =
 pub const OPENED_AND_CLOSED: &[u8] =
     b"transcript 1\ndriver ip mux 4 8 3 16\n0 clone ip = fd 0 0\n0 clone ip = fd 1 1\n0 close 0 = done\n0 clone ip = fd 0 0\nconfig\nnext 1 1\nfd 0 0 ip 0\nfd 0 1 ip 1\nend\n";
 
-/// Two processes take turns, and get other replies than these.
+/// Commands of two processes in turn, with wrong replies and a wrong configuration.
 pub const IN_TURN: &[u8] =
     b"transcript 1\ndriver ip mux 2 8 3 16\ndriver eth leaf 1 8 3 16\n1 clone ip = fd 0 7\n0 clone ip = EMFILE\n0 clone eth = done 1 2\n1 clone ip = EBADF fd\n0 link 0 1 = id 9\n1 exit = got 1 2 ff\n0 route 0 5 1 = EINVAL id\n1 clone ip = took 4294967295\n1 write 0 5 a1 = EAGAIN full\nconfig\nnext 9 9\nfd 63 4294967295 tr 7\nend\n";
 
-/// The replies that they get.
+/// The replay of `IN_TURN`: the same commands with the right replies, and the configuration after them.
 pub const IN_TURN_REPLAYED: &[u8] =
     b"transcript 1\ndriver ip mux 2 8 3 16\ndriver eth leaf 1 8 3 16\n1 clone ip = fd 0 0\n0 clone ip = fd 0 1\n0 clone eth = fd 1 0\n1 clone ip = ENXIO minor\n0 link 0 1 = id 1\n1 exit = done\n0 route 0 5 1 = done\n1 clone ip = fd 0 0\n1 write 0 5 a1 = took 1\nconfig\nnext 2 2\nfd 0 0 ip 1\nfd 0 1 eth 0\nfd 1 0 ip 0\nlink 1 ip 1 eth 0 link\nroute ip 5 1\nmsg eth 0 w 1 5 a1\nend\n";
 
-/// Its trace, with the waits below each entry.
+/// The trace of `IN_TURN`, with the waits (which messages can't move, and why) below each entry.
 pub const IN_TURN_TRACED: &[u8] =
     b"transcript 1\ndriver ip mux 2 8 3 16\ndriver eth leaf 1 8 3 16\n1 clone ip = fd 0 0\n  + fd 1 0 ip 0\n0 clone ip = fd 0 1\n  + fd 0 0 ip 1\n0 clone eth = fd 1 0\n  + fd 0 1 eth 0\n1 clone ip = ENXIO minor\n0 link 0 1 = id 1\n  + link 1 ip 1 eth 0 link\n1 exit = done\n  - fd 1 0 ip 0\n0 route 0 5 1 = done\n  + route ip 5 1\n1 clone ip = fd 0 0\n  + fd 1 0 ip 0\n1 write 0 5 a1 = took 1\n  + msg eth 0 w 1 5 a1\n  waits eth 0 w 1: for the device\nconfig\nnext 2 2\nfd 0 0 ip 1\nfd 0 1 eth 0\nfd 1 0 ip 0\nlink 1 ip 1 eth 0 link\nroute ip 5 1\nmsg eth 0 w 1 5 a1\n  waits eth 0 w 1: for the device\nend\n";
 

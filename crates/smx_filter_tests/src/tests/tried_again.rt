@@ -1,5 +1,6 @@
-//! Checks, replays, traces, pages, and runs with fronts. They also pass if any one allocation fails;
-//! tests/refused_growths runs them so. The output is written to the stack, so the writer allocates nothing.
+//! Checks, a replay, a trace, a page, and runs with fronts. These tests also pass if any one allocation fails;
+//! tests/refused_growths runs them with each allocation failing in turn. The output is written to the stack, so the
+//! writer allocates nothing.
 
 ghost use Rattle.std.specs.Prelude.{◌≤◌};
 
@@ -17,8 +18,7 @@ use std::process::Abort;
 use std::sync::Wait;
 use std::thread::Threads;
 
-// Returns whether memory ran out, or a thread could not be started. The prover can't tell that this happens only if an
-// allocation fails.
+// Returns whether the fault is that memory ran out, or that a thread could not be started.
 fn is_want_of_memory(fault: &MainFault) -> bool {
     matches!(
         fault,
@@ -30,7 +30,7 @@ fn is_want_of_memory(fault: &MainFault) -> bool {
     )
 }
 
-// Returns whether a check succeeds, with this line. Else it ran out of memory, and has written nothing.
+// Returns whether a check succeeds. Checks that it then wrote this line, or else ran out of memory and wrote nothing.
 fn is_answered(rt: &(impl AllocGlobal + Abort), input: &[u8], wanted: &[u8]) -> bool {
     let mut buffer = [0u8; 16];
     let mut sink = Target::new(buffer.as_mut_slice());
@@ -69,7 +69,8 @@ fn checks(rt: HostRuntime) {
     }
 }
 
-// Returns whether a replay succeeds, with the whole transcript. Else it ran out of memory, and has written nothing.
+// Returns whether a replay succeeds. Checks that it then wrote the whole transcript, or else ran out of memory and
+// wrote nothing.
 fn is_replay_answered(rt: &(impl AllocGlobal + Abort)) -> bool {
     let mut buffer = [0u8; 512];
     let mut sink = Target::new(buffer.as_mut_slice());
@@ -95,7 +96,8 @@ fn a_replay(rt: HostRuntime) {
     }
 }
 
-// Returns whether a trace succeeds, with the whole text. Else it ran out of memory, and has written nothing.
+// Returns whether a trace succeeds. Checks that it then wrote the whole text, or else ran out of memory and wrote
+// nothing.
 fn is_trace_answered(rt: &(impl AllocGlobal + Abort)) -> bool {
     let mut buffer = [0u8; 1024];
     let mut sink = Target::new(buffer.as_mut_slice());
@@ -125,7 +127,7 @@ fn a_trace(rt: HostRuntime) {
 const TWO_CLONES: &[u8] =
     b"transcript 1\ndriver ip mux 1 8 3 16\n0 clone ip = done\n0 clone ip = done\nconfig\nnext 1 1\nend\n";
 
-// The steps of their page, as far as the pictures.
+// The steps of the page of `TWO_CLONES`, each up to its picture.
 const TWO_CLONES_STEPPED: [&[u8]; 3] = [
     b"<section id='beginning'>\n<h2>beginning</h2>\n<pre>transcript 1\ndriver ip mux 1 8 3 16\n</pre>\n<svg ",
     b"<section id='1'>\n<h2>1</h2>\n<pre>0 clone ip = fd 0 0\n  + fd 0 0 ip 0\n</pre>\n<svg ",
@@ -142,7 +144,8 @@ fn has(text: &[u8], part: &[u8]) -> bool {
     false
 }
 
-// Returns whether a page is made, with its steps. Else it ran out of memory, and has written nothing.
+// Returns whether a page is made. Checks that it then has its steps, or else that memory ran out and nothing was
+// written.
 fn is_page_answered(rt: &(impl AllocGlobal + Abort)) -> bool {
     let mut buffer = [0u8; 32_768];
     let mut sink = Target::new(buffer.as_mut_slice());
@@ -175,8 +178,8 @@ fn a_page(rt: HostRuntime) {
 const ONE_OF_TWO: &[u8] =
     b"programs 1\ndriver ip mux 4 8 3 16\nprocess 0\nclone ip\nclone ip\nexit\nprocess 1\nend\n";
 
-// Returns whether a run of these programs succeeds, with fronts that begin with these bytes. Else it ran out of
-// memory, and has written nothing.
+// Returns whether a run of `ONE_OF_TWO` succeeds. Checks that it then wrote fronts that begin with these bytes, or else
+// ran out of memory and wrote nothing.
 fn are_fronts_answered<R: AllocGlobal + Abort + Threads + Wait + Sync>(
     rt: &R,
     workers: usize,

@@ -1,4 +1,4 @@
-//! Runs whose gate waits until all the requested workers are there, and runs that report their commands to a gate.
+//! Runs whose gate has each process wait until all requested workers run, and runs whose gate counts its calls.
 
 ghost use Rattle.std.specs.Prelude.{◌≤◌};
 
@@ -19,15 +19,15 @@ use std::thread::Threads;
 // The largest number of turns that a worker waits.
 const TURNS: u32 = 100_000_000;
 
-// Each process waits before its first command until the wanted number are there. After its last command it waits
-// until the wanted number have performed theirs.
+// Each process waits before its first command until the wanted number of processes have begun. After its last command
+// it waits until the wanted number of processes have performed their last command.
 #[derive(Drop)]
 struct Meet {
     wanted: u64,
     // The number of each program's last command.
     last: usize,
     inside: AtomicU64,
-    // How many have seen all inside.
+    // How many processes have seen that all have begun.
     met: AtomicU64,
     ended: AtomicU64,
 }
@@ -65,7 +65,7 @@ impl Gate for Meet {
         }
     }
 
-    // If they have not met, nobody waits again.
+    // If no process has seen that all have begun, none waits here.
     fn after(&self, _process: Process, number: usize) {
         if number == self.last {
             self.ended.fetch_add(1, Ordering::SeqCst);
@@ -81,7 +81,7 @@ fn linking(rt: &(impl AllocGlobal + Abort), count: u32) -> String {
     whole(rt, &[begin, processes, Once("end\n")])
 }
 
-// Returns the output of a run in which all these workers were inside at once.
+// Returns the output of a run. Checks that all its workers ran at once.
 fn met_and_wrote<R: AllocGlobal + Abort + Threads + Wait + Sync>(
     rt: &R,
     input: &[u8],
@@ -108,8 +108,8 @@ fn met_and_wrote<R: AllocGlobal + Abort + Threads + Wait + Sync>(
     written.writer
 }
 
-// The number of workers, the verdict on what they write for as many processes, and the front that each process sees
-// at its end.
+// For runs with as many workers as processes: this number, the verdict on the transcript, and the front (the numbers of
+// entries and links) that each process sees at its end.
 const MEETINGS: [(u32, &[u8], &str); 5] = [
     (2, b"legal 6\n", "front {n} 6 2\n"),
     (3, b"legal 9\n", "front {n} 9 3\n"),
@@ -137,7 +137,7 @@ fn two_workers_are_inside_at_once_on_a_long_input(rt: HostRuntime) {
     is_judged(&rt, written.as_slice(), b"legal 10000\n");
 }
 
-// Counts the reports before a command and those after it.
+// Counts the calls before a command, and the calls after a command.
 #[derive(Drop)]
 struct Counts {
     before: AtomicU64,
@@ -158,7 +158,7 @@ impl Gate for Counts {
 const FOUR: &[u8] =
     b"programs 1\ndriver ip mux 4 8 3 16\ndriver eth leaf 2 8 3 16\nprocess 0\nclone ip\nexit\nprocess 1\nclone ip\nexit\nprocess 2\nclone ip\nexit\nprocess 3\nclone ip\nexit\nend\n";
 
-// Checks that a run of them by this number of workers reports eight commands to its gate, and writes a legal
+// Checks that a run of `FOUR` by this number of workers calls its gate for eight commands, and writes a legal
 // transcript.
 fn reports_all_eight<R: AllocGlobal + Abort + Threads + Wait + Sync>(
     rt: &R,
@@ -213,7 +213,7 @@ const MALFORMED: &[u8] =
 const SAME_NAME: &[u8] =
     b"programs 1\ndriver ip mux 4 8 3 16\ndriver ip mux 4 8 3 16\nprocess 0\nexit\nprocess 1\nexit\nend\n";
 
-// Runs an input that is refused. Checks that the gate hears of no command.
+// Runs an input that is refused. Checks that the gate is not called.
 fn refused_unheard<R: AllocGlobal + Abort + Threads + Wait + Sync>(
     rt: &R,
     input: &[u8],

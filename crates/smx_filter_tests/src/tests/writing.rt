@@ -45,7 +45,7 @@ fn stops_behind(rt: &(impl AllocGlobal + Abort), beginning: &[u8], stop: Stop) {
     assert!(rt; sink.writer.asked == calls.saturating_add(1));
 }
 
-// Checks the same for each beginning that is not the whole.
+// Has the write stop after each beginning that is not the whole text. Checks what `stops_behind` checks.
 fn stops_behind_each(rt: &(impl AllocGlobal + Abort), stop: Stop) {
     for calls in 0..3 {
         stops_behind(rt, &ABC[..calls], stop);
@@ -58,7 +58,7 @@ fn tries_no_write_and_no_flush_again(rt: HostRuntime) {
         stops_behind_each(&rt, Stop::Fails(*kind));
     }
     stops_behind_each(&rt, Stop::TakesNone);
-    // Nor is a flush retried.
+    // A flush that fails is not retried either.
     for kind in &ERRORS {
         stops_behind(&rt, ABC, Stop::Fails(*kind));
     }
