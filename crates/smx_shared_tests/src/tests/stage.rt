@@ -35,8 +35,8 @@ pub enum Part {
     Opens(u32),
 }
 
-/// What seats do in a test. The first few seats have one part, and the others have another part, at the same time. Then
-/// the very first seat has a last part. The counts say what the seats have seen so far.
+/// The parts of the seats of a test. The first few seats have one part, and the others have another part, at the same
+/// time. Then the very first seat has a last part. The counts say what the seats have seen so far.
 #[derive(Drop)]
 pub struct Stage {
     clone_ip: Command,

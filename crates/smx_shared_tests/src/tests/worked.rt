@@ -129,7 +129,7 @@ fn copy_is_so(rt: &(impl AllocGlobal + Abort), config: &Config, want: &Transcrip
     forget(view);
 }
 
-// Which call gives the replies.
+// The call that gives the replies.
 #[derive(Clone, Copy)]
 enum Way {
     OneByOne,
