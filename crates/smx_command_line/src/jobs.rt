@@ -27,7 +27,8 @@ pub enum Job {
         /// Whether a fault of the text or of its drivers is explained.
         explain: bool,
     },
-    /// Performs the commands of the input, a transcript, and writes each entry that results, with what it changes.
+    /// Performs the commands of the input, a transcript, and writes the trace of the transcript that results: the
+    /// transcript, with what each entry changes, and why the first message of each queue can't move.
     Trace {
         /// Whether each queue's first message that can't move is also listed below each entry.
         waits: bool,

@@ -59,7 +59,7 @@ fn mark_reads_of(tables: &Tables, run: &mut Bits, driver: u8, addr: u32, lower: 
     }
 }
 
-// Calls `mark_reads_of` with each driver as `lower`.
+// Calls `mark_reads_of` with each driver as `lower`. Does nothing if no message is queued.
 pub fn mark_reads(tables: &Tables, run: &mut Bits, driver: u8, addr: u32)
     requires { run.old.count ≡ length (places_of tables.now.drivers) }
     ensures { IsMarkedWhere tables.now.drivers tables.now.configuration.flow

@@ -12,10 +12,10 @@ use smx_types::Version;
 use std::fmt;
 
 /// A text and its fault. Prints two lines: at most 80 columns of the malformed line, with its number, and what is wrong
-/// with it. If no text of this kind and version can have the line, the second line says in which column the line
-/// becomes invalid, and what was expected there. The first line then shows this column. A third line follows if there
-/// is a hint: that version 2 has the word, a similar word, that hex digits have small letters, or that the line is one
-/// of a session's output or of a trace.
+/// with it. If no text of this kind and version can have the line after its header, the second line says in which
+/// column the line becomes invalid, and what was expected there. The first line then shows this column. A third line
+/// follows if there is a hint: that version 2 has the word, a similar word, that hex digits have small letters, or that
+/// the line is one of a session's output or of a trace.
 #[derive(Clone, Copy)]
 pub struct FaultExplanation<'a> {
     /// The text that was expected.
@@ -28,7 +28,8 @@ pub struct FaultExplanation<'a> {
 }
 
 impl FaultExplanation<'_> {
-    // Returns the column in which the line becomes invalid, if no text of this kind and version can have the line.
+    // Returns the column in which the line becomes invalid, if no text of this kind and version can have the line
+    // after its header.
     fn column(&self, line: &[u8]) -> Option<LineColumn> {
         match self.fault.cause {
             Cause::Form => column_of(self.kind.lines(), version_of(self.text), line),

@@ -14,7 +14,7 @@ pub trait Feed {
     /// The bytes that further reads will give, if they are known.
     ghost remaining: { Self → Option (List ℕ) };
 
-    /// Whether the last read gave no bytes, which shows the end.
+    /// Whether the end was reached: a read succeeded and gave no bytes.
     ghost ended: { Self → Bool };
 
     /// How many reads have failed.

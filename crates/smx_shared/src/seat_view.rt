@@ -19,8 +19,8 @@ pub struct SeatView {
     pub seen: LinkedList<Entry>,
     /// The entries that were made under its process.
     pub own: LinkedList<Entry>,
-    /// The value that the seat's last step on the first word loaded or stored, and the number of its steps on that
-    /// word.
+    /// The value that the seat's last step on the first word found there (or stored there, if the step was a store),
+    /// and the number of its steps on that word.
     pub last: u64,
     pub looks: u64,
     /// Whether the seat has the turn.

@@ -21,7 +21,7 @@ pub enum Part {
     Rests,
     /// Looks this many times, and finds nothing.
     Looks(u32),
-    /// Holds the turn until it was seen held the wanted number of times. Gets the stream with minor 0.
+    /// Holds the turn until `held` of the stage is the wanted number. Gets the stream with minor 0.
     Holds,
     /// Finds the turn held, with nothing in the history, by a look and then by each of this many tries.
     Tries(u32),
@@ -43,13 +43,13 @@ pub struct Stage {
     first: (u32, Part),
     others: Part,
     last: Part,
-    // How often the turn has to be seen held before it is given back.
+    // The value that `held` has to reach before the turn is given back.
     wanted: u64,
     // Whether the turn is held, or was.
     begun: AtomicU64,
     // How often the turn was seen free.
     free: AtomicU64,
-    // How often the turn was seen held.
+    // How many seats have ended their `Tries`, plus how many looks of `LooksOn` found the turn held.
     held: AtomicU64,
     // How many seats have ended their `OpensAndCloses`.
     ended: AtomicU64,
@@ -66,8 +66,8 @@ fn add_one(count: &AtomicU64) {
 }
 
 impl Stage {
-    /// Creates a stage on which nothing is done yet. `wanted` says how often the turn has to be seen held before it
-    /// is given back.
+    /// Creates a stage on which nothing is done yet. `wanted` is the value that `held` has to reach before the turn is
+    /// given back.
     pub fn of(rt: &impl Abort, first: (u32, Part), others: Part, last: Part, wanted: u64) -> Stage {
         Stage {
             clone_ip: clone_of(rt, "ip"),
@@ -109,7 +109,7 @@ fn finds_nothing(rt: &impl Abort, shared: &Shared, seat: &mut Seat, count: u32)
     }
 }
 
-// Holds the turn until it was seen held the wanted number of times. Gets the stream with minor 0.
+// Holds the turn until `held` of the stage is the wanted number. Gets the stream with minor 0.
 fn holds<R: AllocGlobal + Abort + Wait>(rt: &R, shared: &Shared, seat: &mut Seat, stage: &Stage)
     requires { seat.old.shared ≡ shared.now.name }
     ensures { seat.new.shared ≡ shared.now.name }

@@ -52,8 +52,8 @@ pub(super) fn put_last(out: &mut Vec<u8>, n: u32) -> Result<(), NoMemory>
     put_byte(out, b'\n')
 }
 
-/// Appends the digits of a number. A single digit is appended without a buffer. With the buffer, this would take a
-/// tenth of the time of a run of short commands.
+/// Appends the digits of a number. A single digit is appended without a buffer: the buffer alone would take a tenth of
+/// the time of a run of short commands.
 pub(super) fn put_digits(out: &mut Vec<u8>, n: u32) -> Result<(), NoMemory>
     ensures written { OnOk result (out.new.items ≡ out.old.items ++ decimal n) }
     ensures fits { FitsNumber n }
