@@ -1,4 +1,4 @@
-//! Laws of how the program ends, each the contract of a function that does nothing.
+//! Laws of how the program ends. Each law is the contract of a function that does nothing.
 
 ghost use Rattle.std.specs.Prelude.{◌≡◌, ◌≢◌, ◌⊎◌, ◌↔◌, ◌++◌, ℕ, Bool, true, List, Option};
 ghost use Rattle.std.specs.Io.KnownBytes.{Keeps};

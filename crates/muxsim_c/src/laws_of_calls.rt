@@ -1,4 +1,4 @@
-//! Laws of calls, each the contract of a function that does nothing.
+//! Laws of calls. Each law is the contract of a function that does nothing.
 
 ghost use Rattle.std.specs.Prelude.{◌≡◌, ℕ, List, Some, None, Ok, Err, codes, pos};
 ghost use Rattle.smx_session.specs.WorkedSessions.{begun, hung, opened, table};

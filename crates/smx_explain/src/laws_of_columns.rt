@@ -1,4 +1,4 @@
-//! Laws of columns, each the contract of a function that does nothing.
+//! Laws of columns. Each law is the contract of a function that does nothing.
 
 ghost use Rattle.std.specs.Prelude.{◌≡◌, ℕ, List, [], Some, codes};
 ghost use Rattle.smx_explain.specs.Hints.{IsHeader, IsHintOn};

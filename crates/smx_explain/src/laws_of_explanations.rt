@@ -1,4 +1,4 @@
-//! Laws of explanations, each the contract of a function that does nothing.
+//! Laws of explanations. Each law is the contract of a function that does nothing.
 
 ghost use Rattle.std.specs.Prelude.{◌≡◌, ◌+◌, ◌<◌, ℕ, List, [], length, take, codes};
 ghost use Rattle.smx_types.specs.declared.transcript.Transcript.{Transcript};

@@ -1,4 +1,4 @@
-//! Laws of the answer to an input, each the contract of a function that does nothing.
+//! Laws of the answer to an input. Each law is the contract of a function that does nothing.
 
 ghost use Rattle.std.specs.Prelude.{◌≡◌, ◌≤◌, ℕ, Bool, true, false, List, All, length, map, Option, Result};
 ghost use Rattle.smx_types.specs.ProgramLists.{ProgramLists};

@@ -1,4 +1,5 @@
-//! Laws of checks with explanations, and of texts that are kept, each the contract of a function that does nothing.
+//! Laws of checks with explanations, and of texts that are kept. Each law is the contract of a function that does
+//! nothing.
 
 ghost use Rattle.std.specs.Global.{Global};
 ghost use Rattle.std.specs.Prelude.{◌≡◌, ℕ, ◌++◌, Bool, false, true, List, [], Some, None, Result, Err, Vec};

@@ -1,5 +1,5 @@
-//! Laws of runs, checks, replays, traces, drawings and pages whose input and output are in memory, each the contract of
-//! a function that does nothing.
+//! Laws of runs, checks, replays, traces, drawings and pages whose input and output are in memory. Each law is the
+//! contract of a function that does nothing.
 
 ghost use Rattle.std.specs.Prelude.{◌≡◌, ℕ, Bool, true, false, List, [], Option, Result, Some, Err};
 ghost use Rattle.smx_types.specs.ProgramLists.{ProgramLists};

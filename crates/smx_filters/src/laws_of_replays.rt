@@ -1,4 +1,4 @@
-//! Laws of replays over bytes, each the contract of a function that does nothing.
+//! Laws of replays over bytes. Each law is the contract of a function that does nothing.
 
 ghost use Rattle.std.specs.Prelude.{◌≡◌, ℕ, List, None, Option};
 ghost use Rattle.smx_config.specs.declared.verdict.Verdict.TheVariants.{Legal};

@@ -1,4 +1,4 @@
-//! A law of lists of links: an example, as the contract of a function that does nothing.
+//! A law of lists of links: an example. The law is the contract of a function that does nothing.
 
 ghost use Rattle.std.specs.Prelude.{◌≡◌, [], ◌∷◌, true, false};
 ghost use Rattle.smx_types.specs.declared.link.Link.{Link};

@@ -1,4 +1,4 @@
-//! Laws of live sessions, each the contract of a function that does nothing.
+//! Laws of live sessions. Each law is the contract of a function that does nothing.
 
 ghost use Rattle.std.specs.List.{AllByRecursion};
 ghost use Rattle.std.specs.Prelude.{◌≡◌, ◌≢◌, ℕ, ◌<◌, ◌≤◌, Bool, true, false, List, [], ◌++◌, length, Err, codes};

@@ -1,4 +1,4 @@
-//! Laws of histories, each the contract of a function that does nothing.
+//! Laws of histories. Each law is the contract of a function that does nothing.
 
 ghost use Rattle.std.specs.Prelude.{◌≡◌, ◌++◌, List, [], ◌∷◌, map};
 ghost use Rattle.smx_types.specs.declared.command.Entry.{Entry};

@@ -1,4 +1,4 @@
-//! Laws of the contents of messages, each the contract of a function that does nothing.
+//! Laws of the contents of messages. Each law is the contract of a function that does nothing.
 
 ghost use Rattle.std.specs.Prelude.{◌≡◌, ℕ, List, [], ◌∷◌, ◌++◌};
 ghost use Rattle.std.specs.List.{All};

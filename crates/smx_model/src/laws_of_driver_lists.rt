@@ -1,4 +1,4 @@
-//! Laws of lists of drivers, each the contract of a function that does nothing.
+//! Laws of lists of drivers. Each law is the contract of a function that does nothing.
 
 ghost use Rattle.smx_model.specs.DriverList.{IsDriverList};
 ghost use Rattle.smx_model.specs.Worked.DriverLists.{as_many_as_may_be, of_one_name, one_too_many};

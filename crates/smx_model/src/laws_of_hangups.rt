@@ -1,4 +1,4 @@
-//! Laws of devices that hang up, each the contract of a function that does nothing.
+//! Laws of devices that hang up. Each law is the contract of a function that does nothing.
 
 ghost use Rattle.std.specs.Prelude.{◌≡◌, ℕ, true, false, List, [], filter, Ok};
 ghost use Rattle.std.specs.List.{list_any};

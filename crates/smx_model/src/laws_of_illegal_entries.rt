@@ -1,4 +1,4 @@
-//! Laws of the first illegal entry, each the contract of a function that does nothing.
+//! Laws of the first illegal entry. Each law is the contract of a function that does nothing.
 
 ghost use Rattle.std.specs.Prelude.{◌≡◌, ◌⊎◌, ℕ, List};
 ghost use Rattle.smx_types.specs.declared.command.Entry.{Entry};

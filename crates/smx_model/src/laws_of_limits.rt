@@ -1,4 +1,4 @@
-//! The law of the limits, as the contract of a function that does nothing.
+//! The law of the limits. It is the contract of a function that does nothing.
 
 ghost use Rattle.std.specs.Prelude.{◌≤◌, ◌<◌, ◌==◌, ℕ, List, length};
 ghost use Rattle.std.specs.List.{All, count_by};

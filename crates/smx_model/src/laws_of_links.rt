@@ -1,4 +1,4 @@
-//! Laws of links and routes, each the contract of a function that does nothing.
+//! Laws of links and routes. Each law is the contract of a function that does nothing.
 
 ghost use Rattle.std.specs.Prelude.{◌↔◌, ℕ, List};
 ghost use Rattle.std.specs.Prelude.{IsTrue};

@@ -1,5 +1,5 @@
-//! A law of full places (whose queues have reached the high water mark), as the contract of a function that does
-//! nothing.
+//! A law of full places (whose queues have reached the high water mark). The law is the contract of a function that
+//! does nothing.
 
 ghost use Rattle.std.specs.Prelude.{ℕ, List};
 ghost use Rattle.smx_types.specs.declared.command.Command.{Command};

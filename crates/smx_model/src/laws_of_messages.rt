@@ -1,4 +1,4 @@
-//! Laws of messages, each the contract of a function that does nothing.
+//! Laws of messages. Each law is the contract of a function that does nothing.
 
 ghost use Rattle.std.specs.Prelude.{◌≡◌, List, length};
 ghost use Rattle.std.specs.List.{range_with_len};

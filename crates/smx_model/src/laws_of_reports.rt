@@ -1,4 +1,4 @@
-//! Laws of reports, each the contract of a function that does nothing.
+//! Laws of reports. Each law is the contract of a function that does nothing.
 
 ghost use Rattle.std.specs.Prelude.{◌≡◌, [], ◌∷◌, map};
 ghost use Rattle.smx_types.specs.ProgramLists.{ProgramLists};

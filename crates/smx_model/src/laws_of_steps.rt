@@ -1,4 +1,4 @@
-//! Laws of single commands, each the contract of a function that does nothing.
+//! Laws of single commands. Each law is the contract of a function that does nothing.
 
 ghost use Rattle.std.specs.Prelude.{◌≡◌, ◌≢◌, ℕ, List, [], Ok, IfOk, IsTrue};
 ghost use Rattle.smx_types.specs.declared.command.Command.{Command};
@@ -38,8 +38,8 @@ pub fn refusals_change_nothing()
         → (step drivers c process command).1 ≡ reply.Fault f → (step drivers c process command).0 ≡ c }
 {}
 
-/// If nothing belongs to streams that don't exist, only the replies to commands that may drop messages name dropped
-/// messages.
+/// Assume that nothing belongs to streams that don't exist. If a reply then names a dropped message, its command is one
+/// that may drop messages.
 #[tactic(auto, using(crate::proofs::DropLemmas::step_drops))]
 pub fn other_commands_drop_none()
     ensures { (drivers : List DriverSpec) (c : Configuration) (process : ℕ) (command : Command) → IsSwept drivers c

@@ -1,4 +1,4 @@
-//! Laws of the streams that exist, each the contract of a function that does nothing.
+//! Laws of the streams that exist. Each law is the contract of a function that does nothing.
 
 ghost use Rattle.std.specs.Prelude.{◌≡◌, ◌↔◌, List, IsTrue};
 ghost use Rattle.smx_types.specs.declared.command.Entry.{Entry};

@@ -1,4 +1,5 @@
-//! Laws of unlawful histories, each the contract of a function that does nothing. Each example is wrong in one thing.
+//! Laws of unlawful histories. Each law is the contract of a function that does nothing. Each example is wrong in one
+//! thing.
 
 ghost use Rattle.std.specs.Prelude.{[]};
 ghost use Rattle.smx_model.specs.LawfulHistories.{AreDropsAllowed, IsLawful, IsLawfulEnd, IsLawfulThroughout};

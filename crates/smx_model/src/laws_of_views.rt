@@ -1,4 +1,4 @@
-//! Laws of the view, each the contract of a function that does nothing.
+//! Laws of the view. Each law is the contract of a function that does nothing.
 
 ghost use Rattle.std.specs.Prelude.{◌≡◌, List};
 ghost use Rattle.smx_types.specs.declared.driver.DriverSpec.{DriverSpec};

@@ -1,4 +1,4 @@
-//! Laws of sessions, each the contract of a function that does nothing.
+//! Laws of sessions. Each law is the contract of a function that does nothing.
 
 ghost use Rattle.std.specs.Prelude.{◌≡◌, ◌≢◌, ◌<◌, ◌⊎◌, ℕ, List, [], ◌∷◌, ◌++◌, Result, Ok, Err, Some, IfErr};
 ghost use Rattle.std.specs.Prelude.{codes};

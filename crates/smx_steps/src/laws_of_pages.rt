@@ -1,4 +1,4 @@
-//! Laws of pages, each the contract of a function that does nothing.
+//! Laws of pages. Each law is the contract of a function that does nothing.
 
 ghost use Rattle.std.specs.Prelude.{◌≡◌, ◌≢◌, ◌<◌, ℕ, ◌∷◌, ◌++◌, List, length};
 ghost use Rattle.std.specs.List.{AllByRecursion};

@@ -1,4 +1,4 @@
-//! Laws of replays, each the contract of a function that does nothing.
+//! Laws of replays. Each law is the contract of a function that does nothing.
 
 ghost use Rattle.std.specs.Prelude.{◌≡◌, ℕ, map, take};
 ghost use Rattle.smx_types.specs.declared.transcript.Transcript.{Transcript};

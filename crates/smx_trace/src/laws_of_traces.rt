@@ -1,4 +1,4 @@
-//! Laws of traces, each the contract of a function that does nothing.
+//! Laws of traces. Each law is the contract of a function that does nothing.
 
 ghost use Rattle.std.specs.Prelude.{◌≡◌, ℕ, ◌∷◌, ◌++◌, [], Bool, List};
 ghost use Rattle.smx_types.specs.declared.command.Entry.{Entry};

@@ -1,4 +1,4 @@
-//! Laws of waits, each the contract of a function that does nothing.
+//! Laws of waits. Each law is the contract of a function that does nothing.
 
 ghost use Rattle.std.specs.Prelude.{◌≡◌, List, Some, map, not, false};
 ghost use Rattle.std.specs.List.{list_any};
