@@ -69,8 +69,8 @@ impl Bindings {
         })
     }
 
-    /// Returns whether some stream of the stream's driver is bound to the address, or the stream is bound to any
-    /// address. Does at most two look-ups.
+    /// Returns whether this stream can't be bound to the address: some stream of its driver is bound to the address, or
+    /// this stream is bound already. Does at most two look-ups.
     pub fn is_taken(&self, stream: StreamId, addr: u32) -> bool
         ensures { result ≡ is_taken self.now stream addr }
     {
@@ -140,7 +140,7 @@ impl Bindings {
         Ok(list)
     }
 
-    /// Copies the table into memory from this allocator, which the copy keeps.
+    /// Copies the table. The copy gets its memory from this allocator, and keeps the allocator.
     pub fn copy(&self, alloc: Global) -> Result<Bindings, NoMemory>
         ensures { IfOk result (λ t. t ≡ self.now) }
     {

@@ -150,7 +150,7 @@ impl Routes {
         Ok(list)
     }
 
-    /// Copies the table into memory from this allocator, which the copy keeps.
+    /// Copies the table. The copy gets its memory from this allocator, and keeps the allocator.
     pub fn copy(&self, alloc: Global) -> Result<Routes, NoMemory>
         ensures { IfOk result (λ t. t ≡ self.now) }
     {

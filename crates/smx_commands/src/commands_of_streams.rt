@@ -99,7 +99,7 @@ impl Tables {
         Ok(())
     }
 
-    // Closes the last descriptor of a stream that no hold keeps, and then sweeps: removes what belongs to streams that
+    // Closes the last descriptor of a stream that no link holds, and then sweeps: removes what belongs to streams that
     // no longer exist.
     fn close_last(
         &mut self,

@@ -262,7 +262,7 @@ impl Config {
         self.tables.drivers()
     }
 
-    /// Copies the configuration into memory from this allocator, which the copy keeps.
+    /// Copies the configuration. The copy keeps this allocator.
     pub fn copy(&self, alloc: Global) -> Result<Config, NoMemory>
         ensures { IfOk result (λ c. c ≡ self.now) }
     {

@@ -1,4 +1,5 @@
-//! Hops: for each place, the next place of its messages with one address, as it was last found.
+//! A cache. For each place, a hop has one address, and the place to which messages with this address went next when
+//! this was last looked up.
 
 ghost use Rattle.std.specs.Prelude.{◌≡◌, ℕ, ◌<◌, length, IfOk, IfSome, List, Ok};
 ghost use Rattle.smx_types.specs.declared.driver.DriverSpec.{DriverSpec};
@@ -56,8 +57,8 @@ pub fn copy_hops(alloc: Global, hops: &Hops) -> Result<Hops, NoMemory>
     })
 }
 
-// Returns the number of the place to which messages with this address go next from place number `n`, if the hop of that
-// place tells.
+// Returns the number of the place to which messages with this address go next from place number `n`. Returns `None` if
+// the hop of place `n` has another address or is out of date, or if `age` has its largest value.
 #[inline(always)]
 pub fn known_hop(hops: &Hops, n: usize, addr: u32) -> Option<usize>
     requires { n < length hops.now.hops.items }

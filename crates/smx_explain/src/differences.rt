@@ -25,7 +25,7 @@ pub struct Difference<'a> {
     pub has: &'a [u8],
 }
 
-/// Returns the explanation of a transcript, which must be the one that `text` spells. If the transcript is its own
+/// Returns the explanation of `transcript`. `text` must be the text of this transcript. If the transcript is its own
 /// replay, the explanation is empty; this is so exactly if the transcript is legal. Otherwise, the explanation shows
 /// the first line in which `text` and the text of the replay differ: this line of `text`, and this line of the replay.
 /// Fails if the drivers are not valid, or if it is out of memory.

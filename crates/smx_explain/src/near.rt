@@ -1,4 +1,6 @@
-//! The fixed word that was probably meant by a misspelt word.
+//! The fixed word that was probably meant by a misspelt word. A choice is a kind of word that may be in some column of
+//! a line and decides how the line goes on, such as the first word of a reply. Its fixed words are words such as
+//! `took`; a choice may also allow other words, such as numbers.
 
 ghost use Rattle.std.specs.Prelude.{◌≡◌, ◌⊎◌, MatchBool, MatchOption, None, Some};
 ghost use Rattle.smx_explain.specs.Hints.{are_exchanged, first_near, is_near, meant};
@@ -9,10 +11,10 @@ use crate::kinds::Choice;
 use crate::tables::{Row, later_rows, rows};
 use smx_types::Version;
 
-/// Returns the first fixed word of a choice into which at most one edit turns this word. An edit replaces, adds or
-/// leaves out a byte, or exchanges two neighbouring bytes. (A fixed word of the choice needs no edit.) At the beginning
-/// of a line of programs, and after a process in a session, the words of the commands are tried too. Returns `None` for
-/// an empty word.
+/// Returns the first fixed word of a choice that can be made from `word` by at most one edit. An edit replaces, adds or
+/// leaves out a byte, or exchanges two neighbouring bytes. (If `word` is itself a fixed word of the choice, it needs no
+/// edit.) At the beginning of a line of programs, and after a process in a session, the words of the commands are tried
+/// too. Returns `None` for an empty word.
 #[tactic(auto, using(crate::proofs::NearLemmas::first_found, crate::proofs::NearLemmas::first_missed))]
 pub fn near_word(version: Version, choice: Choice, word: &[u8]) -> Option<&'static str>
     ensures { MatchOption result (meant version choice word.now ≡ None)
@@ -28,7 +30,7 @@ pub fn near_word(version: Version, choice: Choice, word: &[u8]) -> Option<&'stat
     }
 }
 
-// Returns whether a word of this choice may be the first word of a command that no reply follows.
+// Returns whether a word of this choice may begin a command without a reply, as in programs and in sessions.
 fn may_be_command(choice: Choice) -> bool
     ensures { MatchBool result ((choice ≡ ProgramsLine) ⊎ (choice ≡ SessionCommand))
         ((choice ≡ ProgramsLine) ⊎ (choice ≡ SessionCommand) → ⊥) }
@@ -36,7 +38,7 @@ fn may_be_command(choice: Choice) -> bool
     choice == Choice::ProgramsLine || choice == Choice::SessionCommand
 }
 
-// Returns the first fixed word of a choice into which at most one edit turns this word.
+// Returns the first fixed word of a choice that can be made from `word` by at most one edit.
 #[tactic(auto, using(crate::proofs::NearLemmas::first_found, crate::proofs::NearLemmas::first_missed))]
 fn near_fixed(version: Version, choice: Choice, word: &[u8]) -> Option<&'static str>
     ensures { MatchOption result (first_near (rows_in version choice) word.now ≡ None)
@@ -51,7 +53,7 @@ fn near_fixed(version: Version, choice: Choice, word: &[u8]) -> Option<&'static 
     }
 }
 
-// Returns the first word of some rows into which at most one edit turns this word.
+// Returns the first word of some rows that can be made from `word` by at most one edit.
 fn near_row(rows: &'static [Row], word: &[u8]) -> Option<&'static str>
     ensures { MatchOption result (first_near (rows_of rows.now) word.now ≡ None)
         (λ verb. first_near (rows_of rows.now) word.now ≡ Some verb.now) }

@@ -218,7 +218,7 @@ impl LinkTable {
         let _next_id = self.next_id;
     }
 
-    /// Copies the table into memory from this allocator, which the copy keeps.
+    /// Copies the table. The copy gets its memory from this allocator, and keeps the allocator.
     pub fn copy(&self, alloc: Global) -> Result<LinkTable, NoMemory>
         ensures { IfOk result (λ t. t ≡ self.now) }
     {

@@ -239,8 +239,7 @@ impl Queues {
         self.chains[p].full = false;
     }
 
-    /// Copies the places and their queues into memory from this allocator, which the copy keeps. Fails only if out of
-    /// memory.
+    /// Copies the places and their queues. The copy keeps this allocator. Fails only if out of memory.
     pub fn copy(&self, alloc: Global) -> Result<Queues, NoMemory>
         ensures { IfOk result (λ c. c.queues ≡ self.now.queues) }
     {

@@ -330,7 +330,7 @@ impl Streams {
         self.records.is_sound();
     }
 
-    /// Copies the table into memory from this allocator, which the copy keeps.
+    /// Copies the table. The copy gets its memory from this allocator, and keeps the allocator.
     pub fn copy(&self, alloc: Global) -> Result<Streams, NoMemory>
         ensures { IfOk result (λ t. t ≡ self.now) }
     {

@@ -2,8 +2,9 @@
 
 use smx_types::{Name, Side};
 
-/// The kinds of rows in the frame of a driver or the column of a stream, from top to bottom. The last four are those of
-/// the write queue. The same four of the read queue come after them.
+/// The kinds of rows in the frame of a driver or the column of a stream, from top to bottom. The last four are for the
+/// write queue. The read queue has the same four kinds. They have no variants here: their numbers are the next four
+/// (`READ`).
 #[derive(Clone, Copy, Debug)]
 pub enum Row {
     Name,
@@ -21,7 +22,7 @@ pub enum Row {
 /// The number of kinds of rows, with the four of the read queue.
 pub const ROWS: usize = 14;
 
-// A kind of row of the read queue comes this many kinds after the same kind of the write queue.
+// The number of a row of the read queue is the number of the same row of the write queue, plus this.
 const READ: usize = 4;
 
 /// The driver to which a row belongs, the stream, if it belongs to one, and the kind of the row.
