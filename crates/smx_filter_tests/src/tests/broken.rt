@@ -35,7 +35,8 @@ const EXPLAINED: [(Task, &[u8], &[u8], u8); 3] = [
     ),
 ];
 
-// Has the read after `reads` reads fail. Checks that nothing is written, and that nothing more is read.
+// Lets `reads` reads succeed, and makes the next one fail. Checks that nothing is written, and that nothing more is
+// read.
 fn writes_nothing<R: AllocGlobal + Abort + Threads + Wait + Sync>(
     rt: &R,
     task: Task,
@@ -50,7 +51,7 @@ fn writes_nothing<R: AllocGlobal + Abort + Threads + Wait + Sync>(
     forget(ran);
 }
 
-// Has each read in turn fail, including the read that shows the end. Checks what `writes_nothing` checks.
+// Makes each read in turn fail, including the read that shows the end. Checks what `writes_nothing` checks.
 fn reads_no_more<R: AllocGlobal + Abort + Threads + Wait + Sync>(rt: &R, task: Task, input: &[u8]) {
     for kind in &TWO_ERRORS {
         for reads in 0..input.len().saturating_add(1) {
@@ -109,7 +110,7 @@ fn leaves<R: AllocGlobal + Abort + Threads + Wait + Sync>(
     forget(ran);
 }
 
-// Has each write in turn stop, and also the flush. Checks that exactly the earlier bytes of the output are left.
+// Makes each write in turn stop, and also the flush. Checks that exactly the earlier bytes of the output are left.
 fn writes_no_more<R: AllocGlobal + Abort + Threads + Wait + Sync>(
     rt: &R,
     task: Task,

@@ -34,7 +34,8 @@ fn keeps<T: Drop>(rt: &impl Abort, outcome: Result<T, Refusal>, words: &str, inp
     }
 }
 
-// Checks that each filter of a transcript refuses an input with these words, writes nothing, and keeps the input.
+// Checks that a check, a replay, a trace and a page of steps refuse this input, give `words` as the reason, write
+// nothing, and keep the input.
 fn each_keeps(rt: &(impl AllocGlobal + Abort), input: &[u8], words: &str) {
     let alloc = rt.alloc();
     let mut buffer = [0u8; 64];

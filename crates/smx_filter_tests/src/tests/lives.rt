@@ -55,8 +55,8 @@ fn explains_lines_that_are_not_commands(rt: HostRuntime) {
     forget(ran);
 }
 
-// Has the read after `reads` reads fail. Checks that the output is a beginning of `ANSWERS`, and is flushed; and that
-// it is `answers`, if these are given.
+// Lets `reads` reads succeed, and makes the next one fail. Checks that the output is a beginning of `ANSWERS`, and is
+// flushed; and that it is `answers`, if these are given.
 fn is_left<R: AllocGlobal + Abort + Threads + Wait + Sync>(
     rt: &R,
     reads: usize,
@@ -119,7 +119,7 @@ fn leaves_what_was_answered_before_a_failed_read(rt: HostRuntime) {
     }
 }
 
-// Has the writer stop after `beginning`. Checks that exactly this beginning of the output is left.
+// Makes the writer stop after the bytes of `beginning`. Checks that exactly this beginning of the output is left.
 fn leaves<R: AllocGlobal + Abort + Threads + Wait + Sync>(rt: &R, beginning: &[u8], stop: Stop) {
     let (reads, kind) = (usize::MAX, ErrorKind::Other);
     let ran = outcome(rt, Task::Live, LINES, reads, kind, beginning.len(), stop);

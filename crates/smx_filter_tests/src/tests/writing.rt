@@ -45,7 +45,7 @@ fn stops_behind(rt: &(impl AllocGlobal + Abort), beginning: &[u8], stop: Stop) {
     assert!(rt; sink.writer.asked == calls.saturating_add(1));
 }
 
-// Has the write stop after each beginning that is not the whole text. Checks what `stops_behind` checks.
+// Makes the write stop after each beginning that is not the whole text. Checks what `stops_behind` checks.
 fn stops_behind_each(rt: &(impl AllocGlobal + Abort), stop: Stop) {
     for calls in 0..3 {
         stops_behind(rt, &ABC[..calls], stop);

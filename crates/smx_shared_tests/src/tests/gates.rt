@@ -97,7 +97,7 @@ impl Gate for OneByOne {
     fn after(&self, _process: Process, _number: usize) {}
 }
 
-/// Has each process wait before its first command until four processes are there, and counts those that saw all four.
+/// Makes each process wait before its first command until four processes are there, and counts those that saw all four.
 #[derive(Drop)]
 pub struct FourInside {
     inside: AtomicU64,

@@ -295,7 +295,7 @@ fn comes_back<R: AllocGlobal + Abort + Wait>(
     seat
 }
 
-// Has each of these seats do its part on its own thread, and drops the seat there.
+// Makes each of these seats do its part on its own thread, and drops the seat there.
 fn start_all<'s, E, R: AllocGlobal + Abort + Threads + Wait + Sync>(
     scope: &'s Scope<'s, E>,
     rt: &'s R,
@@ -332,7 +332,7 @@ fn others_play<R: AllocGlobal + Abort + Threads + Wait + Sync>(
     );
 }
 
-// Has all of these seats do their parts, and then the first seat its last part. Returns the first seat.
+// Makes all of these seats do their parts. Then the first seat does its last part. Returns the first seat.
 fn all_play<R: AllocGlobal + Abort + Threads + Wait + Sync>(
     rt: &R,
     shared: &Shared,
@@ -361,7 +361,7 @@ fn all_play<R: AllocGlobal + Abort + Threads + Wait + Sync>(
 /// found the history full.
 pub type End = (usize, u64, u64, u64);
 
-/// Has all of these seats do their parts, each on its own thread. The first seat then closes the system. Checks the
+/// Makes all of these seats do their parts, each on its own thread. The first seat then closes the system. Checks the
 /// numbers at the end.
 pub fn is_played<R: AllocGlobal + Abort + Threads + Wait + Sync>(
     rt: &R,

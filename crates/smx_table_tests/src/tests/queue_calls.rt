@@ -1,4 +1,4 @@
-//! Calls of queues that don't allocate, each with its answer: calls by number, and calls by place.
+//! Tests the answer of each call on queues that doesn't allocate, by number and by place.
 
 use super::flow_tables::{DOWN, UP, fill, table};
 use super::queues::{adds, put};

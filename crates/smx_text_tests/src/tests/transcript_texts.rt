@@ -83,7 +83,7 @@ hung eth 0
 end
 ";
 
-// Texts of both versions, each with the first version that allows what it says.
+// Texts of both versions, each with the earliest version that can express its transcript.
 const ROWS: [(&[Part], Version); 12] = [
     (&[Once(REPLIES)], Version::V1),
     (&[Once(GROUPS)], Version::V1),
