@@ -80,9 +80,9 @@ pub fn what_is_run_has_drivers()
     one_text_has_one_reading();
 }
 
-/// A check judges the transcript that a run writes legal, on any number of workers. Every transcript that its bytes
-/// spell is a report that is promised for the programs, in their version. (A report is drivers, a history and the view
-/// after it.)
+/// If a run writes a transcript, on any number of workers, a check finds this transcript legal. If the bytes that the
+/// run wrote spell a transcript, this transcript is in the version of the programs, and is a report that is promised for
+/// them. (A report is drivers, a history and the view after it.)
 pub fn a_run_writes_one_legal_transcript()
     ensures legal { (workers : ℕ) (programs : ProgramLists) (output : List ℕ)
         → IsWrittenFor false workers programs output → (line : List ℕ) × GivesFor checking output Legal line }

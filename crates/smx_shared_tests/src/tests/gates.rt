@@ -69,9 +69,10 @@ impl Line {
     }
 }
 
-/// Lets processes 0 to 4, on two workers, go on one by one. Before its first command, each process except the last
-/// waits until the next process has come. Processes 0 and 1 come at once. Each other process comes when the process
-/// before it on the same worker has ended.
+/// Lets processes 0 to 4, on two workers, go on one by one. A process comes when it is about to perform its first
+/// command. It then waits until the process with the next number has come; the last process doesn't wait. Processes 0
+/// and 1 come at the beginning. Each other process comes when the process before it on the same worker has ended. So
+/// process 1 goes on only after process 0 has ended, and so on.
 #[derive(Drop)]
 pub struct OneByOne {
     come: AtomicU64,
