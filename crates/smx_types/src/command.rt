@@ -56,8 +56,8 @@ pub enum Command {
     },
     /// Closes all descriptors of the process (exit(2)).
     CloseAll,
-    /// Links the stream of the descriptor `arg` below the driver of the stream, by an ordinary link. This link exists
-    /// until it is removed, or until the stream of `fd` ends (streamio(7), I_LINK).
+    /// Links the stream of the descriptor `arg` below the driver of the stream of `fd`, by an ordinary link. This link
+    /// exists until it is removed, or until the stream of `fd` ends (streamio(7), I_LINK).
     Link {
         fd: u32,
         arg: u32,
@@ -86,7 +86,7 @@ pub enum Command {
     Unbind {
         fd: u32,
     },
-    /// Makes a route: the stream's driver then sends messages for the address down its link with this id (specific to
+    /// Makes a route: the stream's driver sends messages for the address down its own link with this id (specific to
     /// this project).
     Route {
         fd: u32,

@@ -27,10 +27,10 @@ pub struct DriverSpec {
     /// The number of its minors, 1 to 64. Minors are numbered from 0.
     pub minors: u32,
     /// The high water mark of each of its queues, in bytes: above `low`, at most 4,096. A queue becomes full when a
-    /// message arrives and its bytes then reach this mark (Programmer's Guide: STREAMS, flow control).
+    /// message arrives and the bytes of the queue then reach this mark (Programmer's Guide: STREAMS, flow control).
     pub high: u32,
-    /// The low water mark of each of its queues, in bytes: below `high`. A full queue is no longer full when a message
-    /// leaves it and its bytes are then no more than this mark.
+    /// The low water mark of each of its queues, in bytes: below `high`. A full queue stops being full when a message
+    /// leaves and the bytes that are left in the queue are no more than this mark.
     pub low: u32,
     /// The maximum number of bytes of a message that is written or injected to a stream of the driver, 1 to 1,024 (the
     /// driver's maximum packet size).

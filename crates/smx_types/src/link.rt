@@ -11,7 +11,7 @@ pub enum LinkKind {
     Persistent,
 }
 
-/// A stream that is linked below a multiplexing driver.
+/// A link, which puts a stream below a multiplexing driver.
 #[derive(Clone, Copy, Debug, PartialEq, Eq)]
 pub struct Link {
     /// The multiplexor id (streamio(7), I_LINK): from 1 to 4,294,967,294, and never reused.

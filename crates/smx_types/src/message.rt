@@ -22,7 +22,7 @@ pub struct Message {
     pub bytes: Bytes,
 }
 
-/// Messages in order. The messages of a queue begin with the one that leaves it first.
+/// Messages in order. If they are the messages of a queue, the first one is the next to leave it.
 pub type Messages = Items<Message>;
 
 impl Message {

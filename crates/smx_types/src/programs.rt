@@ -19,8 +19,8 @@ use std::marker::Model;
 /// The programs of all processes: the commands of process 0, then those of process 1, and so on.
 pub type ProgramList = Items<Commands>;
 
-/// The error of `Programs::new`: the lists exceed the limit for drivers, programs or commands. Returns the lists that
-/// the caller gave.
+/// The error of `Programs::new`: the lists exceed the limit for drivers, programs or commands. The error holds the
+/// lists that the caller gave.
 #[derive(Debug, Drop, PartialEq)]
 pub struct Many {
     pub drivers: Drivers,
@@ -76,8 +76,8 @@ impl Model for Programs {
 }
 
 impl Programs {
-    /// Makes a `Programs` of these two lists, in the earliest version that can express them. Fails exactly if there
-    /// are over 128 drivers, over 64 programs or over 100,000 commands; the error has both lists. Does not allocate.
+    /// Makes a `Programs` of these two lists, in the earliest version that can express them. Fails exactly if there are
+    /// over 128 drivers, over 64 programs or over 100,000 commands. The error then holds both lists. Does not allocate.
     pub fn new(drivers: Drivers, programs: ProgramList) -> Result<Programs, Many>
         ensures taken { IfOk result (λ p. p ≡ program_lists drivers programs) }
         ensures given_back { IfErr result (λ m. m ≡ record { drivers = drivers; programs = programs }) }

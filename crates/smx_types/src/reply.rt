@@ -24,7 +24,7 @@ pub enum Fault {
     Cycle,
     /// `EAGAIN links`: there are 1,024 links, or no id is left.
     TooManyLinks,
-    /// `EINVAL id`: no link has that id, or the command may not remove or use the link with that id.
+    /// `EINVAL id`: no link has that id, or the command is not allowed to remove or use that link.
     NoLink,
     /// `ENXIO driver`: there is no driver with that name, or the command requires a device and the driver
     /// is a multiplexer.
@@ -34,7 +34,8 @@ pub enum Fault {
     NoMinor,
     /// `EMFILE`: the process has 16 descriptors.
     TooManyDescriptors,
-    /// `EADDRINUSE`: a stream of the driver is bound to the address, or the stream is bound to some address.
+    /// `EADDRINUSE`: some stream of the driver is already bound to the address, or the stream of the command is already
+    /// bound to some address.
     AddressInUse,
     /// `EINVAL unbound`: the stream has no address.
     Unbound,

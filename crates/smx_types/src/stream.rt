@@ -10,7 +10,7 @@ pub struct StreamId {
     pub minor: u8,
 }
 
-/// A side of a stream. Each side has a queue of messages.
+/// One of the two sides that each stream has.
 #[derive(Clone, Copy, Debug, PartialEq, Eq)]
 pub enum Side {
     /// The side on which messages go down: processes write them, and they leave towards the device.
@@ -19,7 +19,7 @@ pub enum Side {
     Read,
 }
 
-/// A side of a stream. Each place has one queue of messages.
+/// A place: a stream, and one of its two sides. Each place has one queue of messages.
 #[derive(Clone, Copy, Debug, PartialEq, Eq)]
 pub struct Place {
     pub stream: StreamId,

@@ -1,4 +1,5 @@
-//! The view of a configuration, as a transcript shows it: one line for each part, in which drivers have their names.
+//! The view of a configuration, as a transcript shows it: one line for each part. The lines have the names of drivers,
+//! and not their numbers.
 
 ghost use Rattle.std.specs.Prelude.{◌≡◌, IfOk};
 

@@ -1,5 +1,5 @@
-//! Laws of readings, that is, of the results that a reader of a line may return. Any bytes have a reading as each kind
-//! of line. Examples show right readings and wrong readings.
+//! Laws of readings, that is, of the results that a reader of a line may return. For each kind of line, any bytes have
+//! a reading. Examples show right readings and wrong readings.
 
 ghost use Rattle.std.specs.Fmt.{decimal};
 ghost use Rattle.std.specs.Prelude.{ℕ, List, Option, Some, None, codes};

@@ -30,8 +30,8 @@ pub trait Spell {
     fn write_line(&self, out: &mut Vec<u8>) -> Result<(), NoMemory>
         ensures written { OnOk result (out.new.items
             ≡ out.old.items ++ line_of (words self.now) ++ LINE_FEED ∷ []) }
-        // So the line can be read back. The body needs no test: each type that implements `Spell` can hold only values
-        // that fit.
+        // The value can be spelled, so the line can be read back. No body tests this: each type that implements `Spell`
+        // can hold only values that fit.
         ensures fits { OnOk result (Fits self.now) };
 }
 

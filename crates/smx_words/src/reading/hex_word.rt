@@ -1,4 +1,4 @@
-//! Bytes in a word.
+//! Reads words that spell the bytes of a message.
 
 ghost use Rattle.std.specs.Prelude.{◌≡◌, ◌≢◌, ◌<◌, ◌*◌, ◌%◌, ◌∷◌, ◌++◌, true, List, ℕ, length, slice_index};
 ghost use Rattle.std.specs.Prelude.{IfOk, IfErr, MatchBool, MatchOption};
@@ -15,8 +15,7 @@ use crate::reading::number::first_number;
 use smx_types::{Bytes, NoMemory};
 use std::alloc::Global;
 
-// Parses a number, a space and a word that spells bytes. Fails only if the text is such a number, space and word, and
-// an allocation fails.
+// Parses a number, a space and a word that spells bytes. Fails only if the text has this form and an allocation fails.
 pub fn number_and_bytes(alloc: Global, text: &[u8]) -> Result<Option<(u32, Bytes)>, NoMemory>
     ensures reading { IfOk result (λ o. MatchOption o
         ((n : ℕ) (bytes : List ℕ) → FitsNumber n → FitsBytes bytes
@@ -34,7 +33,7 @@ pub fn number_and_bytes(alloc: Global, text: &[u8]) -> Result<Option<(u32, Bytes
     Ok(Some((number, bytes)))
 }
 
-// Parses a word that spells bytes. Fails only if the word spells bytes, and an allocation fails.
+// Parses a word that spells bytes. Fails only if the word spells bytes and an allocation fails.
 fn bytes_of(alloc: Global, word: &[u8]) -> Result<Option<Bytes>, NoMemory>
     ensures reading { IfOk result (IsFoundIn FitsBytes hex_word word.now) }
     ensures wanted { IfErr result (λ _. IsSpelled FitsBytes hex_word word.now) }
@@ -105,8 +104,8 @@ pub fn spells_bytes(word: &[u8]) -> bool
     false
 }
 
-// Returns whether all bytes are hex digits. Doesn't stop at the first other byte, so that the compiler can test many
-// bytes at a time.
+// Returns whether all bytes are hex digits. Doesn't stop at the first byte that is not a hex digit, so that the
+// compiler can test many bytes at a time.
 fn are_digits(word: &[u8]) -> bool
     ensures { result ≡ list_all is_digit word.now }
 {

@@ -31,7 +31,7 @@ pub fn driver_of(line: &[u8]) -> Option<DriverSpec>
     })
 }
 
-/// Parses a line `process NUMBER`, at which the program of a process begins. Returns its number.
+/// Parses a line `process NUMBER`, at which the program of a process begins. Returns the number of the process.
 pub fn process_of(line: &[u8]) -> Option<u32>
     ensures { IsReadAs FitsNumber process_words line.now result }
 {

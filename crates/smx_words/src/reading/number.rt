@@ -75,8 +75,8 @@ fn leading_number(text: &[u8]) -> Option<(u32, usize)>
     Some((value as u32, end))
 }
 
-// Takes the first `end` bytes, which are digits. Returns whether they don't spell a number: there are none, or a zero
-// comes before other digits.
+// Returns whether the first `end` bytes, which are digits, don't spell a number: there is no digit, or a zero comes
+// before other digits.
 fn starts_wrong(text: &[u8], end: usize) -> bool
     requires { end ≤ length text.now }
     ensures { result ≡ ((end == 0) || ((slice_index text.now 0 == 48) && nat_lt 1 end)) }

@@ -100,7 +100,7 @@ fn behind(text: &[u8], verb: Verb) -> Option<&[u8]>
     }
 }
 
-// Parses the verb of a command before the first space. Returns the verb and the bytes after the space.
+// Parses the bytes before the first space as the verb of a command. Returns the verb and the bytes after the space.
 pub fn first_verb(text: &[u8]) -> Option<(Verb, &[u8])>
     ensures { BeginsWith FitsAlways verb_word text.now result }
 {
@@ -123,7 +123,7 @@ fn reply_verb_of(word: &[u8]) -> Option<ReplyVerb>
     }
 }
 
-// Parses the verb of a reply before the first space. Returns the verb and the bytes after the space.
+// Parses the bytes before the first space as the verb of a reply. Returns the verb and the bytes after the space.
 pub fn first_reply_verb(text: &[u8]) -> Option<(ReplyVerb, &[u8])>
     ensures { BeginsWith FitsAlways reply_verb_word text.now result }
 {

@@ -1,4 +1,4 @@
-//! Bytes as a word of hex digits, and messages.
+//! Appends bytes as a word of hex digits, and the part of a line that shows a message.
 
 ghost use Rattle.std.specs.Prelude.{◌≡◌, ◌∷◌, ◌++◌, [], OnOk};
 ghost use Rattle.std.specs.Fmt.{decimal};

@@ -65,8 +65,8 @@ pub(super) fn put_digits(out: &mut Vec<u8>, n: u32) -> Result<(), NoMemory>
     }
 }
 
-// Appends the digits of a number by way of a buffer. Not inlined, so that `put_digits` saves no registers for a single
-// digit, which is the usual case.
+// Appends the digits of a number by way of a buffer. Not inlined, so that `put_digits` needn't store registers on the
+// stack for a single digit, which is the usual case.
 #[inline(never)]
 fn put_long(out: &mut Vec<u8>, n: u32) -> Result<(), NoMemory>
     ensures { OnOk result (out.new.items ≡ out.old.items ++ decimal n) }

@@ -1,4 +1,4 @@
-//! Appends names, and bytes without a change.
+//! Appends names, and bytes as they are.
 
 ghost use Rattle.std.specs.Prelude.{◌≡◌, ◌∷◌, ◌++◌, [], OnOk};
 ghost use Rattle.smx_words.specs.Spellable.{FitsName};
