@@ -96,7 +96,7 @@ pub fn transcript_want_of_memory_comes_before()
         → IfErr r (λ f. f.cause ≢ NoMemory) → line < last_line (transcript_grammar version) r }
 {}
 
-/// Bytes spell only programs within the limits, and only transcripts of at most 100,000 entries.
+/// If bytes spell programs, these are within the limits. If bytes spell a transcript, it has at most 100,000 entries.
 pub fn what_is_spelled_is_within_the_limits()
     ensures programs { (bytes : List ℕ) (v : ProgramLists) → SpellsPrograms bytes v → AreWithinLimits v }
     ensures entries { (bytes : List ℕ) (t : Transcript) → SpellsTranscript bytes t

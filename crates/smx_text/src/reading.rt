@@ -46,7 +46,7 @@ pub trait Draft: Drop {
             (lines self.new) result }
         ensures version { OnOk result (version_of self.new ≡ version_of self.old) };
 
-    // Returns the value of the lines, if the text may end after them.
+    // Returns the value of the lines, if the line `end` is allowed after them.
     fn finish(self) -> Option<Self::Whole>
         requires begun { IsBegun (grammar (version_of self)) (lines self) }
         ensures { EndsAs (grammar (version_of self)) (lines self) result };
@@ -105,8 +105,8 @@ fn after_header<D: Draft>(bytes: &[u8]) -> Result<(Version, &[u8]), TextFault>
     Err(Cause::Header.at(1))
 }
 
-// Ends a text at line `number`, which is `end`. Returns the value of the text. Fails if the text may not end there, or
-// if a byte follows the line.
+// Ends a text at line `number`, which is `end`. Returns the value of the text. Fails if the line `end` is not allowed
+// there yet, or if a byte follows it.
 fn ended<D: Draft>(draft: D, after: &[u8], number: usize) -> Result<D::Whole, TextFault>
     requires begun { IsBegun (D.grammar (D.version_of draft)) (D.lines draft) }
     requires room { number < 2 ^ 64 - 1 }

@@ -21,7 +21,7 @@ pub enum Cause {
     /// A byte follows the line `end`.
     Trailing,
     /// An allocation failed while the line was read. The line is well-formed, allowed there and within the limit. So
-    /// out of memory hides no other cause.
+    /// this line has no other fault.
     NoMemory,
 }
 

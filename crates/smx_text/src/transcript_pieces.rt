@@ -39,7 +39,8 @@ pub fn finish_transcript(
 ) -> Result<Vec<u8>, NoMemory>
     ensures written { IfOk result (λ v. (entries : List AnyEntry) → AreEntryLines entries lines.items
         → v.items ≡ transcript_text (transcript_with version drivers.now entries view.now)) }
-    // So the text can be read back if the transcript is within the limits and its version can express it.
+    // All parts of the transcript can be spelled. So the text can be read back if the transcript is within the limits
+    // and its version can express it.
     ensures spellable { OnOk result ((entries : List AnyEntry) → AreEntryLines entries lines.items
         → IsSpellable (transcript_with version drivers.now entries view.now)) }
 {

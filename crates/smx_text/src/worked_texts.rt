@@ -29,9 +29,9 @@ pub fn right_texts_of_version_2()
         (codes "transcript 2\nconfig\nnext 1 1\nend\n") shortest_transcript }
 {}
 
-/// Programs texts with a malformed command line. A number has no leading zero, no sign and at most 32 bits. A name
-/// begins with a letter, and nine letters are too many. Bytes are pairs of lower-case hex digits. No word is missing,
-/// and there is exactly one space between two words.
+/// Programs texts with a malformed command line. They break rules such as these. A number has no leading zero, no sign
+/// and at most 32 bits. A name begins with a letter, and nine letters are too many. Bytes are pairs of lower-case hex
+/// digits. No word is missing, and there is exactly one space between two words.
 pub fn wrong_commands()
     ensures two_zeros { AreWrongPrograms (with_line_4 (codes "dup 00")) 4 Form }
     ensures a_sign { AreWrongPrograms (with_line_4 (codes "dup +1")) 4 Form }
@@ -49,8 +49,8 @@ pub fn wrong_commands()
     ensures no_word { AreWrongPrograms (with_line_4 []) 4 Form }
 {}
 
-/// Invalid programs texts. Each line must be allowed where it is. A text needs its header and the line `end`, and
-/// nothing may follow `end`.
+/// Invalid programs texts. They break these rules. Each line must be allowed where it is. A text needs its header and
+/// the line `end`, and nothing may follow `end`.
 pub fn wrong_programs()
     ensures nothing { AreWrongPrograms [] 1 Cut }
     ensures cut_header { AreWrongPrograms (codes "programs 1") 1 Cut }
@@ -68,8 +68,8 @@ pub fn wrong_programs()
     ensures a_space_behind { AreWrongPrograms (codes "programs 1\nprocess 0\nend\n ") 4 Trailing }
 {}
 
-/// Invalid transcripts. The number of a process is below 64. A reply is one of the replies that exist.
-/// Entries come before the configuration, and the groups of the configuration come in their order.
+/// Invalid transcripts. They break rules such as these. The number of a process is below 64. A reply is one of the
+/// replies that exist. Entries come before the configuration, and the groups of the configuration come in their order.
 pub fn wrong_transcripts()
     ensures other_header { IsWrongTranscript (codes "programs 1\nend\n") 1 Header }
     ensures version_3 { IsWrongTranscript (codes "transcript 3\n") 1 Header }

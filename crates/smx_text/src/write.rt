@@ -18,7 +18,7 @@ use std::alloc::Global;
 /// Writes the text of these programs. (Each value has exactly one text.) Fails only if out of memory.
 pub fn write_programs(alloc: Global, programs: &Programs) -> Result<Vec<u8>, NoMemory>
     ensures written { IfOk result (λ v. v.items ≡ programs_text programs.now) }
-    // So the text of any programs can be read back.
+    // The programs are allowed in their version, so their text can be read back.
     ensures allowed { OnOk result (IsAllowed programs.now.version programs.now) }
 {
     let mut out = Vec::from_slice(alloc, first_line(programs.version()))?;
@@ -43,7 +43,7 @@ fn first_line(version: Version) -> &'static [u8]
 pub fn write_transcript(alloc: Global, transcript: &Transcript) -> Result<Vec<u8>, NoMemory>
     requires { transcript.now.version ≡ V1 → least_of_transcript transcript.now ≡ V1 }
     ensures written { IfOk result (λ v. v.items ≡ transcript_text transcript.now) }
-    // So the text can be read back if the transcript is within the limits.
+    // All parts of the transcript can be spelled, so the text can be read back if the transcript is within the limits.
     ensures spellable { OnOk result (IsSpellable transcript.now) }
 {
     let mut lines = Vec::new(alloc);

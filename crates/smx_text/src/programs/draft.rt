@@ -179,7 +179,7 @@ impl ProgramsDraft {
         Ok(())
     }
 
-    // Fails if the next line may not be a command, or if one more command would be over the limit.
+    // Fails if a command is not allowed as the next line, or if one more command would be over the limit.
     fn room_for_command(&self) -> Result<(), Cause>
         ensures some { OnOk result (0 < length self.now.programs) }
         ensures few { OnOk result (sum_by length self.now.programs < MAX_COMMANDS) }

@@ -181,7 +181,7 @@ impl TranscriptDraft {
         Ok(())
     }
 
-    // Fails if the next line may not be an entry, or if one more entry would be over the limit.
+    // Fails if an entry is not allowed as the next line, or if one more entry would be over the limit.
     fn room_for_entry(&self) -> Result<(), Cause>
         ensures history { OnOk result (self.now.stage ≡ History) }
         ensures few { OnOk result (length self.now.transcript.entries < MAX_COMMANDS) }

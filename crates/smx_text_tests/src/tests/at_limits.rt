@@ -7,7 +7,8 @@ use smx_types::Version;
 
 const DRIVERS: Part = Each(0, 128, "driver a{n} leaf 1 1 0 1\n");
 
-// 128 drivers, 64 programs, and 100,000 commands in all of them; and the longest message.
+// The first text has 128 drivers, 64 programs, and 100,000 commands in all programs together. The second has the
+// longest message.
 const PROGRAMS: [(&[Part], Version); 2] = [
     (
         &[
@@ -30,8 +31,8 @@ const PROGRAMS: [(&[Part], Version); 2] = [
     ),
 ];
 
-// 128 drivers, 100,000 entries, 1,024 links and 4,096 messages; the largest number of dropped serials; and the
-// longest messages.
+// The first text has 128 drivers, 100,000 entries, 1,024 links and 4,096 messages. The second has the maximum number of
+// dropped serials, and the third has the longest messages.
 const TRANSCRIPTS: [(&[Part], Version); 3] = [
     (
         &[

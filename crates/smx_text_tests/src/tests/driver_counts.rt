@@ -1,4 +1,4 @@
-//! Every number of drivers, in each version, up to the largest and beyond.
+//! Every number of drivers from 0 to 129, in both versions of both texts.
 
 use super::spelling::{are_none, is_none, spells_programs, spells_transcript};
 use smx_samples::Part::{Each, Once};

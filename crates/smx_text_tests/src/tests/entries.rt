@@ -23,7 +23,7 @@ fn a_line_is_a_command(rt: HostRuntime) {
     forget(hangup);
 }
 
-// Checks that process 2 closed descriptor 3, which it did not have.
+// Checks that in the entry, process 2 closes descriptor 3 and is refused, since it has no such descriptor.
 fn is_refused_close(rt: &impl Abort, entry: &Entry) {
     assert!(rt; entry.process == Process::new(2).expect(rt, "a process"));
     assert!(rt; entry.command == Command::Close { fd: 3 });

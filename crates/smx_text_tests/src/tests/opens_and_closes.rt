@@ -1,5 +1,5 @@
-//! One example: its programs text of 83 bytes and its transcript are read and written again. Each beginning of the
-//! programs text is read too, and the programs text with one byte replaced, each in turn.
+//! One example: its programs text of 83 bytes and its transcript are read and written again. The reader refuses each
+//! beginning of the programs text. It also refuses the programs text if any one byte is replaced by `ff`.
 
 use super::program_texts::OPENS_AND_CLOSES;
 use super::spelling::{spells_programs, spells_transcript};

@@ -58,7 +58,7 @@ pub const ALMOST_A_RING_OF_VERSION_1: &[Part] = &[
     Once("clone d127\nclone d0\nplink 0 1\nopen d1 0\nclone d63\npunlink 2 all\nplink 0 1\nend\n"),
 ];
 
-// Texts of both versions, each with the first version that allows what it says.
+// Texts of both versions, each with the earliest version that can express its programs.
 const ROWS: [(&[Part], Version); 7] = [
     (ALMOST_A_RING, Version::V2),
     (&[Once(OPENS_AND_CLOSES)], Version::V1),

@@ -34,8 +34,8 @@ pub fn transcript(rt: &(impl AllocGlobal + Abort), text: &[Part]) -> Transcript 
     }
 }
 
-/// Checks that the programs are written as this text and copied, and that `least` is the first version that allows
-/// them.
+/// Checks that the text of the programs is this text, and that a copy equals them. Checks that `least` is the earliest
+/// version that can express the programs.
 pub fn are_spelled(
     rt: &(impl AllocGlobal + Abort),
     value: &Programs,
@@ -82,8 +82,8 @@ fn is_written(rt: &(impl AllocGlobal + Abort), value: &Transcript, text: &str) {
     );
 }
 
-/// Checks that the text spells a transcript. Then checks that the transcript is written as this text and copied, and
-/// that `least` is the first version that allows it.
+/// Checks that the text spells a transcript. Then checks that the text of the transcript is this text, and that copies
+/// equal their originals. Checks that `least` is the earliest version that can express the transcript.
 pub fn spells_transcript(rt: &(impl AllocGlobal + Abort), text: &[Part], least: Version) {
     let value = transcript(rt, text);
     let text = whole(rt, text);
@@ -93,14 +93,14 @@ pub fn spells_transcript(rt: &(impl AllocGlobal + Abort), text: &[Part], least: 
     forget(value);
 }
 
-/// Checks that the text is not programs, for this cause at this line.
+/// Checks that `read_programs` refuses the text, with this cause at this line.
 pub fn are_none(rt: &(impl AllocGlobal + Abort), text: &[Part], line: usize, cause: Cause) {
     let text = whole(rt, text);
     let fault = read_programs(rt.alloc(), text.as_bytes()).err();
     assert!(rt; fault == Some(TextFault { line, cause }), "{text}");
 }
 
-/// Checks that the text is not a transcript, for this cause at this line.
+/// Checks that `read_transcript` refuses the text, with this cause at this line.
 pub fn is_none(rt: &(impl AllocGlobal + Abort), text: &[Part], line: usize, cause: Cause) {
     let text = whole(rt, text);
     let fault = read_transcript(rt.alloc(), text.as_bytes()).err();

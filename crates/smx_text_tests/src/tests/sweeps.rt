@@ -33,7 +33,7 @@ fn programs_of_each_number_size_and_address(rt: HostRuntime) {
         spells_programs(&rt, &text, Version::V1);
     }
     for size in 1..1_025u32 {
-        // The bytes differ, also from size to size.
+        // Bytes next to each other differ. Messages whose sizes differ by 1 begin with different bytes.
         let bytes = Each(size, size.wrapping_mul(2), "{n % 251 hex}");
         let begin = Once("programs 1\nprocess 0\nwrite 0 5 ");
         let text = [

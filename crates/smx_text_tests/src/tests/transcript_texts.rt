@@ -59,7 +59,7 @@ full eth 0 w
 end
 ";
 
-/// Only hung-up streams.
+/// A view with hung-up streams only.
 pub const HUNGS: &str = "config\nnext 1 1\nhung eth 0\nhung eth 4294967295\nend\n";
 
 // A view with each group: a link with its route, queues with messages, a full queue, a bound address, and a hung-up
