@@ -10,8 +10,8 @@ ghost use Rattle.smx_model.specs.LawfulHistories.{IsTakenIn};
 ghost use Rattle.smx_model.specs.Worked.Unlawful.{opened, wrote};
 
 /// In a legal history, messages arrive whole. For each delivered message, an earlier entry accepted it: the command of
-/// that entry wrote or injected the bytes of the message to its address, and the reply has its serial. Some entry also
-/// accepted each message that is queued at the end.
+/// that entry wrote or injected the bytes of the message to its address, and the reply has its serial. Each message
+/// that is queued at the end was accepted in the same way by some entry of the history.
 pub fn messages_arrive_whole()
     ensures delivered { (drivers : List DriverSpec) (early late : List Entry) (e : Entry) (serial addr : ℕ)
         (bytes : List ℕ)

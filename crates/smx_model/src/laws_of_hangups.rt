@@ -50,7 +50,7 @@ pub fn without_a_hangup_none_is_reported()
         → list_any (λ e. is_hangup e.command) history ≡ false → (after drivers history).hungs ≡ [] }
 {}
 
-/// So version 1 of the texts can express a report if it can express the programs.
+/// If version 1 of the texts can express some programs, it can also express each report of these programs.
 #[tactic(auto, using(crate::proofs::QuietHistoryLemmas::report_is_quiet))]
 pub fn reports_need_no_later_version()
     ensures { (programs : ProgramLists) (report : Transcript) → IsReportOf programs report

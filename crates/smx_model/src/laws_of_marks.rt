@@ -8,7 +8,7 @@ ghost use Rattle.smx_model.specs.Commands.{step};
 ghost use Rattle.smx_model.specs.Configuration.{Configuration, empty};
 ghost use Rattle.smx_model.specs.FreedPlaces.{HaveFullPlacesMessages};
 
-/// A full place has messages. This is so in the empty configuration, and each command preserves it.
+/// Each full place has messages. The empty configuration has this property, and each command preserves it.
 #[tactic(auto, using(crate::proofs::FullPlaceLemmas::empty_filled, crate::proofs::FullPlaceLemmas::step_filled))]
 pub fn full_places_have_messages()
     ensures empty { HaveFullPlacesMessages empty }

@@ -21,7 +21,8 @@ pub fn few_commands_drop()
     ensures { (drivers : List DriverSpec) (history : List Entry) → IsLegal drivers history → AreDropsAllowed history }
 {}
 
-/// After any commands no message can move: settling makes enough moves.
+/// After any commands no message can move. Settling makes at most as many moves as there are messages times drivers,
+/// and these moves are enough.
 pub fn settling_ends()
     ensures { (drivers : List DriverSpec) (history : List Entry) → IsSettled drivers (after drivers history) }
 {}

@@ -13,8 +13,8 @@ ghost use Rattle.smx_model.specs.Worked.Reports.{programs, report_with, three, t
 
 /// A report has the drivers of the programs, which are valid. Its history is legal and holds the programs: it has the
 /// commands of each program, each once, in order, and no others. Its view is that of the final configuration. These
-/// properties are enough for a report (`enough`). It follows that the history is lawful after each entry, and that only
-/// commands that may drop messages name dropped messages.
+/// properties are enough for a report (`enough`). It follows that the history is lawful after each entry. It also
+/// follows that only the replies to `unlink`, `punlink`, `close`, `exit` and `flush` name dropped messages.
 pub fn reports_are_legal()
     ensures drivers { (programs : ProgramLists) (report : Transcript) → IsReportOf programs report
         → (report.drivers ≡ programs.drivers) × IsDriverList programs.drivers }
@@ -35,8 +35,8 @@ pub fn reports_are_legal()
         → IsReportOf programs report }
 {}
 
-/// Programs have at most one report for each order of their commands, apart from the version of the report's text: the
-/// order determines the drivers, the replies and the view.
+/// If two reports of the same programs have the commands in the same order, the reports differ at most in the version
+/// of their texts. The order of the commands determines the drivers, the replies and the view.
 #[tactic(auto, using(crate::proofs::ReportLemmas::one_report))]
 pub fn reports_are_determined()
     ensures { (programs : ProgramLists) (one other : Transcript) → IsReportOf programs one → IsReportOf programs other
@@ -49,8 +49,8 @@ pub fn the_example_is_a_report()
     ensures { IsReportOf programs (report_with (opened ∷ exited ∷ copied ∷ []) two) }
 {}
 
-/// None of these transcripts is a report of the programs. Each is wrong in one thing: a command is missing, is done
-/// twice, has changed places with another one, or is of another process; or a reply or the view is another one.
+/// None of these transcripts is a report of the programs. Each is wrong in one thing. Either a command is missing, is
+/// done twice, has changed places with another command, or is of another process. Or a reply is wrong, or the view is.
 pub fn others_are_none()
     ensures left_out { IsReportOf programs (report_with (opened ∷ exited ∷ []) one) → ⊥ }
     ensures done_twice { IsReportOf programs (report_with (opened ∷ copied ∷ once_more ∷ exited ∷ []) three) → ⊥ }

@@ -38,8 +38,8 @@ pub fn refusals_change_nothing()
         → (step drivers c process command).1 ≡ reply.Fault f → (step drivers c process command).0 ≡ c }
 {}
 
-/// Assume that nothing belongs to streams that don't exist. If a reply then names a dropped message, its command is one
-/// that may drop messages.
+/// If nothing belongs to streams that don't exist, only the replies to `unlink`, `punlink`, `close`, `exit` and `flush`
+/// can name dropped messages.
 #[tactic(auto, using(crate::proofs::DropLemmas::step_drops))]
 pub fn other_commands_drop_none()
     ensures { (drivers : List DriverSpec) (c : Configuration) (process : ℕ) (command : Command) → IsSwept drivers c
@@ -69,13 +69,13 @@ pub fn commands_keep()
         → IsKept drivers c → IsKept drivers (step drivers c process command).0 }
 {}
 
-/// The invariant holds of the empty configuration.
+/// The empty configuration satisfies the invariant of configurations.
 pub fn empty_is_kept()
     ensures { (drivers : List DriverSpec) → IsKept drivers empty }
 {}
 
-/// So the invariant holds after any commands: there is no cycle, everything belongs to streams that exist, each list is
-/// in order, and no message can move.
+/// After any commands the invariant holds. Among other things it says: there is no cycle, everything belongs to streams
+/// that exist, each list is in order, and no message can move.
 #[tactic(auto, using(crate::proofs::KeptLemmas::always_is_kept))]
 pub fn configurations_are_kept()
     ensures { (drivers : List DriverSpec) (history : List Entry) → IsKept drivers (after drivers history) }

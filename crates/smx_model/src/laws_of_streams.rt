@@ -12,10 +12,11 @@ ghost use Rattle.smx_model.specs.SoundLinks.{AreLinksSound};
 ghost use Rattle.smx_model.specs.Standing.{exists, Stands};
 ghost use Rattle.smx_model.specs.Swept.{IsSwept};
 
-/// A climb is one step up, from a stream below an ordinary link to the controlling stream of the link. If links are
-/// sound (no cycle, no stream below two links) and the drivers have their controlling streams, as many climbs as there
-/// are drivers find each stream that exists: more climbs find no other stream. This also holds before a sweep, which
-/// removes everything that belongs to streams that don't exist.
+/// A climb is one step up, from a stream below an ordinary link to the controlling stream of the link. To find each
+/// stream that exists, it is enough to make as many climbs as there are drivers: more climbs find no other stream. This
+/// needs two things. Links are sound (no cycle, no stream below two links), and the controlling stream of each link is
+/// a stream that the drivers have. The configuration need not be swept: it may still have things that belong to streams
+/// that don't exist.
 #[tactic(auto, using(crate::proofs::KeptLemmas::exists_is_stands))]
 pub fn climbs_suffice()
     ensures { (drivers : List DriverSpec) (c : Configuration) (s : StreamId) → AreLinksSound c.links
@@ -23,14 +24,15 @@ pub fn climbs_suffice()
         → (IsTrue (exists drivers c s) ↔ Stands c s) }
 {}
 
-/// After any commands, as many climbs as there are drivers find each stream that exists.
+/// After any commands, to find each stream that exists, it is enough to make as many climbs as there are drivers.
 #[tactic(auto, using(crate::proofs::KeptLemmas::always_exists_is_stands))]
 pub fn climbs_always_suffice()
     ensures { (drivers : List DriverSpec) (history : List Entry) (s : StreamId)
         → (IsTrue (exists drivers (after drivers history) s) ↔ Stands (after drivers history) s) }
 {}
 
-/// In a swept configuration, nothing belongs to streams that don't exist. Another sweep changes nothing in it.
+/// A configuration is swept if nothing belongs to streams that don't exist. A sweep of such a configuration changes
+/// nothing.
 #[tactic(auto, using(crate::proofs::IdleSweepLemmas::swept_idle))]
 pub fn sweeping_again_changes_nothing()
     ensures { (drivers : List DriverSpec) (c : Configuration) → IsSwept drivers c → after_sweep drivers c ≡ c }

@@ -21,8 +21,9 @@ pub fn a_stream_below_two_links_is_unlawful()
     ensures { IsLawfulEnd [] (end_with below_two) → ⊥ }
 {}
 
-/// A history is unlawful if it loses or duplicates a message, if it delivers or drops a message again after it has
-/// left, or if it delivers a message under another serial or one that was never accepted.
+/// A history is unlawful if it loses or duplicates a message. It is unlawful if a message that was delivered or dropped
+/// is delivered or dropped once more. It is also unlawful if it delivers a message under another serial, or a message
+/// that was never accepted.
 pub fn messages_lost_or_doubled_are_unlawful()
     ensures lost { IsLawful drivers lost → ⊥ }
     ensures doubled { IsLawful drivers doubled → ⊥ }
@@ -46,7 +47,7 @@ pub fn prefixes_count()
     ensures throughout { IsLawfulThroughout drivers too_early → ⊥ }
 {}
 
-/// The reply to a `dup` may not name a dropped message.
+/// In the example, the reply to a `dup` names a dropped message. This is not allowed.
 #[tactic(auto, using(crate::proofs::UnlawfulLemmas::dropped_by_dup))]
 pub fn a_dup_drops_nothing()
     ensures { AreDropsAllowed dropped_by_dup → ⊥ }
