@@ -1,4 +1,4 @@
-//! For each link, the routes to it, by their keys (driver and address).
+//! For each link, the keys (driver and address) of the routes to this link.
 
 ghost use Rattle.std.specs.Prelude.{◌≡◌, ℕ, true, false, OnOk, OnErr};
 ghost use Rattle.smx_addresses.specs.Keys.{Key as AnyKey};
@@ -8,8 +8,8 @@ use crate::key::Key;
 use indexmap::{IndexMap, IndexSet};
 use smx_types::NoMemory;
 
-/// For the id of each link that has had a route: the set of the keys (driver and address) that are routed to the link
-/// now.
+/// A map from the id of a link to the set of the keys (driver and address) that are routed to this link now. If a link
+/// loses its last route by `drop_target`, its set stays, and is empty.
 pub type Targets = IndexMap<u32, IndexSet<Key>>;
 
 // Adds a key to the set of a link, if the set doesn't have it. If the link has no set, makes one.

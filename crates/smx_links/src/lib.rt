@@ -1,5 +1,5 @@
-//! The table of links between drivers. It has a bit for each pair of drivers, which says whether a path of links leads
-//! from one to the other. So the test for cycles reads one bit.
+//! The table of links between drivers. For any drivers a and b it has a bit, which says whether a path of links leads
+//! from a to b. So the test for cycles reads one bit.
 #![tactic(auto)]
 
 mod key;

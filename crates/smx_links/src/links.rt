@@ -118,7 +118,7 @@ impl Links {
         }
     }
 
-    /// Copies the links into memory from this allocator.
+    /// Copies the links. The copy gets its memory from this allocator.
     pub fn copy(&self, alloc: Global) -> Result<Links, NoMemory>
         requires lowers { AreLowersApart self.now }
         requires rise { IsRising (λ l k. nat_lt l.id k.id) self.now }

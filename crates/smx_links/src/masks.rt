@@ -1,4 +1,5 @@
-//! One word of bits (a mask) for each driver: it says which drivers paths of links lead to from this driver.
+//! One word of bits (a mask) for each driver. Bit b of the word of driver a is set if a path of links leads from a to
+//! b.
 
 ghost use Rattle.std.specs.Prelude.{◌≡◌, ◌<◌, ◌≤◌, ◌^◌, List, [], ◌∷◌, ◌++◌, bit_or, length};
 ghost use Rattle.std.specs.List.{All};

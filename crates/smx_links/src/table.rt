@@ -127,8 +127,8 @@ impl LinkTable {
         Some(link)
     }
 
-    /// Removes the links with these ids and no others. Then recomputes, once for all of them, which drivers each driver
-    /// reaches. The next id doesn't change. Does not allocate.
+    /// Removes the links with these ids and no others. Then recomputes, only once, which drivers each driver reaches.
+    /// The next id doesn't change. Does not allocate.
     pub fn remove_each(&mut self, ids: &[u32])
         ensures rest { self.new ≡ without_ids self.old ids.now }
         ensures drivers { self.new.drivers ≡ self.old.drivers }
