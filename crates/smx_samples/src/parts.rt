@@ -2,14 +2,14 @@
 
 use std::alloc::{AllocError, Global};
 
-/// A part of a text. In a repeated line, `{n}` is the number of the repetition; `{n + 1}`, `{66 - n}`, `{n / 64}` and
-/// `{n % 64}` are computed from this number. With ` hex` at its end, as in `{n hex}`, a formula is written as a byte in
-/// hex.
+/// A part of a text. In a line with a number, `{n}` is this number. Formulas such as `{n + 1}`, `{66 - n}`, `{n / 64}`
+/// and `{n % 64}` are computed from this number. If a formula ends with ` hex`, as in `{n hex}`, its value is written
+/// as a byte in hex.
 #[derive(Clone, Copy)]
 pub enum Part<'a> {
     /// This text, once.
     Once(&'a str),
-    /// This line, once for each number. The numbers start at the first one and stop before the second one.
+    /// This line, once for each number. The numbers start at the first of these two, and stop before the second.
     Each(u32, u32, &'a str),
     /// The line with this number, once.
     At(u32, &'a str),

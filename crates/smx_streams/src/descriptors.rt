@@ -14,8 +14,8 @@ use smx_types::{Descriptor, MAX_DESCRIPTORS, MAX_PROCESSES, NoMemory, Process, S
 use std::alloc::Global;
 use std::marker::Model;
 
-/// Descriptors by process and number. A process has no cells, or one cell for each descriptor number. Contracts see the
-/// list, and how many cells each process has.
+/// Descriptors by process and number. A process has either no cells at all, or a cell for each descriptor number.
+/// Contracts see the list, and how many cells each process has.
 #[derive(Debug, Drop)]
 pub struct Descriptors {
     processes: Vec<DescriptorRow>,

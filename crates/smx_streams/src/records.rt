@@ -206,7 +206,7 @@ impl Records {
         key_of(&self.drivers, stream).is_some()
     }
 
-    /// Counts one more descriptor of a stream. A stream without a record gets one.
+    /// Counts one more descriptor of a stream. Makes a record of the stream if there is none yet.
     #[inline(always)]
     pub fn open(&mut self, stream: StreamId) -> Result<(), NoMemory>
         requires range { is_in_range self.old.minors stream.driver stream.minor ≡ true }
@@ -360,7 +360,7 @@ impl Records {
         Ok(())
     }
 
-    /// Copies the records into memory from this allocator.
+    /// Copies the records. The copy gets its memory from this allocator.
     pub fn copy(&self, alloc: Global) -> Result<Records, NoMemory>
         ensures { IfOk result (λ r. r ≡ self.now) }
     {

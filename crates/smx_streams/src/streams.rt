@@ -127,7 +127,7 @@ impl Streams {
         })
     }
 
-    // Adds a descriptor of a stream. Its number `fd` is the lowest free one of the process.
+    // Adds a descriptor of a stream. `fd` is the lowest free descriptor number of the process.
     #[inline(always)]
     fn open(&mut self, process: Process, fd: u32, stream: StreamId) -> Result<(), NoMemory>
         requires range { is_in_range self.old.minors stream.driver stream.minor ≡ true }
@@ -161,9 +161,9 @@ impl Streams {
         Ok((fd, stream))
     }
 
-    /// Opens the lowest minor of the driver whose stream doesn't exist, as the lowest free descriptor of the process.
-    /// Fails with the first of these: there is no such driver; the streams of all its minors exist; the process has 16
-    /// descriptors; an allocation fails. A failure changes nothing.
+    /// Opens a new stream of the driver, as the lowest free descriptor of the process. The minor of the stream is the
+    /// lowest one that has no stream yet. Fails with the first of these: there is no such driver; each minor of the
+    /// driver has a stream; the process has 16 descriptors; an allocation fails. A failure changes nothing.
     pub fn open_clone(
         &mut self,
         process: Process,
@@ -221,7 +221,7 @@ impl Streams {
         self.give(process, stream)
     }
 
-    /// Returns whether the stream of the descriptor has no other descriptor and no hold. The stream then ceases to
+    /// Returns whether the stream of the descriptor has no other descriptor and no hold. If so, the stream ceases to
     /// exist when the descriptor is closed.
     pub fn is_last(&self, process: Process, fd: u32) -> bool
         ensures { result ≡ is_last self.now process fd }
@@ -233,8 +233,8 @@ impl Streams {
         }
     }
 
-    /// Closes this descriptor of the process and no other. Returns `None` if there is no such descriptor. No stream
-    /// other than that of the descriptor can cease to exist. Does not allocate.
+    /// Closes this descriptor of the process and no other. Returns `None` if there is no such descriptor. Only the
+    /// stream of the descriptor can cease to exist. Does not allocate.
     #[inline(always)]
     pub fn close_fd(&mut self, process: Process, fd: u32) -> Option<Closed>
         ensures stream { option_map (λ c. c.stream) result ≡ stream_at self.old.fds process fd }
@@ -314,7 +314,7 @@ impl Streams {
         !self.exists(stream)
     }
 
-    /// Marks a stream that exists as hung up, for as long as it exists. Does not allocate.
+    /// Marks an existing stream as hung up. The mark stays as long as the stream exists. Does not allocate.
     pub fn hang(&mut self, stream: StreamId)
         requires { exists self.old stream ≡ true }
         ensures { HasHungUp self.old stream self.new }
