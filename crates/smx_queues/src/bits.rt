@@ -29,8 +29,8 @@ impl Model for Bits {
     ghost invariant = { λ b. AreBits b.first b.count b.words.items };
 }
 
-// Returns the index of the first word that has a mark, at or after `start`. If there is none, returns the larger one of
-// `start` and the number of words.
+// Returns the index of the first word, from index `start` on, that has a mark. If no such word exists, returns `start`
+// or the number of words, whichever is larger.
 fn first_word(words: &[u64], start: usize) -> usize
     ensures zero { (w : ℕ) → start ≤ w → w < result → slice_index words.now w ≡ 0 }
     ensures some { result < length words.now → slice_index words.now result ≢ 0 }

@@ -10,8 +10,8 @@ use crate::queues::Queues;
 use smx_types::{Message, Place};
 use std::marker::Model;
 
-/// An iterator that moves all messages out of a table that has been given up, in order of place. Contracts see the list
-/// of the messages that are left. Takes no memory.
+/// An iterator over the messages of a table that `into_messages` has consumed. It moves the messages out, in order of
+/// place. Contracts see the list of the messages that are left. Takes no memory.
 #[derive(Drop)]
 pub struct LeavingMessages {
     places: Places,

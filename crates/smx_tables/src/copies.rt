@@ -14,7 +14,7 @@ use smx_streams::Streams;
 use smx_types::{DriverSpec, NoMemory};
 use std::alloc::Global;
 
-/// Copies the tables into memory from this allocator. Fails only if out of memory.
+/// Copies the tables. The copy takes its memory from this allocator. Fails only if out of memory.
 #[tactic(auto, using(crate::proofs::KeptLemmas::held_again))]
 pub fn copy_lists(alloc: Global, lists: &Lists) -> Result<Lists, NoMemory>
     requires { KeepsHolds lists.now }
