@@ -12,8 +12,8 @@ use crate::step_error::StepError;
 use crate::tables::Tables;
 use smx_types::{Fault, Process, Reply};
 
-// None of these commands needs a sweep (the removal of what belongs to streams that no longer exist): the stream exists
-// before and after, and a route keeps no stream in existence.
+// None of these commands needs a sweep (the removal of what belongs to streams that no longer exist). The stream of the
+// descriptor exists before and after the command, and a route keeps no stream in existence.
 impl Tables {
     pub(crate) fn bind(
         &mut self,

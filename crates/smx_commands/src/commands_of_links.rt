@@ -87,7 +87,7 @@ impl Tables {
         refuse(Fault::NotMux, !is_mux(&self.drivers, upper.driver as usize))
     }
 
-    // Links a stream below another one, by a link of this kind.
+    // Links the stream of descriptor `arg` below the stream of `fd`, by a link of this kind.
     pub(crate) fn link_as(
         &mut self,
         process: Process,

@@ -49,8 +49,8 @@ impl Tables {
         self.live_write_side(link.lower)
     }
 
-    // Takes the link above `stream`, and returns the read side of the stream that is bound to the address on the upper
-    // driver of this link.
+    // Looks up the link above `stream`. Returns the read side of the stream that is bound to the address on the upper
+    // driver of this link. Returns `None` if there is no such link or no such stream.
     fn up(&self, stream: StreamId, addr: u32) -> Option<Place>
         ensures { result ≡ place_above self.now.configuration.links self.now.configuration.binds stream addr }
     {

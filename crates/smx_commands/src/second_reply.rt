@@ -95,8 +95,8 @@ impl Tables {
         self.room_for_all()
     }
 
-    /// Reserves room for a second copy of the reply to a command, before the command is performed. It may notice that
-    /// the command is refused, and then fails with the fault.
+    /// Reserves room for a second copy of the reply to a command, before the command is performed. If the call already
+    /// notices that the command is refused, it fails with the fault.
     #[tactic(auto, using(crate::proofs::DroppedLemmas::few_left))]
     pub fn room_for_reply(
         &self,

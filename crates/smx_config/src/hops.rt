@@ -1,5 +1,5 @@
-//! A cache. For each place, a hop has one address, and the place to which messages with this address went next when
-//! this was last looked up.
+//! A cache of next places. For each place it has one hop: an address, and the place to which messages with this address
+//! go next, as the last look-up found it.
 
 ghost use Rattle.std.specs.Prelude.{◌≡◌, ℕ, ◌<◌, length, IfOk, IfSome, List, Ok};
 ghost use Rattle.smx_types.specs.declared.driver.DriverSpec.{DriverSpec};
@@ -119,7 +119,7 @@ fn keeps_ways(command: &Command) -> bool
     }
 }
 
-// Makes all hops out of date, unless this accepted command only adds or removes messages.
+// Makes all hops out of date after a command was accepted, unless the command only adds or removes messages.
 pub fn forget_changed(hops: &mut Hops, command: &Command)
     ensures { (drivers : List DriverSpec) (c d : Configuration) (process : ℕ) (r : Reply) → IsSwept drivers c
         → AreHops drivers c hops.old → outcome drivers c process command.now ≡ Ok (d, r) → AreHops drivers d hops.new }

@@ -23,7 +23,8 @@ fn mark_if_asked(tables: &Tables, run: &mut Bits, place: Place, addr: u32)
     }
 }
 
-// Looks at this side of each of the driver's streams. Sets the run marks of those whose first message has this address.
+// Looks at this side of each of the driver's streams. Sets the run marks of those sides whose first message has this
+// address.
 fn mark_side(tables: &Tables, run: &mut Bits, driver: u8, side: Side, addr: u32)
     requires { run.old.count ≡ length (places_of tables.now.drivers) }
     ensures { IsMarkedWhere tables.now.drivers tables.now.configuration.flow
@@ -35,7 +36,8 @@ fn mark_side(tables: &Tables, run: &mut Bits, driver: u8, side: Side, addr: u32)
     }
 }
 
-// Looks at the write sides of the driver's streams. Sets the run marks of those whose first message has this address.
+// Looks at the write sides of the driver's streams. Sets the run marks of those write sides whose first message has
+// this address.
 pub fn mark_writes(tables: &Tables, run: &mut Bits, driver: u8, addr: u32)
     requires { run.old.count ≡ length (places_of tables.now.drivers) }
     ensures { IsMarkedWhere tables.now.drivers tables.now.configuration.flow
@@ -46,9 +48,9 @@ pub fn mark_writes(tables: &Tables, run: &mut Bits, driver: u8, addr: u32)
     }
 }
 
-// If a path of links leads from the driver `driver` down to the driver `lower`, looks at the read sides of the streams
-// of `lower`, and sets the run marks of those whose first message has this address. Without such a path, no stream of
-// `lower` is below `driver`, and none is looked at.
+// Does nothing unless a path of links leads from the driver `driver` down to the driver `lower`. (Without such a path,
+// no stream of `lower` is below `driver`.) Otherwise looks at the read sides of the streams of `lower`. Sets the run
+// marks of those read sides whose first message has this address.
 fn mark_reads_of(tables: &Tables, run: &mut Bits, driver: u8, addr: u32, lower: u8)
     requires { run.old.count ≡ length (places_of tables.now.drivers) }
     ensures { IsMarkedWhere tables.now.drivers tables.now.configuration.flow

@@ -16,7 +16,7 @@ use crate::waking::release_if_open;
 use smx_commands::Tables;
 use smx_queues::Bits;
 
-// A move of a message from the place with one number to the place with another.
+// A move of a message from one place to another. Both places are given by their numbers.
 #[derive(Clone, Copy)]
 pub struct Move {
     pub from: usize,
@@ -44,8 +44,9 @@ fn clear_mark(tables: &Tables, marks: &mut Marks, from: usize, next: Option<usiz
     }
 }
 
-// Returns the move from the least movable place, if there is one. Looks only at places with a run mark. Clears the run
-// marks of the places before the least movable place. If no place is movable, clears all run marks.
+// Finds the place with the lowest number whose first message can move, and returns this move. Looks only at places with
+// a run mark. Clears the run marks of the places before the found place. If no message can move, returns `None` and
+// clears all run marks.
 #[inline(always)]
 fn next_move(tables: &Tables, marks: &mut Marks, hops: &mut Hops) -> Option<Move>
     requires sound { IsSound tables.now.drivers tables.now.configuration }
@@ -87,7 +88,7 @@ fn clear_if_empty(tables: &Tables, marks: &mut Marks, n: usize)
     }
 }
 
-// Makes a move, and gives a run mark to each place that may become movable because of this move.
+// Makes a move. Gives a run mark to each place whose first message may become able to move because of this move.
 fn move_on(tables: &mut Tables, marks: &mut Marks, next: Move)
     requires sound { IsSound tables.old.drivers tables.old.configuration }
     requires marks { AreMarks tables.old.drivers tables.old.configuration marks.old }

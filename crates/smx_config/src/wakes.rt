@@ -12,7 +12,7 @@ use smx_types::{Command, Fault, Place, Process, Side, StreamId};
 /// become able to move because of the command.
 #[derive(Clone, Copy)]
 pub enum Wakes {
-    // No change: no message becomes able to move.
+    // The command makes no message able to move.
     Nothing,
     // A place may get another first message, or its first message may get another next place.
     Turns(Place),

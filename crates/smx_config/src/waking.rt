@@ -127,8 +127,8 @@ fn drops_none(reply: &Reply) -> bool
     }
 }
 
-// Releases the sides of the stream that are wanted and not full, if the reply names dropped messages. If it names none,
-// does nothing: a side that was full has lost no message, so the side is still full.
+// If the reply names dropped messages, releases the sides of the stream that are wanted and not full. Otherwise does
+// nothing: a side that was full has lost no message, so the side is still full.
 fn release_emptied(tables: &Tables, marks: &mut Marks, stream: StreamId, reply: &Reply)
     requires over { AreOver tables.now.drivers marks.old }
     requires listed { IsListed marks.old }
@@ -140,7 +140,7 @@ fn release_emptied(tables: &Tables, marks: &mut Marks, stream: StreamId, reply: 
     }
 }
 
-// Releases all wanted places that are not full, if the reply names dropped messages.
+// If the reply names dropped messages, releases all wanted places that are not full.
 fn release_dropped(tables: &Tables, marks: &mut Marks, reply: &Reply)
     requires over { AreOver tables.now.drivers marks.old }
     requires listed { IsListed marks.old }
