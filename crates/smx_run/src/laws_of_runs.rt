@@ -129,7 +129,8 @@ pub fn whose_calls_they_are()
     ensures in_order { numbered 3 ((Dup 0 ∷ []) ∷ [] ∷ []) ≡ (3, (3, Dup 0) ∷ []) ∷ (4, []) ∷ [] }
 {}
 
-/// A seat that has seen one entry knows that the history is full if the limit is one, and not if the limit is two.
+/// If the limit is one, a seat that has seen one entry knows that the history is full. If the limit is two, such a seat
+/// doesn't know this.
 pub fn a_full_history_of_an_example()
     ensures full { KnowsItFull (knows 0 1 1) }
     ensures full_by_others { KnowsItFull (knows 1 1 1) }
@@ -145,7 +146,7 @@ pub fn strange_processes_of_an_example()
     ensures not_later { IsLeastStrange (opened ∷ exited ∷ copied ∷ []) ((opened ∷ []) ∷ []) 1 → ⊥ }
 {}
 
-/// `EitherFails` holds if either one of the two results has the given fault.
+/// `EitherFails` holds if at least one of the two results is the given fault.
 pub fn either_of_two_fails()
     ensures first { (before last : Result ℕ WorkerFault) → before ≡ Err worker.HistoryFull
         → EitherFails worker.HistoryFull before last }

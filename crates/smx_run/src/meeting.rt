@@ -12,8 +12,8 @@ use smx_types::NoMemory;
 use std::alloc::Global;
 
 /// Lets the first seat meet all the others. Returns this seat, and the front that each seat saw when its program had
-/// ended. If this seat closes the shared system, the returned system has exactly the entries that the seats made, for
-/// each of their processes.
+/// ended. If the returned seat closes the shared system, then for each process the system has exactly the entries that
+/// were made with the seat of this process.
 pub fn meet_all<K: EntrySink>(
     alloc: Global,
     shared: &Shared<K>,

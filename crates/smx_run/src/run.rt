@@ -36,8 +36,8 @@ pub const MAX_WORKERS: usize = 64;
 /// each command. A run on one worker, or of one process, starts no thread. The report has the front that was seen after
 /// each program had ended.
 ///
-/// Fails before any command is performed if the drivers are invalid. Fails with out of memory if an allocation fails.
-/// On several workers it may also fail because a worker's thread can't be started, or because the history is full. If
+/// If the drivers are invalid, fails before any command is performed. If an allocation fails, fails with `NoMemory`. On
+/// several workers it may also fail because a worker's thread can't be started, or because the history is full. If
 /// several workers fail, the run reports the fault that comes first in this list: out of memory, a thread that can't be
 /// started, a full history.
 pub fn run_programs<R: Threads + Wait + Sync, G: Gate + Sync>(

@@ -12,7 +12,7 @@ pub trait EntrySink: Drop {
     // All entries that the sink was given.
     ghost entries: { Self → List Made };
 
-    // The sink has room for another entry.
+    // Whether the sink has room for another entry.
     ghost has_room: { Self → Type 0 };
 
     /// Returns how many entries the sink was given. Takes no memory.

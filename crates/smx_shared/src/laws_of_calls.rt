@@ -105,8 +105,8 @@ pub fn rest_examples()
 {}
 
 /// A look (`glance`) is one step, which reads the first word. This word is the returned front, and also the front of
-/// the history that the seat has seen afterwards. `try_call` fails with `Busy` only by such a look, if the front shows
-/// that the turn is held.
+/// the history that the seat has seen afterwards. `try_call` fails with `Busy` only after such a look, and only if the
+/// returned front shows that the turn is held.
 pub fn look_examples()
     ensures looks { (id : SharedId) → LooksOnce (sits id (knows 1 0 9) 0 0) (sits id (knows 1 1 9) 4096 1)
         (front 1 0 false) }
@@ -145,8 +145,9 @@ pub fn refused_try_examples()
 {}
 
 /// In a meeting, the first seat records the other seat, which has the same limit, and the seats that either of them had
-/// met. A meeting adds no entry. The first seat has then seen everything that the recorded seats had seen. In its
-/// history, the entries of the process of each recorded seat are exactly those made with that seat.
+/// met. A meeting adds no entry. The first seat has then seen everything that the recorded seats had seen. In the
+/// history that it has then seen, the entries of the process of each recorded seat are exactly those made with that
+/// seat.
 pub fn meeting_examples()
     ensures meets { (id : SharedId) → Meets (sits id (knows 1 0 9) 0 0) (sits id (knows 0 1 9) 4096 1)
         (meets (sits id (knows 1 1 9) 4096 1) (knows 0 1 9)) }

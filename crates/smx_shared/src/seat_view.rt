@@ -17,7 +17,7 @@ pub struct SeatView {
     pub process: u64,
     /// The history that the seat has seen.
     pub seen: LinkedList<Entry>,
-    /// The entries that were made under its process.
+    /// The entries of its process that were made with the seat, or before the seat was made.
     pub own: LinkedList<Entry>,
     /// The value that the seat's last step on the first word found there (or stored there, if the step was a store),
     /// and the number of its steps on that word.
@@ -31,7 +31,7 @@ pub struct SeatView {
     pub spent: bool,
     /// Whether the seat has a name.
     pub named: bool,
-    /// Whether the seat may take the next name, and the next name.
+    /// Whether the seat may take the next name; and the next name itself.
     pub may_name: bool,
     pub next: u64,
 }
@@ -45,7 +45,7 @@ pub struct MetSeat {
     pub process: u64,
     /// The history that the seat had seen.
     pub seen: LinkedList<Entry>,
-    /// The entries that were made under its process.
+    /// The entries of its process that were made with the seat, or before the seat was made.
     pub own: LinkedList<Entry>,
 }
 
@@ -96,7 +96,7 @@ impl<K: EntrySink> Play<Option<BoxedSystem<K>>, SeatView> for Publish {
     ghost then = { Published };
 }
 
-/// Adds 1 to the second word, and takes the name that was found there.
+/// Adds 1 to the second word. The number that the word had before is the name that the seat takes.
 pub struct TakeName;
 
 impl<K: EntrySink> Play<Option<BoxedSystem<K>>, SeatView> for TakeName {

@@ -46,7 +46,7 @@ impl<K: EntrySink> Model for Shared<K> {
 
 // Makes a seat for each of the processes from 0 to `processes` - 1, and pushes these seats to a list that has room for
 // them. Each seat takes the next name, which is the number of its process. It then splits off the next seat, which may
-// take the name after it.
+// take the name after that one.
 fn deal_seats<K: EntrySink>(
     turns: &TurnTable<K>,
     first: Token<K>,

@@ -100,7 +100,7 @@ impl System {
         Entries::from_vec(sink)
     }
 
-    /// Returns a copy of this system, which keeps this allocator. Fails if an allocation fails.
+    /// Returns a copy of this system. The copy keeps this allocator. Fails if an allocation fails.
     pub fn copy(&self, alloc: Global) -> Result<System, NoMemory>
         ensures { IfOk result (λ s. s ≡ self.now) }
     {
