@@ -1,4 +1,4 @@
-//! Configurations, systems, alone and shared by threads, and runs.
+//! Tests of configurations, of systems (used alone, or shared by threads), and of runs.
 
 mod at_limits;
 mod callers;

@@ -1,4 +1,4 @@
-//! Tables that were filled by hand, and what they then hold.
+//! Tests of tables: the tests fill the tables, and compare what the tables then contain.
 
 mod bindings;
 mod bits;

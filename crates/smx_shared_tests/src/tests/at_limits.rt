@@ -1,5 +1,5 @@
 //! Configurations at their real limits: a chain of links over the largest number of drivers, and the link that would
-//! close it; the largest numbers of links, descriptors and messages in a queue; and the longest message.
+//! make the chain a cycle; the largest numbers of links, descriptors and messages in a queue; and the longest message.
 
 use super::worked::is_worked;
 use smx_samples::Part;
@@ -39,7 +39,7 @@ link 1 d0 0 d1 0 plink
     Once("link 128 d127 1 d0 0 plink\nend\n"),
 ];
 
-// A multiplexer with one stream gets a persistent link to each stream of 16 leaves, and then no more.
+// A multiplexer with one stream gets a persistent link to each stream of 16 leaves. Then it gets no further link.
 const MOST_LINKS: &[Part] = &[
     Once("transcript 1\ndriver m mux 1 8 3 16\n"),
     Each(0, 17, "driver l{n} leaf 64 8 3 16\n"),

@@ -6,7 +6,7 @@ use smx_types::{Command, ConfigView, DescriptorLine, Fault, Reply};
 use std::mem::forget;
 use std::process::Abort;
 
-// The replies to one process, and the view after them.
+// A command of one process with its reply, and the view afterwards.
 const OPENED: &[u8] = b"transcript 1
 driver ip mux 4 8 3 16
 driver eth leaf 2 8 3 16
@@ -47,7 +47,8 @@ fn opens_twice(rt: &impl Abort, config: &mut Config) {
     forget((reply, twin));
 }
 
-// `perform` replaces the previous reply by the new one: the descriptor of a stream, and then the refusal of a `close`.
+// Checks that `perform` replaces the previous reply by the new one. The first new reply is a descriptor, and the second
+// is the refusal of a `close`.
 fn performs_in_place(rt: &impl Abort, config: &mut Config) {
     let mut reply = Reply::Eof;
     let clone = clone_of(rt, "eth");
@@ -59,7 +60,7 @@ fn performs_in_place(rt: &impl Abort, config: &mut Config) {
     forget(reply);
 }
 
-// A copy has the same drivers and shows the same.
+// Checks that a copy has the same drivers and the same view.
 fn is_copied(rt: &(impl AllocGlobal + Abort), config: &Config) {
     let again = config.copy(rt.alloc()).expect(rt, "a copy");
     assert!(rt; again.drivers() == config.drivers());

@@ -1,5 +1,5 @@
-//! Workers with a `Door` of the test's own, and the calls that a gate gets. A `Door` is the calls of a system that a
-//! worker uses. Here each seat owns a system.
+//! Workers that use a `Door` of the test's own, and the calls that a gate gets. A `Door` is the set of calls of a
+//! system that a worker uses. Here each seat owns a system.
 
 ghost use Rattle.std.specs.Prelude.{◌≡◌, [], All};
 
@@ -67,7 +67,8 @@ impl Door for OwnDoor {
     }
 }
 
-// Returns a program of a process: `clone ip`, three times. Its seat owns a system that has no entry and takes only one.
+// Returns a process with its seat and its program, which is `clone ip` three times. The seat owns a system that has no
+// entry, and has room for only one.
 fn job_of(rt: &(impl AllocGlobal + Abort), process: u32) -> SeatedProgram<OwnSeat>
     ensures { result.seat.system.history ≡ [] }
 {
@@ -106,8 +107,8 @@ fn works<R: AllocGlobal + Abort + Wait>(
     run_assigned(rt, rt.alloc(), door, assigned(rt, earlier, later), log).err()
 }
 
-// Checks that a worker with these two processes stops when the history of the first is full. The log has the calls for
-// the command that was performed and for the command that failed, and no others.
+// Checks that a worker with these two processes stops when the history of the first is full. The log then has the
+// gate's calls for the command that was performed and for the command that failed, and no other calls.
 fn stops<R: AllocGlobal + Abort + Wait>(rt: &R, earlier: u32, later: u32) {
     let log = Log::of(rt, 12);
     let door = OwnDoor {

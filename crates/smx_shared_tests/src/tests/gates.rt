@@ -9,10 +9,11 @@ use std::process::Abort;
 use std::sync::atomic::{AtomicBool, AtomicU32, AtomicU64, AtomicUsize, Ordering};
 use std::thread;
 
-/// The largest number of turns that a thread waits.
+/// A thread that waits for a count looks at it at most this many times.
 pub const TURNS: u32 = 100_000_000;
 
-/// Returns whether the count reaches `wanted` before the turns are used up.
+/// Waits until the count is at least `wanted`, and gives up after `TURNS` looks at the count. Returns whether the count
+/// has reached `wanted`.
 pub fn is_reached(count: &AtomicU64, wanted: u64) -> bool {
     for _ in 0..TURNS {
         if count.load(Ordering::SeqCst) >= wanted {
@@ -41,7 +42,7 @@ impl Reported {
     }
 }
 
-// A line of a log, in parts that threads can write.
+// A line of a log. Its fields are atomic, so that several threads can write to the log.
 #[derive(Drop)]
 struct Line {
     process: AtomicU32,
@@ -114,7 +115,7 @@ impl FourInside {
         }
     }
 
-    /// Returns how many processes saw four.
+    /// Returns how many processes saw all four.
     pub fn met(&self) -> u64 {
         self.met.load(Ordering::SeqCst)
     }

@@ -1,7 +1,7 @@
 //! A report that is gathered from a system with three entries and from the entries that its callers kept; its copy; and
-//! kept entries with which the system doesn't agree. `three_seats` does this for a system that three seats shared. The
-//! first test also passes if any one allocation fails; tests/refused_growths runs it with each allocation failing in
-//! turn.
+//! kept entries with which the system doesn't agree. `three_seats` also gathers a report, from a system that three
+//! seats shared. The first test also passes if any single allocation fails. tests/refused_growths runs it many times,
+//! and each time another allocation fails.
 
 use super::made::{numbered, read, system_over, tells_of_want};
 use super::systems::{copied, plays};
@@ -119,8 +119,8 @@ fn three_entries_are_reported(rt: HostRuntime) {
     forget(want);
 }
 
-// Kept entries, and a process whose entries in the history are not those that were kept for it. One list is empty, one
-// is missing, and two are exchanged.
+// Lists of kept entries, and the lowest process whose entries in the history differ from its list. In the first row a
+// list is empty, in the second row a list is missing, and in the third row two lists are exchanged.
 const STRANGE: [(&[&[u8]], u32); 3] = [
     (&[BY_ZERO, BY_NONE, BY_TWO], 1),
     (&[BY_ZERO, BY_ONE], 2),

@@ -1,5 +1,5 @@
-//! The values of the tests. If an allocation fails, the value is made once more. So no test fails if only one
-//! allocation does.
+//! The values of the tests. If an allocation fails, the value is made once more. So a test still passes if only one
+//! allocation fails.
 
 ghost use Rattle.std.specs.Prelude.{◌≤◌};
 ghost use Rattle.smx_types.specs.declared.limits.TheConstants.{MAX_COMMANDS};

@@ -98,7 +98,8 @@ const BY_EACH: [&[Reported]; 3] = [
     ],
 ];
 
-// Runs `SIX` on as many workers as there are parts. Checks that each worker makes the calls of its part to a log.
+// Runs `SIX`, with one worker for each part and a log as the gate. Checks that each worker calls the gate exactly as
+// its part says.
 fn tells<R: AllocGlobal + Abort + Threads + Wait + Sync>(rt: &R, parts: &[&[Reported]])
     requires { (1 ≤ length parts.now) × (length parts.now ≤ MAX_WORKERS) }
 {

@@ -65,7 +65,8 @@ link 0 1
 end
 ";
 
-// Checks that a run by this number of workers has fronts for this number of processes, starting with these.
+// Runs the programs on this number of workers. Checks that the report has a front for each of `processes` processes,
+// and that the first three fronts are `first`.
 fn begins_with<R: AllocGlobal + Abort + Threads + Wait + Sync, G: Gate + Sync>(
     rt: &R,
     text: &[u8],

@@ -1,5 +1,5 @@
 //! Seats that call, try and look, each on its own thread; all except the first are dropped. Some tests make few calls,
-//! and some make many. The last two tests make many looks and tries; `bench/looks` takes their times.
+//! and some make many. The last two tests make many looks and tries; `bench/looks` measures how long they take.
 
 ghost use Rattle.std.specs.Prelude.{◌≤◌};
 ghost use Rattle.smx_types.specs.declared.limits.TheConstants.{MAX_COMMANDS, MAX_PROCESSES};
@@ -11,8 +11,8 @@ use std::process::Abort;
 use std::sync::Wait;
 use std::thread::Threads;
 
-// Has this number of seats do the parts of this stage, in a system over `driver ip mux 64 8 3 16` with this limit of
-// entries. Checks the end.
+// Makes this number of seats do the parts of this stage, in a system over `driver ip mux 64 8 3 16` with this limit of
+// entries. Checks the numbers at the end.
 fn comes_to<R: AllocGlobal + Abort + Threads + Wait + Sync>(
     rt: &R,
     stage: Stage,

@@ -21,13 +21,13 @@ pub enum Part {
     Rests,
     /// Looks this many times, and finds nothing.
     Looks(u32),
-    /// Holds the turn until `held` of the stage is the wanted number. Gets the stream with minor 0.
+    /// Holds the turn until the count `held` of the stage has reached `wanted`. Gets the stream with minor 0.
     Holds,
-    /// Finds the turn held, with nothing in the history, by a look and then by each of this many tries.
+    /// Finds by a look, and then by each of this many tries, that the turn is held and that the history is empty.
     Tries(u32),
     /// Looks until two seats have ended their `OpensAndCloses`. The history never becomes shorter from look to look.
     LooksOn,
-    /// Opens a stream after some seat has seen the turn free, and then closes it and opens one 500 times.
+    /// Opens a stream after some seat has seen the turn free. Then closes the stream and opens one again, 500 times.
     OpensAndCloses,
     /// Calls this many times.
     Calls(u32),
@@ -35,8 +35,8 @@ pub enum Part {
     Opens(u32),
 }
 
-/// The parts of the seats of a test. The first few seats have one part, and the others have another part, at the same
-/// time. Then the very first seat has a last part. The counts say what the seats have seen so far.
+/// The parts of the seats of a test. The first few seats do one part, while the other seats do another part. Then the
+/// very first seat does a last part. The counts say what the seats have seen so far.
 #[derive(Drop)]
 pub struct Stage {
     clone_ip: Command,
@@ -109,7 +109,7 @@ fn finds_nothing(rt: &impl Abort, shared: &Shared, seat: &mut Seat, count: u32)
     }
 }
 
-// Holds the turn until `held` of the stage is the wanted number. Gets the stream with minor 0.
+// Holds the turn until the count `held` of the stage has reached `wanted`. Gets the stream with minor 0.
 fn holds<R: AllocGlobal + Abort + Wait>(rt: &R, shared: &Shared, seat: &mut Seat, stage: &Stage)
     requires { seat.old.shared ≡ shared.now.name }
     ensures { seat.new.shared ≡ shared.now.name }
@@ -120,7 +120,7 @@ fn holds<R: AllocGlobal + Abort + Wait>(rt: &R, shared: &Shared, seat: &mut Seat
     forget(entry);
 }
 
-// Checks that a try finds the turn held, with nothing in the history.
+// Checks that a try finds that the turn is held and that the history is empty.
 fn is_busy(rt: &(impl AllocGlobal + Abort), shared: &Shared, seat: &mut Seat, stage: &Stage)
     requires { seat.old.shared ≡ shared.now.name }
     ensures { seat.new.shared ≡ shared.now.name }
@@ -129,7 +129,7 @@ fn is_busy(rt: &(impl AllocGlobal + Abort), shared: &Shared, seat: &mut Seat, st
     assert!(rt; fault == Some(TryFault::Busy(front(0, 0, true))));
 }
 
-// Checks that a look, and then each of this many tries, finds the turn held, with nothing in the history.
+// Checks that a look, and then each of this many tries, finds that the turn is held and that the history is empty.
 fn tries(
     rt: &(impl AllocGlobal + Abort),
     shared: &Shared,
@@ -188,7 +188,7 @@ fn is_answered<R: AllocGlobal + Abort + Wait>(
     forget(answer);
 }
 
-// Opens a stream after some seat has seen the turn free, and then closes it and opens one 500 times.
+// Opens a stream after some seat has seen the turn free. Then closes the stream and opens one again, 500 times.
 fn opens_and_closes<R: AllocGlobal + Abort + Wait>(
     rt: &R,
     shared: &Shared,

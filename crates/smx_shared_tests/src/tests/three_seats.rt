@@ -16,7 +16,8 @@ use std::sync::Wait;
 use std::sync::atomic::{AtomicU64, Ordering};
 use std::thread::{Threads, join};
 
-// Whether the turn is held, and how many looks and tries have seen it held. The turn is given back after three.
+// Whether the turn is held, and how many looks and tries have seen it held. The turn is given back when the sum of
+// these looks and tries is three.
 #[derive(Drop)]
 struct Watched {
     held: AtomicU64,
@@ -76,7 +77,7 @@ fn tries_while_held(
     seat
 }
 
-// Returns the first two seats. Both have seen the turn held by a look, and the second also by a try.
+// Returns the first two seats. Both have seen by a look that the turn is held. The second has also seen it by a try.
 fn two_look_on<R: AllocGlobal + Abort + Threads + Sync>(
     rt: &R,
     shared: &Shared,

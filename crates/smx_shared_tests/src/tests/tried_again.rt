@@ -1,5 +1,5 @@
-//! Worked histories, calls of two seats, and a run. These tests also pass if any one allocation fails;
-//! tests/refused_growths runs them with each allocation failing in turn.
+//! Worked histories, calls of two seats, and a run. These tests also pass if any single allocation fails.
+//! tests/refused_growths runs them many times, and each time another allocation fails.
 
 ghost use Rattle.std.specs.Prelude.{◌≡◌, All};
 
@@ -99,7 +99,7 @@ fn shared_by_two(rt: &(impl AllocGlobal + Abort)) -> (Shared, Vec<Seat>)
     }
 }
 
-// Calls, and calls again if memory ran out. Before it calls again, the other seat sees no entry.
+// Performs a command by `call`. If memory runs out, checks that the other seat sees no entry, and calls again.
 fn called(
     rt: &(impl AllocGlobal + Abort + Print + Wait),
     shared: &Shared,
@@ -121,7 +121,8 @@ fn called(
     }
 }
 
-// Tries, and tries again if memory ran out. Before it tries again, the other seat sees only one entry.
+// Performs a command by `try_call`. If memory runs out, checks that the other seat sees only one entry, and tries
+// again.
 fn tried(
     rt: &(impl AllocGlobal + Abort + Print),
     shared: &Shared,

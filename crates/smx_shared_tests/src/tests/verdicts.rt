@@ -13,7 +13,8 @@ const LAST_TWO: Part = Once("0 close 1 = EBADF fd\n1 read 0 = EAGAIN empty\n");
 
 const END: Part = Once("config\nnext 1 1\nfd 0 0 ip 0\nfd 1 0 ip 1\nend\n");
 
-// Verdicts on four entries: all are legal; the view is another one; one entry is wrong, at each of the four places.
+// Six transcripts of four entries each. The first is legal. In the second only the view is wrong. In the others, the
+// first wrong entry is number 1, 2, 3 and 4, in this order.
 const FOUR: [(&[Part], Verdict); 6] = [
     (&[DRIVER, FIRST_TWO, LAST_TWO, END], Verdict::Legal),
     (
@@ -63,7 +64,8 @@ const FOUR: [(&[Part], Verdict); 6] = [
     ),
 ];
 
-// Verdicts on transcripts. The last two have 100,000 entries, of which only the last may be wrong.
+// Other transcripts. The last two have 100,000 entries. In the first of these two all entries are right, and in the
+// second only the last entry is wrong.
 const JUDGED: [(&[Part], Verdict); 5] = [
     (
         &[Once("transcript 1\nconfig\nnext 1 1\nend\n")],

@@ -1,8 +1,8 @@
-//! How a worked history is tested. It is typed in as a transcript, and its entries are legal. Its commands get the
-//! replies of its entries: from `step`, from a system, and twice from `step_twin`. At the end the transcript's view is
-//! shown, also by a copy and by a configuration that is consumed. A call that ran out of memory is repeated; after a
-//! step that ran out of memory, the view is as before. Large values are given to `forget`, because dropping one makes
-//! the proof longer.
+//! How a worked history is tested. It is typed in as a transcript, and must be judged legal. Its commands are given to
+//! `step`, to `step_twin` (which returns each reply twice) and to a system. They must get the replies of the
+//! transcript. At the end the configuration must show the view of the transcript. The same is required of a copy, and
+//! of a copy that is consumed. If a call runs out of memory, it is repeated; if the call was a step, the view must be
+//! as before. Large values are given to `forget`, because dropping one makes the proof longer.
 
 use super::made::{read, system_over, tells_of_want};
 use super::systems::plays;
@@ -129,7 +129,7 @@ fn copy_is_so(rt: &(impl AllocGlobal + Abort), config: &Config, want: &Transcrip
     forget(view);
 }
 
-// The call that gives the replies.
+// The call that performs the commands: `step`, or `step_twin`.
 #[derive(Clone, Copy)]
 enum Way {
     OneByOne,
@@ -167,7 +167,8 @@ fn verdict_on(rt: &(impl AllocGlobal + Abort + Print), want: &Transcript) -> Ver
     }
 }
 
-/// Checks that this is the verdict on the transcript of this text. If it is legal, checks it as a worked history.
+/// Checks that `want` is the verdict on the transcript of this text. If the transcript is legal, also tests it as a
+/// worked history.
 pub fn is_judged(rt: &(impl AllocGlobal + Abort + Print), text: &[u8], want: Verdict) {
     let all = read(rt, text);
     assert!(rt; verdict_on(rt, &all) == want, "of {} bytes", text.len());

@@ -1,4 +1,4 @@
-//! Tables of bindings: bound, listed in order, copied, looked up and unbound.
+//! Tables of bindings. Bindings are made, listed in order, copied, looked up and removed.
 
 use smx_addresses::Bindings;
 use smx_types::{Binding, StreamId};
@@ -20,7 +20,7 @@ fn is_listed(rt: &(impl AllocGlobal + Abort), table: &Bindings, wanted: &[Bindin
     assert!(rt; list.as_slice() == wanted);
 }
 
-// Streams of two drivers, bound in no order.
+// Streams of two drivers, each with the address to which it is bound. They are not in order.
 const BOUND: [((u8, u8), u32); 4] = [
     ((1, 63), 9),
     ((0, 3), 9),

@@ -18,7 +18,7 @@ fn mark_four(bits: &mut Bits)
     bits.set(5);
 }
 
-// Checks which number is the least marked one from a given number on.
+// Checks which number is the lowest marked one that is at least a given number.
 fn come_from(rt: &impl Abort, bits: &Bits)
     requires { bits.now.count ≡ 200 }
 {
@@ -39,7 +39,8 @@ fn comes(rt: &impl Abort, bits: &mut Bits, n: usize)
     assert!(rt; bits.first() != Some(n));
 }
 
-// Checks that all marked numbers come in order, and then a lower number that is marked last.
+// Checks that `first` returns all marked numbers in rising order. Then marks a lower number, and checks that `first`
+// returns it.
 fn all_come(rt: &impl Abort, bits: &mut Bits)
     requires { bits.old.count ≡ 200 }
 {

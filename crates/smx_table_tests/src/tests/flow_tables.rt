@@ -1,4 +1,4 @@
-//! Queues by place: messages that arrive at two places, and which place is full, also in a copy.
+//! Queues that are found by place: messages that arrive at two places, and which place is full. A copy is tested too.
 
 ghost use Rattle.std.specs.Prelude.{◌≡◌, Ok};
 ghost use Rattle.smx_types.specs.Drivers.{spec_check};

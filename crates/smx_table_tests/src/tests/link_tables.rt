@@ -1,4 +1,4 @@
-//! Tables of links: calls in a row, each with its answer; 1,024 links over 128 drivers, in a chain, in a fan and in a
+//! Tables of links: calls in a row, each with its answer; 1,024 links over 128 drivers, which form a chain, a fan or a
 //! ladder, and one more link, which is refused; and copies of these tables.
 
 ghost use Rattle.std.specs.Prelude.{◌≡◌, ◌<◌};
@@ -11,11 +11,11 @@ use std::process::Abort;
 /// The drivers that are linked.
 #[derive(Clone, Copy)]
 enum Shape {
-    /// Each driver above the next one, by as many streams as needed.
+    /// Each driver is above the next one, by several links.
     Chain,
-    /// One driver above all the others.
+    /// One driver is above all the others.
     Fan,
-    /// Each driver above the next one and the one after it.
+    /// Each driver is above the next two drivers.
     Ladder,
 }
 
@@ -69,8 +69,7 @@ fn fill(rt: &impl Abort, table: &mut LinkTable, shape: Shape)
     }
 }
 
-// Checks that no further link is possible. Removes one link, and checks that one more is then possible, with the
-// next id.
+// Checks that no further link is possible. Removes one link. Checks that a link can then be made, and gets the next id.
 fn is_full(rt: &impl Abort, table: &mut LinkTable)
     requires { table.old.drivers ≡ 128 }
 {

@@ -15,7 +15,7 @@ fn has_two(rt: &impl Abort, queues: &Queues) {
     assert!(rt; queues.nth(0, 1).expect(rt, "a message").serial == 8);
 }
 
-// Checks that the serials of these two messages are appended to a list with room for them.
+// Checks that the serials of messages 7 and 8 are appended to a list with room for them.
 fn adds_serials(rt: &(impl AllocGlobal + Abort), queues: &Queues) {
     let mut serials = Vec::with_capacity(rt.alloc(), 2).expect(rt, "memory");
     assert!(rt; queues.has_place(0));

@@ -19,8 +19,8 @@ enum Act {
     Move(usize, usize),
     /// All messages of the place are dropped.
     Clear(usize),
-    /// The place has this many bytes, is full or not, and has messages with these serials, in this order. So has the
-    /// place in a copy.
+    /// The place has this many bytes, is full or not, and has messages with these serials, in this order. In a copy,
+    /// the place has the same.
     Has(usize, usize, bool, &'static [u32]),
 }
 
@@ -175,7 +175,7 @@ fn do_act(rt: &(impl AllocGlobal + Abort + Print), queues: &mut Queues, act: Act
     }
 }
 
-// A message moves between two places. After each step: which places are full.
+// A message moves between two places. After each step, `Has` says which places are full.
 const ACROSS_A_MOVE: [Act; 16] = [
     Act::Add(8, 3, 0),
     Act::Add(1, 0, 1),

@@ -1,4 +1,4 @@
-//! Numbers in rings: in which ring each is, and a copy of them.
+//! Numbers in rings: the ring that each number is in, and a copy of the rings.
 
 ghost use Rattle.std.specs.Prelude.{◌≡◌};
 

@@ -1,4 +1,4 @@
-//! Tables of routes: routed, routed anew, listed in order, copied, looked up and removed.
+//! Tables of routes. Routes are made, replaced, listed in order, copied, looked up and removed.
 
 use smx_addresses::Routes;
 use smx_types::Route;
@@ -10,8 +10,8 @@ fn is_listed(rt: &(impl AllocGlobal + Abort), table: &Routes, wanted: &[Route]) 
     assert!(rt; list.as_slice() == wanted);
 }
 
-// Routes of two drivers, not in order. Address 5 of driver 0 is routed again, to another link, and its address 4 to the
-// same link.
+// Routes of two drivers, not in order. On driver 0, two addresses are routed a second time: address 5 to another link,
+// and address 4 to the same link as before.
 const ROUTED: [(u8, u32, u32); 6] = [
     (0, 5, 1),
     (1, 5, 3),

@@ -1,5 +1,5 @@
-//! A test of queues that also passes if any one allocation fails. tests/refused_growths runs it with each allocation
-//! failing in turn.
+//! A test of queues that also passes if any single allocation fails. tests/refused_growths runs it many times, and each
+//! time another allocation fails.
 
 use super::queues::marks_across_a_move;
 
