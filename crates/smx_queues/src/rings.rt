@@ -30,7 +30,7 @@ impl Model for Rings {
     ghost invariant = { λ r. AreRings r.count r.owners.items r.next.items r.previous.items };
 }
 
-// Puts p between h and f in one direction: in `nodes`, p then follows h, and f follows p.
+// Puts p between h and f in one direction. Afterwards p follows h in `nodes`, and f follows p.
 fn link(nodes: &mut Vec<usize>, p: usize, f: usize, h: usize)
     requires p { p < length nodes.old.items }
     requires h { h < length nodes.old.items }
@@ -40,7 +40,7 @@ fn link(nodes: &mut Vec<usize>, p: usize, f: usize, h: usize)
     nodes[h] = p;
 }
 
-// Takes p out from between a and b in one direction: in `nodes`, b then follows a, and p follows itself.
+// Takes p out from between a and b in one direction. Afterwards b follows a in `nodes`, and p follows itself.
 fn unlink(nodes: &mut Vec<usize>, a: usize, b: usize, p: usize)
     requires a { a < length nodes.old.items }
     requires p { p < length nodes.old.items }
