@@ -15,8 +15,8 @@ pub fn codes_tell_outcomes_apart()
     ensures { (one other : Outcome) → code one ≡ code other → one ≡ other }
 {}
 
-/// A text that fits is copied to the start of a buffer, and the rest of the buffer is unchanged. The text's length is
-/// written in every case.
+/// Examples of copies. A text that fits is copied to the start of a buffer, and the rest of the buffer is unchanged. A
+/// text that doesn't fit leaves the whole buffer unchanged. The text's length is written in both cases.
 pub fn copies_keep_the_rest()
     ensures at_the_head { Copies (codes "ab") (codes "wxyz") (codes "abyz") 2 (Ok tt) }
     ensures just_fits { Copies (codes "ab") (codes "wx") (codes "ab") 2 (Ok tt) }
@@ -27,8 +27,8 @@ pub fn copies_keep_the_rest()
     ensures length_told { Copies (codes "ab") (codes "w") (codes "w") 1 (Err NoRoom) → ⊥ }
 {}
 
-/// For each text there is only one answer to why no session can be opened with it. The answer is empty if one can be
-/// opened.
+/// Why does a text open no session? Apart from out-of-memory, each text has only one answer: the words of its first
+/// fault or of its drivers' fault, or no words if it does open a session.
 pub fn words_are_those_of_the_text()
     ensures { (text one other : List ℕ) → IsWhy text one → IsWhy text other → one ≡ other }
 {

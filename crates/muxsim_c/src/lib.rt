@@ -1,4 +1,5 @@
-//! The configuration for programs in C: each export makes one call of a handle and returns its code.
+//! The configuration for programs in C. Each export makes one call of a handle, or says why a text is rejected, and
+//! returns the code of the outcome.
 #![tactic(auto)]
 
 mod call_fault;

@@ -85,9 +85,9 @@ pub fn a_session_has_its_drivers()
     drivers_have_one_fault();
 }
 
-/// If a fault of a table, read as a programs text, or of its drivers is reported, the table is not too long, and
-/// nothing was written. For the same bytes only one fault can be reported: one of the text, or one of the drivers.
-/// Besides, memory can run out; this is never reported as a fault of the text.
+/// A table is read as a programs text. If a fault of this text or of its drivers is reported, the table is not too
+/// long, and nothing was written. For the same bytes only one fault can be reported: one of the text, or one of the
+/// drivers. Memory can also run out instead; this is never reported as a fault of the text.
 pub fn a_table_has_one_fault()
     ensures one { (explain : Bool) (read output : List ℕ) (ended flushed : Bool) (reads writes : ℕ)
         (one other : TextFault)
@@ -143,8 +143,9 @@ pub fn what_is_too_long()
         → IsTooLong o.held → ⊥ }
 {}
 
-/// If a table has ended, and each whole line that was read belongs to it, the input has ended. A line `drivers` after
-/// the first line of a table belongs to the table, and a line `drive` does not.
+/// A table ends before a line that doesn't belong to it, or at the end of the input. So if a table has ended, and each
+/// whole line that was read belongs to it (`IsUnfinished`), the input has ended. After the first line, a line `drivers`
+/// belongs to the table, and a line `drive` does not.
 pub fn where_a_table_is_over()
     ensures finished { (ended : Bool) (table rest : List ℕ) → IsTable ended table rest
         → IsUnfinished (table ++ rest) → (ended ≡ true) × IsOneLine rest }

@@ -97,8 +97,8 @@ fn read_table<F: Feed>(alloc: Global, feed: &mut F, inbox: &mut Inbox) -> Result
     Err(MainFault::TooLong)
 }
 
-// Returns the table when the input has ended. Appends `held`, the rest of the input, to the table if it begins with
-// `driver` and the table has a first line. The table's reader then reports this driver line as cut.
+// Returns the table when the input has ended. If the table has a first line, and `held`, the rest of the input, begins
+// with `driver`, appends `held` to the table. The reader of the table then reports this driver line as cut.
 fn with_cut_line(table: Vec<u8>, held: &mut Vec<u8>) -> Result<Vec<u8>, MainFault>
     ensures { TakesCutLine table.items held.old.items held.new.items result }
 {

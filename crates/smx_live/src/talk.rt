@@ -74,7 +74,8 @@ fn is_switch(line: &[u8]) -> bool
     line == "trace on".as_bytes() || line == "trace off".as_bytes()
 }
 
-/// Returns whether entries are traced after this line, if the configuration is the answer to it.
+/// Returns whether entries are traced after a line that is answered by the configuration. `tracing` says whether they
+/// are traced before it.
 pub fn switched(tracing: bool, line: &[u8]) -> bool
     ensures { result ≡ switched tracing line.now }
 {
