@@ -69,7 +69,8 @@ fn answer<R: Wait>(
     }
 }
 
-// Links a stream of eth below one of ip by a persistent link, then exits. Returns whether all four commands succeeded.
+// Opens a stream of ip and one of eth, links the second below the first by a persistent link, and exits. Returns
+// whether all four commands succeeded.
 fn links_for_good<R: Wait>(
     rt: &R,
     shared: &Shared,
@@ -97,7 +98,7 @@ fn links_for_good<R: Wait>(
         && matches!(end, Some(Reply::Done { .. }))
 }
 
-// Returns the seats before the last one, and the last one, if there is one.
+// Returns all seats except the last, and then the last. Returns `None` if there are no seats.
 fn last_of(shared: &Shared, mut seats: Vec<Seat>) -> Option<(Vec<Seat>, Seat)>
     requires { All (λ s. s.shared ≡ shared.now.name) seats.items }
     ensures { IfSome result (λ r. All (λ s. s.shared ≡ shared.now.name) r.0.items × (r.1.shared ≡ shared.now.name)) }
@@ -109,7 +110,7 @@ fn last_of(shared: &Shared, mut seats: Vec<Seat>) -> Option<(Vec<Seat>, Seat)>
 }
 
 // Runs `links_for_good` for each seat, on a thread of its own. The threads take their turns in any order. Returns
-// whether all of them did everything.
+// whether all commands of all threads succeeded.
 fn all_link<R: Threads + Wait + Sync>(
     rt: &R,
     shared: &Shared,
@@ -142,8 +143,8 @@ fn start(alloc: Global, system: System, processes: usize) -> Result<(Shared, Vec
     Shared::start(alloc, system, processes)
 }
 
-// Shares the system among three processes on three threads. Returns whether they did everything, and the system,
-// which a fourth seat gets back.
+// Shares the system among three processes on three threads. Returns whether all their commands succeeded, and the
+// system, which a fourth seat gets back.
 fn shared_by_three<R: Threads + Wait + Sync>(
     rt: &R,
     alloc: Global,
@@ -165,7 +166,7 @@ fn verdict_of(alloc: Global, drivers: &[DriverSpec], system: &System) -> Result<
     Ok(check_history(alloc, drivers, system.entries(), &view)?)
 }
 
-// Prints the result of three processes on one line.
+// Lets three processes share a system, and prints one line with the result.
 fn tell_of_three<R: Threads + Wait + Sync + Print>(rt: &R, alloc: Global) -> Result<(), Failure> {
     let (ip, eth) = (Name::new("ip").unwrap(), Name::new("eth").unwrap());
     let drivers = [driver(ip, DriverKind::Mux), driver(eth, DriverKind::Leaf)];

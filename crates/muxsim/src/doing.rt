@@ -164,7 +164,7 @@ fn refused<R: Eprint>(rt: &R, kind: TextKind, refusal: Refusal) -> ExitCode
     code
 }
 
-// A fault that is explained below its line: one of the text, one of its drivers, or none.
+// The fault to explain below its line: a fault of the text, a fault of its drivers, or none.
 #[derive(Clone, Copy)]
 enum ShownFault {
     Text(TextFault),

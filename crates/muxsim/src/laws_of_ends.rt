@@ -23,7 +23,7 @@ ghost use Rattle.smx_command_line.specs.declared.jobs.Job.TheVariants.{Live};
 
 /// For an input and an output in memory: the status 0 means that the job was done, and that its whole output was
 /// written and flushed. For a check, with or without `--explain`, the status 0 also means that the transcript is legal,
-/// and the status 4 means that the verdict is another one. For a live session, the status 0 also means that the session
+/// and the status 4 means that the verdict is not `legal`. For a live session, the status 0 also means that the session
 /// has ended.
 pub fn a_status_tells_what_was_done()
     ensures run { (fronts : Bool) (workers : ℕ) (d : Devices) (code : ExitCode) (input output : List ℕ)
@@ -52,9 +52,9 @@ pub fn a_status_tells_what_was_done()
         → (d.flushed ≡ true) × (v : Verdict) × (v ≢ Legal) × GivesFor (judging explain) input v output }
 {}
 
-/// The status is 5 exactly if the reader or the writer failed. The statuses 1 and 3 mean that nothing was written,
-/// except by a live session. No job has the status 2, and no run, replay, trace, drawing, page or live session has the
-/// status 4.
+/// The status is 5 exactly if the reader or the writer failed. If the status is 1 or 3, and the job is not a live
+/// session, nothing was written. No job has the status 2, and no run, replay, trace, drawing, page or live session has
+/// the status 4.
 pub fn a_status_tells_what_failed()
     ensures failed { (job : AnyJob) (d : Devices) (code : ExitCode) → EndsJob job d code
         → (exit_status code ≡ 5) ↔ ((d.read_failures ≡ 1) ⊎ (d.write_failures ≡ 1)) }

@@ -48,8 +48,9 @@ fn words(rt: &HostRuntime) -> io::Result<Vec<String>> {
     Ok(env::args(rt)?.collect(rt.alloc())?)
 }
 
-// Prints what clap says instead of a job: errors to standard error, help and the version to standard output. The status
-// is 1 for out-of-memory, 2 for any other error, 0 for help and the version, and 5 if these could not be printed.
+// Prints the text that clap returned instead of a job: an error on standard error, help or the version on standard
+// output. The status is 1 for out-of-memory, 2 for any other error, 0 for help and the version, and 5 if these could
+// not be printed.
 fn no_job<R: Print + Eprint>(rt: &R, error: &clap::Error) -> ExitCode
     ensures no_memory { kind_of error.now ≡ ErrorKind.OutOfMemory → exit_status result ≡ 1 }
     ensures mistake { kind_of error.now ≢ ErrorKind.OutOfMemory

@@ -27,10 +27,10 @@ pub enum Job {
         /// Whether a fault of the text or of its drivers is explained.
         explain: bool,
     },
-    /// Performs the commands of the input, a transcript, and writes the trace of the transcript that results: the
-    /// transcript, with what each entry changes, and why the first message of each queue can't move.
+    /// Performs the commands of the input, a transcript, and writes a trace. The trace has the transcript that results,
+    /// what each entry changes, and why the first message of each queue can't move.
     Trace {
-        /// Whether each queue's first message that can't move is also listed below each entry.
+        /// Whether the trace says below each entry, too, why the first message of each queue can't move.
         waits: bool,
         /// Whether a fault of the text or of its drivers is explained.
         explain: bool,
