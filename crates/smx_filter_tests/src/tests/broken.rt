@@ -1,5 +1,5 @@
-//! Runs, checks, replays, traces and pages with a reader or a writer that stops once, at each read and at each write,
-//! and would then go on.
+//! Runs, checks, replays, traces and pages with a reader or a writer that stops in one call. Each read has its turn,
+//! and so has each write, but only a few writes of a page. In later calls the reader or writer works again.
 
 use super::devices::{ERRORS, Stop, TWO_ERRORS};
 use super::tasks::{Task, ends_so, outcome};
@@ -13,7 +13,7 @@ use std::process::Abort;
 use std::sync::Wait;
 use std::thread::Threads;
 
-// A task with its input, its expected output and its expected status.
+// Tasks, each with its input, its expected output and its expected status.
 const DONE: [(Task, &[u8], &[u8], u8); 6] = [
     (Task::Run, OPENS_AND_CLOSES, OPENED_AND_CLOSED, 0),
     (Task::Check, TWO_PROCESSES, b"legal 2\n", 0),
@@ -95,7 +95,7 @@ fn ends_byte_by_byte(rt: HostRuntime) {
     }
 }
 
-// Checks that exactly this beginning of the output is left if the writer stops after it.
+// Makes the writer stop after this beginning of the output. Checks that exactly this beginning was written.
 fn leaves<R: AllocGlobal + Abort + Threads + Wait + Sync>(
     rt: &R,
     task: Task,
@@ -110,7 +110,7 @@ fn leaves<R: AllocGlobal + Abort + Threads + Wait + Sync>(
     forget(ran);
 }
 
-// Makes each write in turn stop, and also the flush. Checks that exactly the earlier bytes of the output are left.
+// Makes each write in turn stop, and also the flush. Checks that exactly the earlier bytes of the output were written.
 fn writes_no_more<R: AllocGlobal + Abort + Threads + Wait + Sync>(
     rt: &R,
     task: Task,

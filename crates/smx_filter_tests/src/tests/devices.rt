@@ -1,6 +1,6 @@
-//! A reader and a writer that move one byte in each call, stop once at a given call, and would then go on; and a writer
-//! that takes everything at once. All count their calls. `Source` makes a feed of a reader, and `Target` a sink of a
-//! writer.
+//! A reader and a writer that move one byte in each call. They stop in one given call, and work again in later calls.
+//! Another writer takes everything at once. All three count their calls. `Source` makes a feed of a reader, and
+//! `Target` a sink of a writer.
 
 ghost use Rattle.std.specs.Prelude.{◌≡◌, Some, false};
 
@@ -81,7 +81,8 @@ pub struct OneByteReader<'a> {
 }
 
 /// Returns a feed of these bytes, one byte in each read. The read after `reads` reads fails with this kind of error,
-/// and later ones go on. The read that shows the end counts too, so `bytes.len() + 1` reads are enough.
+/// and later reads work again. The read that shows the end counts too, so reading all bytes takes `bytes.len() + 1`
+/// reads.
 pub fn one_byte_feed(bytes: &[u8], reads: usize, kind: ErrorKind) -> Source<OneByteReader<'_>>
     ensures before_the_end { result.ended ≡ false }
     ensures fine { result.failures ≡ 0 }
@@ -121,8 +122,8 @@ pub struct OneByteWriter {
     pub asked: usize,
 }
 
-/// Returns a sink that takes one byte in each write. The write or flush after `calls` writes stops, and later ones go
-/// on. For `n` bytes and their flush, `n + 1` calls are enough.
+/// Returns a sink that takes one byte in each write. The write or flush after `calls` writes stops, and later calls
+/// work again. Writing and flushing `n` bytes takes `n + 1` calls.
 pub fn one_byte_sink(alloc: Global, calls: usize, stop: Stop) -> Target<OneByteWriter>
     ensures fine { result.failures ≡ 0 }
 {

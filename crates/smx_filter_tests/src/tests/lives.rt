@@ -119,7 +119,7 @@ fn leaves_what_was_answered_before_a_failed_read(rt: HostRuntime) {
     }
 }
 
-// Makes the writer stop after the bytes of `beginning`. Checks that exactly this beginning of the output is left.
+// Makes the writer stop after the bytes of `beginning`. Checks that exactly these bytes were written.
 fn leaves<R: AllocGlobal + Abort + Threads + Wait + Sync>(rt: &R, beginning: &[u8], stop: Stop) {
     let (reads, kind) = (usize::MAX, ErrorKind::Other);
     let ran = outcome(rt, Task::Live, LINES, reads, kind, beginning.len(), stop);

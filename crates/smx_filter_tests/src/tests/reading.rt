@@ -29,7 +29,8 @@ fn reads_to_the_end(rt: HostRuntime) {
 
 const ABC: &[u8] = b"abc";
 
-// Checks that the reading fails if one read fails, that this read is not retried, and that these bytes are not read.
+// Checks that the reading fails if one read fails, that this read is not retried, and that the bytes of `left` are not
+// read.
 fn stops_before(rt: &(impl AllocGlobal + Abort), reads: usize, left: &[u8], kind: ErrorKind) {
     let mut feed = one_byte_feed(ABC, reads, kind);
     let fault = read_all(rt.alloc(), &mut feed).err();

@@ -15,7 +15,8 @@ pub const WRONG_REPLY: &[u8] =
 pub const OTHER_CONFIGURATION: &[u8] =
     b"transcript 1\ndriver ip mux 4 8 3 16\n0 clone ip = fd 0 0\n1 clone ip = fd 0 1\nconfig\nnext 1 1\nfd 0 0 ip 0\nfd 1 0 ip 2\nend\n";
 
-/// Messages on both sides of a link, until its queues are full and one has been drained.
+/// Messages go down a link until the queues above and below it are full. The device then takes messages from the lower
+/// queue.
 pub const MARKS_ACROSS_THE_JOIN: &[u8] =
     b"transcript 1\ndriver ip mux 4 8 3 16\ndriver eth leaf 2 8 3 16\n0 clone ip = fd 0 0\n0 clone eth = fd 1 0\n0 link 0 1 = id 1\n0 route 0 5 1 = done\n0 write 0 5 00000001 = took 1\n0 write 0 5 00000002 = took 2\n0 write 0 5 00000003 = took 3\n0 write 0 5 00000004 = took 4\n0 write 0 5 00000005 = EAGAIN full\n0 transmit eth 0 = got 1 5 00000001\n0 write 0 5 00000005 = EAGAIN full\n0 transmit eth 0 = got 2 5 00000002\n0 write 0 5 00000005 = took 5\nconfig\nnext 2 6\nfd 0 0 ip 0\nfd 0 1 eth 0\nlink 1 ip 0 eth 0 link\nroute ip 5 1\nmsg ip 0 w 5 5 00000005\nmsg eth 0 w 3 5 00000003\nmsg eth 0 w 4 5 00000004\nfull eth 0 w\nend\n";
 

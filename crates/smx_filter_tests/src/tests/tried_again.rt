@@ -30,7 +30,8 @@ fn is_want_of_memory(fault: &MainFault) -> bool {
     )
 }
 
-// Returns whether a check succeeds. Checks that it then wrote this line, or else ran out of memory and wrote nothing.
+// Makes a check, and returns whether it succeeds. If it does, it must write this line. Otherwise it must run out of
+// memory and write nothing.
 fn is_answered(rt: &(impl AllocGlobal + Abort), input: &[u8], wanted: &[u8]) -> bool {
     let mut buffer = [0u8; 16];
     let mut sink = Target::new(buffer.as_mut_slice());
@@ -48,7 +49,7 @@ fn is_answered(rt: &(impl AllocGlobal + Abort), input: &[u8], wanted: &[u8]) -> 
     }
 }
 
-// Checks that a check that ran out of memory succeeds when it is tried again.
+// Makes a check. If it runs out of memory, tries it again, and it must then succeed.
 fn judges(rt: &(impl AllocGlobal + Abort + Print), input: &[u8], wanted: &[u8]) {
     if !is_answered(rt, input, wanted) {
         let _ = println!(rt; "a check wanted memory");
@@ -69,8 +70,8 @@ fn checks(rt: HostRuntime) {
     }
 }
 
-// Returns whether a replay succeeds. Checks that it then wrote the whole transcript, or else ran out of memory and
-// wrote nothing.
+// Makes a replay, and returns whether it succeeds. If it does, it must write the whole transcript. Otherwise it must
+// run out of memory and write nothing.
 fn is_replay_answered(rt: &(impl AllocGlobal + Abort)) -> bool {
     let mut buffer = [0u8; 512];
     let mut sink = Target::new(buffer.as_mut_slice());
@@ -96,8 +97,8 @@ fn a_replay(rt: HostRuntime) {
     }
 }
 
-// Returns whether a trace succeeds. Checks that it then wrote the whole text, or else ran out of memory and wrote
-// nothing.
+// Makes a trace, and returns whether this succeeds. If it does, the whole text must be written. Otherwise memory must
+// run out, and nothing be written.
 fn is_trace_answered(rt: &(impl AllocGlobal + Abort)) -> bool {
     let mut buffer = [0u8; 1024];
     let mut sink = Target::new(buffer.as_mut_slice());
@@ -144,8 +145,8 @@ fn has(text: &[u8], part: &[u8]) -> bool {
     false
 }
 
-// Returns whether a page is made. Checks that it then has its steps, or else that memory ran out and nothing was
-// written.
+// Makes a page, and returns whether this succeeds. If it does, the page must have its steps. Otherwise memory must run
+// out, and nothing be written.
 fn is_page_answered(rt: &(impl AllocGlobal + Abort)) -> bool {
     let mut buffer = [0u8; 32_768];
     let mut sink = Target::new(buffer.as_mut_slice());
@@ -178,8 +179,8 @@ fn a_page(rt: HostRuntime) {
 const ONE_OF_TWO: &[u8] =
     b"programs 1\ndriver ip mux 4 8 3 16\nprocess 0\nclone ip\nclone ip\nexit\nprocess 1\nend\n";
 
-// Returns whether a run of `ONE_OF_TWO` succeeds. Checks that it then wrote fronts that begin with these bytes, or else
-// ran out of memory and wrote nothing.
+// Runs `ONE_OF_TWO`, and returns whether this succeeds. If it does, fronts with the right beginning must be written.
+// Otherwise memory must run out, and nothing be written.
 fn are_fronts_answered<R: AllocGlobal + Abort + Threads + Wait + Sync>(
     rt: &R,
     workers: usize,
@@ -202,7 +203,7 @@ fn are_fronts_answered<R: AllocGlobal + Abort + Threads + Wait + Sync>(
     }
 }
 
-// Checks that a run that ran out of memory succeeds when it is tried again.
+// Makes a run. If it runs out of memory, tries it again, and it must then succeed.
 fn writes_fronts<R: AllocGlobal + Abort + Print + Threads + Wait + Sync>(rt: &R, workers: usize)
     requires { (1 ≤ workers) × (workers ≤ 64) }
 {

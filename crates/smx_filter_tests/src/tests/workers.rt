@@ -1,4 +1,4 @@
-//! Runs whose gate has each process wait until all requested workers run, and runs whose gate counts its calls.
+//! Runs whose gate makes each process wait until all requested workers run, and runs whose gate counts its calls.
 
 ghost use Rattle.std.specs.Prelude.{◌≤◌};
 
@@ -16,11 +16,12 @@ use std::sync::atomic::{AtomicU64, Ordering};
 use std::thread;
 use std::thread::Threads;
 
-// The largest number of turns that a worker waits.
+// How often a waiting worker looks at the count before it gives up.
 const TURNS: u32 = 100_000_000;
 
-// Each process waits before its first command until the wanted number of processes have begun. After its last command
-// it waits until the wanted number of processes have performed their last command.
+// A gate at which processes wait for each other. Each process waits before its first command until the wanted number of
+// processes have begun. After its last command it waits until the wanted number of processes have performed their last
+// command.
 #[derive(Drop)]
 struct Meet {
     wanted: u64,
@@ -43,7 +44,7 @@ impl Meet {
         }
     }
 
-    // Returns whether the count is complete before the turns are used up.
+    // Waits until the count is complete. Returns `false` if it is not complete after `TURNS` looks.
     fn are_all(&self, count: &AtomicU64) -> bool {
         for _ in 0..TURNS {
             if count.load(Ordering::SeqCst) == self.wanted {
