@@ -28,7 +28,8 @@ pub fn a_transcript_has_one_replay()
     histories_are_determined();
 }
 
-/// A transcript with valid drivers whose verdict is legal is its own replay. The verdict on every replay is legal.
+/// If a transcript has valid drivers and its verdict is legal, the transcript is its own replay. The verdict on every
+/// replay is legal.
 pub fn replays_are_the_legal_transcripts()
     ensures own { (t : Transcript) → IsDriverList t.drivers → IsVerdict t.drivers t.entries t.view Legal
         → IsReplayOf t t }
@@ -46,20 +47,20 @@ pub fn replays_are_lawful()
 }
 
 /// If a transcript is within the limits of its version, and each line of its replay can be spelled, the replay is
-/// within the limits of this version too. So a replay in version 1 reports no hangup.
+/// within the limits of this version too. So no replay in version 1 reports a hangup, which version 1 can't express.
 pub fn replays_can_be_expressed()
     ensures { (t r : Transcript) → IsAllowed t.version t → IsReplayOf t r → IsSpellable r → IsAllowed r.version r }
 {
     without_a_hangup_none_is_reported();
 }
 
-/// If a transcript is within the limits of its version, it still is if only its first entries are kept.
+/// If a transcript is within the limits of its version, the transcript with only its first entries is within them too.
 pub fn first_entries_are_allowed()
     ensures { (count : ℕ) (t : Transcript) → IsAllowed t.version t → IsAllowed t.version (first_entries count t) }
 {}
 
-/// The replay of a transcript's first `count` entries has the first `count` entries of the whole replay, and the view
-/// after these.
+/// If only the first `count` entries of a transcript are replayed, the result has the first `count` entries of the
+/// whole replay, and the view after these entries.
 pub fn the_first_entries_are_those_of_the_replay()
     ensures entries { (count : ℕ) (t r s : Transcript) → IsReplayOf t r → IsReplayOf (first_entries count t) s
         → s.entries ≡ take count r.entries }
@@ -70,9 +71,9 @@ pub fn the_first_entries_are_those_of_the_replay()
     prefixes_are_legal();
 }
 
-/// An example: the second entry of the transcript `claimed` is illegal, and its replay, `put_right`, corrects it from
-/// there on. Three transcripts are not its replay: `claimed` itself, `put_right` without its last entry, and
-/// `put_right` with two entries exchanged.
+/// An example. The second and the third reply of the transcript `claimed` are wrong, and so is its view. Its replay,
+/// `put_right`, has the right ones. Three transcripts are not the replay of `claimed`: `claimed` itself, `put_right`
+/// without its last entry, and `put_right` with two entries exchanged.
 pub fn the_second_is_put_right()
     ensures right { IsReplayOf claimed put_right }
     ensures not_itself { IsReplayOf claimed claimed → ⊥ }

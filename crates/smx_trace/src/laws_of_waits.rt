@@ -16,8 +16,8 @@ ghost use Rattle.smx_model.specs.Waits.{places_in, reason_at, waits};
 
 use smx_model::laws_of_messages::settling_ends;
 
-/// The list of places that is made from the queued messages (the flow) has each place only once. It has exactly the
-/// places with a first message.
+/// The function `places_in` makes a list of places from the queued messages (the flow). The list has each place only
+/// once, and exactly the places that have a first message.
 pub fn each_queue_has_one_first_message()
     ensures once { (flow : List QueuedMessage) → AllLater (λ p q. same_place p q ≡ false) (places_in flow) }
     ensures listed { (flow : List QueuedMessage) (p : Place)
@@ -30,7 +30,7 @@ pub fn what_stays_has_a_reason()
         → first_message c.flow p ≡ Some m → is_some (reason_at drivers c p m.addr) ≡ not (is_movable drivers c p) }
 {}
 
-/// After any commands, each queue with messages has a wait: why its first message can't move.
+/// After any commands, each queue with messages has one wait, which says why its first message can't move.
 pub fn each_queue_waits()
     ensures { (drivers : List DriverSpec) (history : List Entry)
         → map (λ w. w.place) (waits drivers (after drivers history)) ≡ places_in (after drivers history).flow }

@@ -1,4 +1,5 @@
-//! The replay and the trace of a transcript: both perform its commands in order, and ignore the replies that it has.
+//! Makes the replay and the trace of a transcript: performs the commands of the transcript in order, and ignores its
+//! replies.
 #![tactic(auto)]
 
 mod changes;

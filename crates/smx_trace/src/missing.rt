@@ -1,4 +1,4 @@
-//! The lines of one view that another doesn't have.
+//! The lines of one view that another view doesn't have.
 
 ghost use Rattle.std.specs.Prelude.{◌≡◌, ◌∷◌, ◌++◌, [], IfOk, MatchOption, OnOk, Some, slice_get};
 ghost use Rattle.std.specs.List.{flat_map};
@@ -13,14 +13,14 @@ use smx_text::Same;
 use smx_types::{DriverSpec, NoMemory};
 use smx_words::Spell;
 
-// Skips lines until one doesn't come before `line`, and returns the rest.
+// Skips the lines at the beginning that come before `line`, and returns the rest.
 fn lines_from<'a, T: Ranked>(drivers: &[DriverSpec], lines: &'a [T], line: &T) -> &'a [T]
     ensures passed { ComesTo (T.rank drivers.now) lines.now (line.now ∷ []) result.now }
     ensures starts { StartsAt (T.rank drivers.now) line.now result.now }
 {
     let mut rest = lines;
     'lines: while let Some((first, more)) = rest.split_first() {
-        // Tests equality first, so a line that stays needs no look-up of a driver's number.
+        // Tests equality first, so a line that both views have needs no look-up of a driver's number.
         if first.is_same(line) || !pair_before(first.rank_of(drivers), line.rank_of(drivers)) {
             break 'lines;
         }
@@ -51,7 +51,7 @@ pub fn write_marked<T: Spell>(out: &mut Vec<u8>, mark: &[u8], line: &T) -> Resul
 }
 
 // Appends a mark and then `line`, unless `others` has this line. `others` must be in rising order. Returns the part of
-// `others` in which later lines can be. Fails only if out of memory.
+// `others` that can have the lines after `line`. Fails only if out of memory.
 fn write_if_missing<'a, T: Ranked>(
     out: &mut Vec<u8>,
     drivers: &[DriverSpec],

@@ -14,8 +14,9 @@ use smx_text::Same;
 use smx_types::{MessageLine, NoMemory};
 use std::alloc::Global;
 
-// Returns a map from each serial to the position of its line in `lines`. If several lines have one serial, it is the
-// position of the first, since the lines are inserted from the last to the first.
+// Returns a map from each serial to the position of its line in `lines`. If several lines have the same serial, the map
+// has the position of the first of them: the lines are inserted from the last to the first, and a later insertion
+// replaces an earlier one.
 fn index_of(alloc: Global, lines: &[MessageLine]) -> Result<IndexMap<u32, usize>, NoMemory>
     ensures { IfOk result (λ index. FindsBySerial (get nat_eq index) lines.now lines.now) }
 {
@@ -88,7 +89,7 @@ fn write_moved(out: &mut Vec<u8>, was: &MessageLine, now: &MessageLine) -> Resul
     put(out, b"\n")
 }
 
-// If the message of `line` moved or is new, appends its line. Fails only if out of memory.
+// If the message of `line` moved or is new, appends the line of this change. Fails only if out of memory.
 fn write_arrival(
     out: &mut Vec<u8>,
     before: &[MessageLine],

@@ -11,8 +11,8 @@ use smx_types::{
 };
 use smx_words::Spell;
 
-/// A kind of line. Two numbers of each line decide the order: each view lists the lines of this kind in rising order of
-/// these numbers.
+/// A kind of line. Each line of this kind has two numbers. A view lists the lines in rising order of the first number.
+/// It lists lines with the same first number in rising order of the second.
 pub trait Ranked: Same + Spell {
     ghost use Rattle.std.specs.Prelude.{◌≡◌, ℕ, List};
     ghost use Rattle.smx_types.specs.declared.driver.DriverSpec.{DriverSpec as AnyDriver};

@@ -88,8 +88,9 @@ fn put_reason(out: &mut Vec<u8>, config: &Config, place: Place, addr: u32) -> Re
     }
 }
 
-/// If the place has messages, appends its `waits` line, indented by two spaces. The configuration must be settled: no
-/// first message can move. So the first of these messages can't move. Fails only if out of memory.
+/// If the place has messages, appends its `waits` line, indented by two spaces. The configuration must be settled: in
+/// no queue can the first message move. So there is a reason why the first message of this place stays. Fails only if
+/// out of memory.
 pub fn write_wait(out: &mut Vec<u8>, config: &Config, place: Place) -> Result<(), NoMemory>
     requires { IsSettled config.now.drivers config.now.configuration }
     ensures { OnOk result (out.new.items ≡ out.old.items

@@ -20,9 +20,10 @@ use std::alloc::Global;
 
 /// Performs the commands of a transcript as `replay` does. Returns the text of the transcript that results, with more
 /// lines, which are indented by two spaces. Below each entry are the lines of what it changed. If `each` is set, the
-/// `waits` lines of all queues follow these. In the configuration, the `waits` line of a queue comes after the lines of
-/// its messages. Reuses the memory of `room`, and discards its bytes. Keeps two views at a time. The time for an entry
-/// grows with the size of the views before and after it. Fails if the drivers are not valid, or if it is out of memory.
+/// `waits` lines of all queues come after these lines. In the configuration, the `waits` line of a queue comes after
+/// the lines of its messages. Reuses the memory of `room`, and discards its bytes. Keeps two views at a time. The time
+/// for an entry grows with the size of the views before and after it. Fails if the drivers are not valid, or if it is
+/// out of memory.
 pub fn trace(
     alloc: Global,
     transcript: Transcript,
@@ -46,8 +47,8 @@ pub fn trace(
     Ok(text)
 }
 
-// Performs the commands of all entries. Appends the line of each entry, with its new reply, and then the lines below
-// it. Returns the view after all commands. Fails only if out of memory.
+// Performs the commands of all entries. Appends the line of each entry, with its new reply, and below it the lines that
+// a trace has for this entry. Returns the view after all commands. Fails only if out of memory.
 fn trace_all(
     alloc: Global,
     config: &mut Config,
@@ -68,9 +69,9 @@ fn trace_all(
 }
 
 /// Performs the command of an entry. Appends the line of the entry, with its new reply, and below it what the command
-/// changed. `before` must be the view of the configuration before the command. If `each` is set, the `waits` lines of
-/// all queues follow. Returns the view after the command. Fails only if out of memory; the command may then have been
-/// performed, and `text` may contain some of the lines.
+/// changed. If `each` is set, appends the `waits` lines of all queues below that. `before` must be the view of the
+/// configuration before the command. Returns the view after the command. Fails only if out of memory; the command may
+/// then have been performed, and `text` may contain some of the lines.
 pub fn trace_entry(
     alloc: Global,
     config: &mut Config,
