@@ -11,8 +11,8 @@ use crate::queues::{QueueRow, queue_rows};
 use smx_types::{ConfigView, DriverSpec, NoMemory};
 use std::alloc::Global;
 
-// The start of the text. The graph is `strict`, so Graphviz merges edges that are drawn twice. A node without a label
-// of its own is a stream.
+// The start of the text. The graph is `strict`, so Graphviz merges edges that are drawn twice. The default label of a
+// node is that of a stream; all other nodes have labels of their own.
 const HEAD: &[u8] = b"strict digraph muxsim {
   graph [rankdir=TB nodesep=0.2 fontname=\"sans-serif\"];
   node [shape=record fontname=\"sans-serif\" fontsize=10 label=\"{\\N|{<write>write|<read>read}}\"];

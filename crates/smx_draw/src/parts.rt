@@ -19,7 +19,7 @@ use smx_types::{
 pub enum Look {
     /// The class words (attribute `class`) of the part's row in an SVG.
     Class,
-    /// The text of this row.
+    /// The text that this row shows.
     Label,
     /// The line of the part for Graphviz.
     Line,
@@ -282,7 +282,7 @@ impl Part for QueueRow {
 }
 
 impl QueueRow {
-    // Appends a template to `out`. The values for its holes are the queue of this row and the three numbers.
+    // Appends a template to `out`. Its holes get the words of the queue of this row, and the three numbers.
     fn put_with(
         &self,
         template: &[u8],

@@ -7,8 +7,8 @@ ghost use Rattle.smx_draw.specs.Pieces.{filled, piece_text, shown_length};
 use itoa::Buffer;
 use smx_types::{DriverKind, LinkKind, Name, NoMemory, Process, Side};
 
-/// A value for a hole of a template. Names consist of lower-case letters and digits, so nothing that is written needs
-/// escaping.
+/// A value for a hole of a template (see `put`). Names consist of lower-case letters and digits, so nothing that is
+/// written needs escaping.
 #[derive(Clone, Copy)]
 pub enum Piece<'a> {
     /// A number, in decimal.
@@ -91,7 +91,7 @@ fn put_number(out: &mut Vec<u8>, number: u32) -> Result<(), NoMemory>
     put_text(out, Buffer::new().format(number).as_bytes())
 }
 
-/// Returns the number of bytes, at most `u32::MAX`.
+/// Returns the number of bytes, or `u32::MAX` if there are more.
 pub fn shown_length(bytes: &[u8]) -> u32
     ensures { result ≡ shown_length bytes.now }
 {

@@ -8,7 +8,7 @@ use crate::pieces::shown_length;
 use smx_types::{DriverSpec, MessageLine, Name, NoMemory, Side};
 use std::alloc::Global;
 
-/// How many messages of a queue a picture shows.
+/// How many messages of a queue a picture shows at most.
 pub const SHOWN: u32 = 8;
 
 /// A row of a queue.
@@ -27,7 +27,7 @@ pub enum QueueItem {
     Message(u32, u32, u32),
     /// The number of messages after those that are shown.
     More(u32),
-    /// The bytes of all messages, and the high and the low water mark of the driver.
+    /// The number of bytes of all messages, and the high and the low water mark of the driver.
     Bytes(u32, u32, u32),
 }
 
@@ -60,8 +60,8 @@ pub fn queue_rows(
     Ok(rows)
 }
 
-// Appends the row of a message, if it is one of the first eight of its queue: `before` is the number of those before
-// it.
+// Appends the row of a message, if it is one of the first eight of its queue. `before` is the number of messages before
+// it in this queue.
 fn put_message(rows: &mut Vec<QueueRow>, message: &MessageLine, before: u32) -> Result<(), NoMemory>
     ensures { OnOk result (rows.new.items ≡ rows.old.items ++ message_rows before message.now) }
 {
@@ -73,8 +73,8 @@ fn put_message(rows: &mut Vec<QueueRow>, message: &MessageLine, before: u32) -> 
     Ok(())
 }
 
-// Appends the rows of a queue that come after those of its messages: the number of the messages without a row, if there
-// are any, and the bytes of all.
+// Appends the rows of a queue that come after those of its messages: one for the number of messages without a row, if
+// there are any, and one for the bytes of all messages.
 fn put_end(
     rows: &mut Vec<QueueRow>,
     drivers: &[DriverSpec],
@@ -123,7 +123,7 @@ fn is_same(one: Side, other: Side) -> bool
     one == other
 }
 
-// Returns the water marks of the driver with this name, or 0 and 0 if there is no such driver.
+// Returns the high and the low water mark of the driver with this name, or 0 and 0 if there is no such driver.
 fn marks_of(drivers: &[DriverSpec], name: &Name) -> (u32, u32)
     ensures high { result.0 ≡ option_map_or (λ d. d.high) (driver_named drivers.now name.now) 0 }
     ensures low { result.1 ≡ option_map_or (λ d. d.low) (driver_named drivers.now name.now) 0 }

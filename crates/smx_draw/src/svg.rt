@@ -25,8 +25,8 @@ use crate::svg::under::streams_of;
 use smx_types::{ConfigView, DriverSpec, NoMemory};
 use std::alloc::Global;
 
-/// One element that is drawn under the rows: the frame of a driver, a link, the column of a stream, or the gauge of a
-/// queue (a bar for its bytes).
+/// One element that is drawn before the rows, so that they are on top of it: the frame of a driver, a link, the column
+/// of a stream, or the gauge of a queue (a bar for its bytes).
 pub trait Drawn {
     ghost use Rattle.smx_draw.specs.declared.svg.area.Area.{Area};
 
@@ -36,7 +36,7 @@ pub trait Drawn {
     /// Returns the place of the element.
     fn place(&self, plan: &mut Plan) -> Area;
 
-    /// Appends the text of the element, at this place, to `out`. If memory runs out, `out` may end with only the
+    /// Appends to `out` the text that draws the element at this place. If memory runs out, `out` may end with only the
     /// beginning of this text.
     fn put_at(&self, at: Area, out: &mut Vec<u8>) -> Result<(), NoMemory>
         ensures { OnOk result (out.new.items ≡ out.old.items ++ element self.now at) };
@@ -83,8 +83,8 @@ fn plan_of(
     Ok(plan)
 }
 
-// Returns the seats of all rows (a seat says where a row belongs). Adds a seat for each driver and each controlling
-// stream that a row names, so that each gets a block.
+// Returns the seats of all rows (a seat says where a row belongs). Adds seats for the driver of each row, for the
+// controlling stream of each link, and for the driver of this stream. So all of these get blocks.
 fn seats_of(
     alloc: Global,
     drivers: &[DriverSpec],

@@ -1,7 +1,7 @@
 //! The place of a part of a picture.
 
-/// A rectangle in pixels. For a link, it is the way of the link: from the upper left corner down to `bend`, across to
-/// `lane`, down to `bottom`, and across to `right`.
+/// A rectangle in pixels. For a link, it is the way of the link: from the point (`left`, `top`) down to `bend`, across
+/// to `lane`, down to `bottom`, and across to `right`.
 #[derive(Clone, Copy, Debug, Default)]
 pub struct Area {
     pub left: u32,
@@ -13,8 +13,8 @@ pub struct Area {
 }
 
 impl Area {
-    /// Returns the key by which the links of a layer are sorted: first the one that turns lowest, last the one that
-    /// turns uppermost.
+    /// Returns the key by which the links that begin in one layer are sorted. The first of them turns aside at the
+    /// lowest height, the last at the uppermost.
     pub fn turn_order(&self) -> u32 {
         if self.left < self.lane {
             self.left

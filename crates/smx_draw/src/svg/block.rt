@@ -4,7 +4,7 @@ use crate::svg::area::Area;
 use crate::svg::seat::{ROWS, Seat};
 use std::num::Saturating;
 
-/// A number of pixels. Sums and products saturate: they are never larger than the largest number.
+/// A number of pixels. A sum or product that is too large becomes the largest number.
 pub type Px = Saturating<u32>;
 
 /// The height of a row.
@@ -24,23 +24,26 @@ pub const LANE: Px = Saturating(6);
 #[derive(Clone, Copy, Debug)]
 pub struct Block {
     pub seat: Seat,
-    /// For a column the number of its frame, and for a frame its own number.
+    /// For a column, the index of its frame in the list of blocks. For a frame, its own index.
     pub frame: usize,
     /// The layer of the block, if it is a frame.
     pub layer: usize,
     /// The number of columns, if the block is a frame.
     pub columns: u32,
-    /// Whether the block is the column of a closed stream: only links name the stream, as their controlling stream.
+    /// Whether the block is the column of a stream that no longer exists. Only links still name it, as their
+    /// controlling stream.
     pub is_closed: bool,
-    // For a frame: the horizontal middles of the columns at the other ends of its links; their sum and their number.
+    // For a frame, two numbers: the sum of the horizontal middles of the columns at the other ends of its links, and
+    // how many middles were added up.
     pulls: (u64, u64),
     pub left: Px,
     pub top: Px,
     pub width: Px,
     pub height: Px,
-    /// The number of links that begin below the block. It is counted down when they are placed.
+    /// The number of links that begin below the block. It is counted down when these links are placed.
     pub links: Px,
-    // For each kind of row: the number of such rows, until `put_at` is called; then where the next of them is drawn.
+    // Until `put_at` is called: for each kind of row, the number of such rows. After that: for each kind, the top of
+    // the row of this kind that is drawn next.
     rows: [Px; ROWS],
 }
 
@@ -83,12 +86,12 @@ impl Block {
         self.width = self.width.max(width);
     }
 
-    /// Forgets the columns that `pull` added.
+    /// Forgets the middles that `pull` added.
     pub fn let_go(&mut self) {
         self.pulls = (0, 0);
     }
 
-    /// Adds the column at the other end of a link of this frame, given the middle of the column.
+    /// Adds the horizontal middle of the column at the other end of a link of this frame.
     pub fn pull(&mut self, middle: Px) {
         let (sum, number) = self.pulls;
         self.pulls = (
@@ -105,7 +108,7 @@ impl Block {
         }
     }
 
-    /// Puts the block at this place, and its rows from top to bottom.
+    /// Puts the block at this place, and its rows inside it, one below the other.
     pub fn put_at(&mut self, left: Px, top: Px) {
         self.left = left;
         self.top = top;

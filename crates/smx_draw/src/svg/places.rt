@@ -5,7 +5,7 @@ use crate::svg::plan::{Layer, Plan};
 use smx_types::NoMemory;
 use std::num::Saturating;
 
-/// How many columns of a frame are side by side.
+/// How many columns of a frame are side by side at most.
 pub const BESIDE: usize = 4;
 
 /// The room around a column.
@@ -14,13 +14,14 @@ pub const GAP: Px = Saturating(12);
 // The room around a frame.
 const MARGIN: Px = Saturating(24);
 
-// The height above the first layer.
+// The height of the room above the first layer.
 const HEADER: Px = Saturating(60);
 
 // The width of the legend.
 const LEGEND: Px = Saturating(640);
 
-// The number of the lowest layer. The longest chain of drivers without a cycle ends in this layer.
+// The number of the lowest layer. A text has at most 128 drivers. So the longest chain of drivers without a cycle ends
+// in this layer, or above it.
 const LOWEST: usize = 127;
 
 // How often the frames of each layer are sorted by the places of the columns to which their links lead.
@@ -64,7 +65,7 @@ impl Plan {
     }
 
     // Places a column in its frame, after the previous column: `BESIDE` columns are side by side, and the next ones are
-    // below them. The gap has room for the links to this column and to the columns below it.
+    // below them. The gap to the left of the column has room for the links to this column and to the columns below it.
     fn pack(&mut self, at: usize) -> Option<()> {
         let block = *self.blocks.get(at)?;
         let number = at.checked_sub(block.frame.saturating_add(1))?;
@@ -84,8 +85,8 @@ impl Plan {
         Some(())
     }
 
-    // Moves the lower driver of each link to a layer below that of the upper driver. Each call puts at least one more
-    // link of the longest descending path in order.
+    // Moves the lower driver of each link to a layer below that of the upper driver. After each call, at least one more
+    // link of the longest descending path leads downwards. So it is enough to call this once for each frame.
     fn sink(&mut self) {
         for way in self.ways.as_slice() {
             let above = match self.blocks.get(way.upper) {
@@ -98,7 +99,7 @@ impl Plan {
         }
     }
 
-    // Puts the frames of each layer side by side, and each layer in the middle.
+    // Puts the frames of each layer side by side, and each layer in the middle of the picture.
     fn spread(&mut self) {
         for layer in self.layers.iter_mut() {
             layer.width = MARGIN;
@@ -146,7 +147,7 @@ impl Plan {
         Some(())
     }
 
-    // Returns where the middle of a column is.
+    // Returns the horizontal middle of a column.
     fn middle_of(&self, frame: usize, column: usize) -> Option<Px> {
         let frame = self.blocks.get(frame)?;
         let column = self.blocks.get(column)?;
@@ -192,7 +193,7 @@ impl Plan {
         }
     }
 
-    // Puts a block at its place in the picture. The frame of a column already has its place.
+    // Puts a block at its place in the picture. The `left` of its frame and the `top` of its layer are already known.
     fn put(&mut self, at: usize) -> Option<()> {
         let block = *self.blocks.get(at)?;
         let frame = *self.blocks.get(block.frame)?;

@@ -9,8 +9,9 @@ use smx_types::{LinkLine, NoMemory};
 use std::alloc::Global;
 use std::num::Saturating;
 
-/// A link: its index in the list of links, and the numbers of four blocks. `upper` and `lower` are the frames of its
-/// drivers, `from` is the column of its controlling stream, and `to` that of its lower stream. `area` is its way.
+/// A link: its index in the list of links, and the indices of four blocks. `upper` and `lower` are the frames of its
+/// drivers, `from` is the column of its controlling stream, and `to` that of its lower stream. `area` is its way, that
+/// is, the line that is drawn for it.
 #[derive(Clone, Copy, Debug)]
 pub struct Way {
     pub number: usize,
@@ -36,7 +37,7 @@ pub struct Layer {
 pub struct Plan {
     /// The frames of the drivers, sorted by name. After each frame come the columns of its streams.
     pub blocks: Vec<Block>,
-    /// The numbers of the frames, sorted by layer, and in a layer from left to right.
+    /// The indices of the frames in `blocks`, sorted by layer, and in a layer from left to right.
     pub frames: Vec<usize>,
     pub layers: Vec<Layer>,
     pub ways: Vec<Way>,
@@ -44,7 +45,7 @@ pub struct Plan {
     pub height: Px,
     // How many links have been drawn.
     drawn: usize,
-    // Room for a text that is measured.
+    // A buffer for labels whose lengths are measured.
     text: Vec<u8>,
 }
 
@@ -121,7 +122,7 @@ impl Plan {
         Ok(())
     }
 
-    // Returns the number of the block to which a row belongs.
+    // Returns the index of the block to which a row belongs.
     fn find(&self, seat: &Seat) -> usize {
         match self
             .blocks
@@ -131,8 +132,8 @@ impl Plan {
         }
     }
 
-    /// Adds to each column a row with the name of the stream. All other rows must have been added: a stream that has no
-    /// row yet is closed. Fails only if it is out of memory.
+    /// Adds to each column a row with the name of the stream. All other rows must have been added before: a stream
+    /// without any of them counts as closed. Fails only if it is out of memory.
     pub fn add_names(&mut self) -> Result<(), NoMemory> {
         for block in self.blocks.iter_mut() {
             if let Some(minor) = block.seat.minor() {
@@ -146,7 +147,7 @@ impl Plan {
         Ok(())
     }
 
-    /// Returns the area of a driver or a stream.
+    /// Returns the area of the block of a driver or a stream.
     pub fn area_of(&self, seat: &Seat) -> Area {
         match self.blocks.get(self.find(seat)) {
             Some(block) => block.area(),
@@ -171,7 +172,7 @@ impl Plan {
         }
     }
 
-    /// Returns the way of the next link.
+    /// Returns the way of the next link in the list of links.
     pub fn take_way(&mut self) -> Area {
         let at = self.drawn;
         self.drawn = at.saturating_add(1);

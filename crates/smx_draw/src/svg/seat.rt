@@ -3,8 +3,8 @@
 use smx_types::{Name, Side};
 
 /// The kinds of rows in the frame of a driver or the column of a stream, from top to bottom. The last four are for the
-/// write queue. The read queue has the same four kinds. They have no variants here: their numbers are the next four
-/// (`READ`).
+/// write queue. The read queue has the same four kinds, which have no variants here. Their numbers are those of the
+/// write queue plus `READ`.
 #[derive(Clone, Copy, Debug)]
 pub enum Row {
     Name,

@@ -1,4 +1,4 @@
-//! Frames, links, columns and gauges, which are drawn under the rows.
+//! Frames, links, columns and gauges. They are drawn first, so that the rows are on top of them.
 
 ghost use Rattle.std.specs.Prelude.{◌≡◌, ◌-◌, ◌++◌, OnOk};
 ghost use Rattle.smx_draw.specs.SvgElements.{frame_element, gauge_element, sized_gauge, stream_element};
@@ -19,7 +19,8 @@ use std::alloc::Global;
 pub struct Stream {
     pub driver: Name,
     pub minor: u32,
-    /// Whether only links name the stream, as their controlling stream.
+    /// Whether the stream no longer exists: it is in the picture only because a link still names it as its controlling
+    /// stream.
     pub is_closed: bool,
 }
 

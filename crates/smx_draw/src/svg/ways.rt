@@ -1,4 +1,5 @@
-//! The ways of the links, that is, the lines that are drawn for them. Each link has a lane of its own.
+//! The ways of the links, that is, the lines that are drawn for them. Each link has lanes of its own: links may cross,
+//! but they share no stretch.
 
 use crate::svg::block::LANE;
 use crate::svg::places::{BESIDE, GAP};
@@ -7,9 +8,10 @@ use crate::svg::seat::Row;
 use std::num::Saturating;
 
 impl Plan {
-    /// Gives each link its way. All blocks must have their places. The links that begin below one column have the same
-    /// order there as at their ends. Among the links of a layer that go to the right, the rightmost turns at the
-    /// uppermost height; among those that go to the left, the leftmost does. So few links cross.
+    /// Gives each link its way. All blocks must have their places. Three rules keep the number of crossings low. Links
+    /// that begin below one column have the same order there, from left to right, as at their ends. If several links go
+    /// to the right from a layer, the one that begins rightmost turns aside at the uppermost height. If several go to
+    /// the left, the one that begins leftmost turns aside at the uppermost height.
     pub fn route(&mut self) {
         for at in 0..self.ways.len() {
             self.end_way(at);
@@ -31,7 +33,8 @@ impl Plan {
         self.ways.sort_unstable_by_key(|way| way.number);
     }
 
-    // Lets a link come down to the left of its lower stream, and end at its row in the column of this stream.
+    // Places the end of a link. The link comes down to the left of the column of its lower stream, and ends at the
+    // link's row in this column.
     fn end_way(&mut self, at: usize) -> Option<()> {
         let way = self.ways.get_mut(at)?;
         let column = self.blocks.get(way.to)?;
@@ -44,7 +47,8 @@ impl Plan {
         Some(())
     }
 
-    // Moves lanes to the left, until no two links of different layers share a lane.
+    // Moves lanes to the left, until no two links come down in the same lane. Without this, links that end in different
+    // layers could.
     fn part_lanes(&mut self) {
         let mut free = u32::MAX;
         for way in self.ways.iter_mut() {
@@ -53,8 +57,8 @@ impl Plan {
         }
     }
 
-    // Moves the beginnings of links to the right, until no two links of one frame go down in one line. Without this,
-    // two could do so if one column of the frame is below the other.
+    // Moves the beginnings of links to the right, until no two links of one frame go down in the same line. Without
+    // this, two links could overlap if they begin in columns that are one below the other.
     fn part_starts(&mut self) {
         let (mut frame, mut free) = (usize::MAX, 0);
         for way in self.ways.iter_mut() {
@@ -66,7 +70,7 @@ impl Plan {
         }
     }
 
-    // Lets a link begin below its controlling stream.
+    // Places the beginning of a link, below the column of its controlling stream.
     fn begin_way(&mut self, at: usize) -> Option<()> {
         let way = self.ways.get_mut(at)?;
         let column = self.blocks.get_mut(way.from)?;
