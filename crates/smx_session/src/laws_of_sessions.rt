@@ -27,8 +27,8 @@ use smx_text::worked_texts::wrong_programs;
 use smx_words::laws::one_value_each;
 use smx_words::laws_of_reading::{each_line_has_a_reading, which_lines_are_calls};
 
-/// Apart from out-of-memory, a text has only one result: the session with its drivers, or a fault. If a text has a
-/// fault at line 1 or 2, out-of-memory is never reported.
+/// Apart from out-of-memory, a text has only one result: a session with the drivers of the text, or a fault. If a text
+/// has a fault at line 1 or 2, out-of-memory is never reported for this text.
 pub fn a_text_has_one_start()
     ensures one { (text : List ℕ) (one other : Result State StartFault) → StartsAs text one → StartsAs text other
         → IfErr one (λ t. t ≢ NoMemory) → IfErr other (λ t. t ≢ NoMemory) → one ≡ other }
@@ -40,8 +40,8 @@ pub fn a_text_has_one_start()
     drivers_have_one_fault();
 }
 
-/// In each session, a line either leads to one new session, or is not a call (a process and a command) that the version
-/// allows; never both.
+/// A call is a process and a command that the version allows. In each state of a session, a line that is a call leads
+/// to exactly one next state. Any other line leads to none.
 pub fn a_line_is_performed_in_one_way()
     ensures one { (old new other : State) (line : List ℕ) → Performs old line new → Performs old line other
         → new ≡ other }
@@ -74,9 +74,11 @@ pub fn what_is_written_is_a_transcript()
         ≡ transcript_text (transcript_with s.version s.drivers entries (view s.drivers s.configuration)) }
 {}
 
-/// An example: how a session starts, its states after two lines, and the line of an entry. Two counterexamples have a
-/// line that doesn't lead to the given state, and one has a line although there is no entry. The law also has lines
-/// that are not performed, and a session without an entry.
+/// Examples and counterexamples. A text starts a session (`starts`). A first line opens a stream (`opens`), and a
+/// second line hangs it up (`hangs_up`). A line for another process doesn't lead to the state after the first line
+/// (`no_other_process`). A line that opens a stream doesn't leave the state as it was (`not_undone`). `tells` has the
+/// line of an entry, and in `tells_none` a session without an entry has no such line. The other clauses say for which
+/// inputs the faults `NoMemory`, `NoCommand` and `NoEntry` are possible, and for which they are not.
 pub fn a_worked_session()
     ensures starts { StartsAs table (Ok begun) }
     ensures no_memory { StartsAs table (Err NoMemory) }

@@ -1,4 +1,5 @@
-//! Sessions: a session performs one line after the other on its configuration, which can be shown at any time.
+//! Sessions. A session performs the commands of lines on its configuration, one line after the other. The configuration
+//! can be shown at any time.
 #![tactic(auto)]
 
 mod entry_fault;

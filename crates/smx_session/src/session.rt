@@ -15,8 +15,8 @@ use smx_words::call_of_line;
 use std::alloc::Global;
 use std::marker::Model;
 
-/// A configuration on which lines are performed. Contracts see the version of the session's texts, the drivers, the
-/// configuration and the last entry.
+/// A configuration on which the commands of lines are performed. Contracts see the version of the session's texts, the
+/// drivers, the configuration and the last entry.
 #[derive(Debug, Drop)]
 pub struct Session {
     version: Version,
@@ -39,8 +39,8 @@ impl Model for Session {
 
 impl Session {
     /// Creates a session with the drivers and the version of a text of programs. Nothing is open, and the programs are
-    /// not run. Fails with the first fault of the text, if it has one, and else with the first fault of its drivers.
-    /// Can also fail because it is out of memory.
+    /// not run. Fails with the first fault of the text, if the text has one. Otherwise fails with the first fault of
+    /// its drivers, if they have one. Can also fail because it is out of memory.
     pub fn new(alloc: Global, programs: &[u8]) -> Result<Session, StartFault>
         ensures { StartsAs programs.now result }
     {
@@ -59,9 +59,9 @@ impl Session {
     }
 
     /// Performs the command of a line, and keeps the entry: the process, the command and the reply. The line is
-    /// `PROCESS COMMAND`, as in an entry's line before its `=`. Fails with `NoCommand` exactly if the line is not a
-    /// process and a command of the session's version. Otherwise fails only because it is out of memory. A failure
-    /// changes nothing.
+    /// `PROCESS COMMAND`, like the part of an entry's line before the `=`. Fails with `NoCommand` exactly if the line
+    /// is not a process and a command of the session's version. Otherwise fails only because it is out of memory. A
+    /// failure changes nothing.
     pub fn perform(&mut self, alloc: Global, line: &[u8]) -> Result<(), LineFault>
         ensures ok { OnOk result (Performs self.old line.now self.new) }
         ensures err { OnErr result (self.new ≡ self.old) }

@@ -35,8 +35,8 @@ impl Session {
         Ok(text)
     }
 
-    /// Appends the line of the last entry, with its line feed, to `out`. Fails if there is no entry yet, and then
-    /// leaves `out` unchanged. Fails if it is out of memory, and then `out` may contain anything.
+    /// Appends the line of the last entry, with its line feed, to `out`. Fails if there is no entry yet; `out` is then
+    /// unchanged. Also fails if it is out of memory; `out` may then contain anything.
     pub fn write_entry(&self, out: &mut Vec<u8>) -> Result<(), EntryFault>
         ensures written { OnOk result ((line : List ℕ) × IsLastLine self.now line
             × (out.new.items ≡ out.old.items ++ line)) }

@@ -1,7 +1,7 @@
 //! The head and the foot of each page.
 
-/// The head: the style of the page, and the script that shows one step at a time. Without a script all steps are shown,
-/// one below the other.
+/// The head: the style of the page, and the script that shows one step at a time. If the browser runs no scripts, all
+/// steps are shown, one below the other.
 pub const HEAD: &[u8] = b"<!DOCTYPE html>
 <html lang='en'>
 <head>

@@ -14,7 +14,7 @@ pub fn each_entry_has_its_step()
         → HasStepOf t.drivers before e output }
 {}
 
-/// No line of a trace can begin or end a tag: an escaped text has neither `<` nor `>`.
+/// An escaped text has neither `<` nor `>`. So no line of a trace can begin or end a tag in the page.
 pub fn escaped_texts_have_no_tags()
     ensures { (text : List ℕ) → AllByRecursion (λ b. (b ≢ 60) × (b ≢ 62)) (escaped text) }
 {}

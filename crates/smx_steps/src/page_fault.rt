@@ -12,7 +12,7 @@ use smx_types::NoMemory;
 pub enum PageFault {
     /// The drivers are not valid, or memory ran out.
     Refused(ConfigFault),
-    /// A page of this number of entries is over a limit: that of entries, or that of bytes.
+    /// A page of this number of entries is over the limit of entries, or over the limit of bytes.
     TooLong(usize),
 }
 

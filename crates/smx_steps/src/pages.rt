@@ -75,7 +75,8 @@ fn write_beginning(
     Ok(view)
 }
 
-// Performs the commands of all entries, and appends their steps. Fails if the page is too long, or if out of memory.
+// Performs the commands of all entries, and appends their steps. Fails if the page would be too long, or if it is out
+// of memory.
 fn write_steps(
     alloc: Global,
     config: &mut Config,
@@ -105,7 +106,7 @@ fn write_steps(
     }
 }
 
-// Returns whether `out`, with the foot after it, is short enough.
+// Returns whether `out`, with the foot after it, is within the limit of bytes.
 fn fits(out: &Vec<u8>) -> bool
     ensures short { OnTrue result (length out.now.items + length AnyFoot.now ≤ MAX_PAGE) }
     ensures long { OnFalse result (MAX_PAGE < length out.now.items + length AnyFoot.now) }
