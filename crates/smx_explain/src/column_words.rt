@@ -27,7 +27,7 @@ impl fmt::Display for ColumnWords {
     }
 }
 
-// If only a space at the end of the line is wrong, returns the words that say so, and else no words.
+// If only a space at the end of the line is wrong, returns words that say this. Otherwise returns no words.
 fn space_words(wanted: Wanted, column: usize, len: usize) -> &'static str
     ensures { result.now ≡ space_words wanted column len }
 {

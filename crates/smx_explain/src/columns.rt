@@ -12,7 +12,7 @@ use smx_types::Version;
 /// The column at which a line becomes invalid, and what was expected there.
 #[derive(Clone, Copy, Debug, PartialEq, Eq)]
 pub struct LineColumn {
-    /// The column, in bytes from 1, of the unexpected word, or of the missing word.
+    /// The column of the unexpected or missing word, counted in bytes from 1.
     pub column: usize,
     pub wanted: Wanted,
 }

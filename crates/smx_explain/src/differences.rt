@@ -25,10 +25,10 @@ pub struct Difference<'a> {
     pub has: &'a [u8],
 }
 
-/// Returns the explanation of `transcript`. `text` must be the text of this transcript. If the transcript is its own
-/// replay, the explanation is empty; this is so exactly if the transcript is legal. Otherwise, the explanation shows
-/// the first line in which `text` and the text of the replay differ: this line of `text`, and this line of the replay.
-/// Fails if the drivers are not valid, or if it is out of memory.
+/// Returns the explanation of `transcript`. `text` must be the text of this transcript. The explanation is empty
+/// exactly if the transcript is legal, that is, if it is its own replay. Otherwise, the explanation shows the first
+/// line in which `text` and the text of the replay differ: this line of `text`, and this line of the replay. Fails if
+/// the drivers are not valid, or if it is out of memory.
 pub fn explain(alloc: Global, text: &[u8], transcript: Transcript) -> Result<Vec<u8>, ConfigFault>
     requires { SpellsTranscript text.now transcript }
     ensures told { IfOk result (λ told. IsExplanation transcript told.items) }

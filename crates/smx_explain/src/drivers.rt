@@ -61,7 +61,8 @@ fn spec_reason(fault: SpecFault) -> &'static str {
     }
 }
 
-// Writes the number of the first line before line `number` that has the same name of a driver.
+// Finds the first line of a driver that has the same name as line `number` and comes before it. Writes the number of
+// the found line, and the name.
 fn write_namesake<W: fmt::Write>(
     f: &mut fmt::Formatter<W>,
     text: &[u8],

@@ -13,17 +13,17 @@ use std::fmt;
 
 /// A text and its fault. Prints two lines: at most 80 columns of the malformed line, with its number, and what is wrong
 /// with it. If no text of this kind and version can have the line after its header, the second line says in which
-/// column the line becomes invalid, and what was expected there. The first line then shows this column. A third line
-/// follows if there is a hint: that version 2 has the word, a similar word, that hex digits have small letters, or that
-/// the line is one of a session's output or of a trace.
+/// column the line becomes invalid, and what was expected there. The first line then shows this column, and a third
+/// line follows if there is a hint. The hint says that version 2 has the word, or that hex digits have small letters,
+/// or names a similar word. Or it says that the line is one of a session's output or of a trace.
 #[derive(Clone, Copy)]
 pub struct FaultExplanation<'a> {
-    /// The text that was expected.
+    /// The kind of text that was expected.
     pub kind: TextKind,
     /// All that was read.
     pub text: &'a [u8],
-    /// The fault that a reader of such texts returned. If the text has no line of this number, the bytes after its
-    /// last line feed are shown.
+    /// The fault that a reader of such texts returned. If the text has no line with the number that the fault names,
+    /// the bytes after the last line feed of the text are shown.
     pub fault: TextFault,
 }
 
@@ -37,7 +37,7 @@ impl FaultExplanation<'_> {
         }
     }
 
-    // Returns what is wrong with a line that becomes invalid in no column.
+    // Returns what is wrong with a line for which no column is reported.
     fn reason(&self, line: &[u8]) -> &'static str {
         match self.fault.cause {
             Cause::Header => header_reason(self.kind, line),
@@ -90,7 +90,7 @@ fn write_column<W: fmt::Write>(
     writeln!(f, "\n{words}")
 }
 
-// Writes the line of the hint on a malformed line, if there is one.
+// If there is a hint on a malformed line, writes the line of the hint.
 fn write_hint<W: fmt::Write>(
     f: &mut fmt::Formatter<W>,
     version: Version,

@@ -36,7 +36,7 @@ impl fmt::Display for Hint {
     }
 }
 
-/// Returns the hint on a word, if there is one; `wanted` says what is expected in the column of the word. Takes no
+/// Returns the hint on a word, if there is a hint. `wanted` says what is expected in the column of the word. Takes no
 /// memory.
 pub fn hint_of(version: Version, wanted: Wanted, word: &[u8]) -> Option<Hint>
     ensures { IsHintOn version wanted word.now result }

@@ -12,7 +12,7 @@ pub enum TextKind {
     Transcript,
 }
 
-/// The text to which a line belongs (programs or a transcript), or a session.
+/// The kinds of lines: those of programs, of a transcript, and of a session.
 #[derive(Clone, Copy, Debug, PartialEq, Eq)]
 pub enum LineKind {
     Programs,

@@ -46,7 +46,7 @@ pub fn a_transcript_has_one_explanation()
     a_transcript_has_one_replay();
 }
 
-/// The explanation is empty exactly if the verdict is `legal`. So a legal transcript needs no replay to be explained.
+/// The explanation is empty exactly if the verdict is `legal`. So no replay is needed to explain a legal transcript.
 pub fn a_legal_transcript_needs_none()
     ensures legal { (t : Transcript) (output : List ℕ) → IsExplanation t output
         → IsVerdict t.drivers t.entries t.view Legal → output ≡ [] }
@@ -59,9 +59,9 @@ pub fn a_legal_transcript_needs_none()
     replays_are_the_legal_transcripts();
 }
 
-/// About a transcript within the limits of its version. If an entry is the first illegal one, the explanation shows the
-/// line of this entry, with the number of this line in the text. It also shows the same entry with the reply that the
-/// model gives to its command after the earlier entries.
+/// This law is about a transcript within the limits of its version. If an entry is the first illegal one, the
+/// explanation shows the line of this entry, with the number of this line in the text. It also shows the same entry
+/// with the reply that the model gives to its command after the earlier entries.
 pub fn an_illegal_entry_is_reported()
     ensures { (t : Transcript) (output : List ℕ) → IsAllowed t.version t → IsExplanation t output
         → (number : ℕ) (first : IsFirstIllegal t.drivers t.entries number)
@@ -72,8 +72,8 @@ pub fn an_illegal_entry_is_reported()
     spellings_are_words();
 }
 
-/// About a transcript within the limits of its version. If the verdict is that only the configuration differs, the
-/// explanation shows a line after the line `config`.
+/// This law is about a transcript within the limits of its version. If the verdict is that only the configuration
+/// differs, the explanation shows a line after the line `config`.
 pub fn a_differing_line_is_reported()
     ensures { (t : Transcript) (output : List ℕ) → IsAllowed t.version t → IsExplanation t output
         → IsVerdict t.drivers t.entries t.view ConfigDiffers

@@ -1,6 +1,6 @@
-//! The fixed word that was probably meant by a misspelt word. A choice is a kind of word that may be in some column of
-//! a line and decides how the line goes on, such as the first word of a reply. Its fixed words are words such as
-//! `took`; a choice may also allow other words, such as numbers.
+//! The fixed word that was probably meant by a misspelt word. A choice is a kind of word that decides how a line goes
+//! on, such as the first word of a reply. Each choice has a list of fixed words, such as `took`. Some choices also
+//! allow other words, such as numbers.
 
 ghost use Rattle.std.specs.Prelude.{◌≡◌, ◌⊎◌, MatchBool, MatchOption, None, Some};
 ghost use Rattle.smx_explain.specs.Hints.{are_exchanged, first_near, is_near, meant};
@@ -67,7 +67,7 @@ fn near_row(rows: &'static [Row], word: &[u8]) -> Option<&'static str>
     None
 }
 
-// Returns whether at most one edit turns the word into the verb.
+// Returns whether at most one edit turns `word` into `verb`, a fixed word.
 fn is_near(word: &[u8], verb: &[u8]) -> bool
     ensures { result ≡ is_near word.now verb.now }
 {
@@ -84,7 +84,8 @@ fn is_near(word: &[u8], verb: &[u8]) -> bool
         || are_exchanged(word, verb)
 }
 
-// Returns whether the words begin with the same two bytes in exchanged order, and are equal after these.
+// Returns whether the first two bytes of one word are those of the other in exchanged order, and the rest of both words
+// is equal.
 fn are_exchanged(word: &[u8], verb: &[u8]) -> bool
     ensures { result ≡ are_exchanged word.now verb.now }
 {

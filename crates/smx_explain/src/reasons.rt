@@ -54,7 +54,7 @@ pub fn output_reason(line: &[u8]) -> Option<&'static str> {
     }
 }
 
-/// Returns what is wrong with a well-formed line that may not come after the earlier lines.
+/// Returns what is wrong with a well-formed line that is not allowed after the earlier lines.
 pub fn order_reason(kind: TextKind, version: Version, line: &[u8]) -> &'static str {
     match kind {
         TextKind::Programs => order_of_programs(line),
@@ -62,7 +62,7 @@ pub fn order_reason(kind: TextKind, version: Version, line: &[u8]) -> &'static s
     }
 }
 
-/// Returns which limit a text exceeds that has too many lines like this one.
+/// Returns the limit that a text exceeds if it has too many lines of the kind of this line.
 pub fn limit_reason(kind: TextKind, version: Version, line: &[u8]) -> &'static str {
     if is_driver(line) {
         return limit_of_drivers(version);

@@ -102,7 +102,8 @@ fn other(version: Version, choice: Choice, word: &[u8]) -> Option<FoundRow>
     }
 }
 
-// Returns how a line goes on after the first word of a command that no reply follows.
+// Returns how a line goes on after the first word of a command, where commands have no replies (in programs and in
+// sessions).
 fn command(version: Version, word: &[u8]) -> Option<FoundRow>
     ensures { MatchOption result
         ((values : List AnyValue) → IsFixed version AnyChoice.Command word.now values AnyChoice.Equals → ⊥)
@@ -130,8 +131,8 @@ fn chosen(version: Version, choice: Choice, word: &[u8]) -> Option<FoundRow>
     }
 }
 
-/// Returns how a line goes on after a word, or `None` if the word was not expected. Expected were words for `values`,
-/// and then a word of the choice `next`.
+/// Returns how a line goes on after a word, or `None` if the word was not expected. `values` and `next` say what was
+/// expected: words for these values, and then a word of this choice.
 pub fn go_on(
     version: Version,
     values: &'static [Value],

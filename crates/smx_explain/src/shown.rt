@@ -11,8 +11,8 @@ const COLUMNS: usize = 80;
 const BEFORE: usize = 60;
 
 /// Writes at most 80 columns of a line. `told` is the number of a byte, counted from 1. Writes the first 80 columns if
-/// they include this byte, and else those that start 60 bytes before this byte. Writes two dots at each end at which
-/// the line goes on.
+/// they include this byte, and else those that start 60 bytes before this byte. Writes two dots at each end at which a
+/// part of the line is left out.
 pub fn write_line<W: fmt::Write>(
     f: &mut fmt::Formatter<W>,
     line: &[u8],

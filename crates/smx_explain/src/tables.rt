@@ -84,7 +84,7 @@ const INVALID: [Row; 7] = [
     ("unrouted", &[], End),
 ];
 
-/// Returns the rows of a choice that both versions have.
+/// Returns those rows of a choice that both versions have.
 pub fn rows(choice: Choice) -> &'static [Row]
     ensures { rows_of result.now ≡ rows choice }
 {
@@ -108,7 +108,7 @@ pub fn rows(choice: Choice) -> &'static [Row]
     }
 }
 
-/// Returns the rows of a choice that only version 2 has.
+/// Returns those rows of a choice that only version 2 has.
 pub fn later_rows(choice: Choice) -> &'static [Row]
     ensures { rows_of result.now ≡ later_rows choice }
 {
