@@ -9,7 +9,7 @@ use std::io::{Read, Write};
 #[derive(Clone, Copy, Debug, PartialEq, Eq)]
 pub struct Failed;
 
-/// A reader. No read may follow a read that failed or that showed the end.
+/// A reader. After a read has failed or has shown the end, no read is allowed.
 pub trait Feed {
     /// The bytes that further reads will give, if they are known.
     ghost remaining: { Self → Option (List ℕ) };
@@ -34,7 +34,7 @@ pub trait Feed {
         ensures failed { OnErr result (failures self.new ≡ 1) };
 }
 
-/// A writer. After a write or flush that failed, neither may follow.
+/// A writer. After a write or a flush has failed, no write and no flush is allowed.
 pub trait Sink {
     /// The bytes that the writer holds, if they are known.
     ghost contents: { Self → Option (List ℕ) };

@@ -10,9 +10,10 @@ use std::alloc::{AllocError, Global};
 /// The largest number of bytes of an input.
 pub const MAX_INPUT: usize = 16_777_216;
 
-// When more memory is needed, it grows by the number of bytes read so far, but by at least `LEAST_PIECE` and at most
-// `MOST_PIECE`. For the next reads, only a part of it is zeroed at a time: a sixteenth (`SHARE`) of the number of bytes
-// read so far, within the two bounds above. So memory that no read needs is never written, and costs nothing.
+// When the buffer needs more memory, it grows by the number of bytes read so far, but by at least `LEAST_PIECE` and at
+// most `MOST_PIECE`. The new memory is zeroed piece by piece, each piece only when the next read needs it. The size of
+// a piece is a sixteenth (`SHARE`) of the number of bytes read so far, within the same two bounds. So memory that no
+// read needs is never written, and costs nothing.
 const LEAST_PIECE: usize = 65_536;
 
 const MOST_PIECE: usize = 1_048_576;
@@ -20,9 +21,9 @@ const MOST_PIECE: usize = 1_048_576;
 const SHARE: usize = 16;
 
 /// Reads all bytes up to the end of the feed. (A read of 0 bytes shows the end.) Fails with `TooLong` exactly if more
-/// than `MAX_INPUT` bytes were read, and with `ReadFailed` exactly if a read failed. Apart from these, fails only if it
-/// is out of memory before the end was seen. Requests memory for at most `MAX_INPUT + 1` bytes. Each read except the
-/// last adds at least one byte, so there are at most `MAX_INPUT + 1` reads.
+/// than `MAX_INPUT` bytes were read, and with `ReadFailed` exactly if a read failed. Otherwise fails only if memory
+/// runs out before the end was seen. Requests memory for at most `MAX_INPUT + 1` bytes. Each read except the last adds
+/// at least one byte, so there are at most `MAX_INPUT + 1` reads.
 pub fn read_all<F: Feed>(alloc: Global, feed: &mut F) -> Result<Vec<u8>, MainFault>
     requires before_the_end { F.ended feed.old ≡ false }
     requires fine_so_far { F.failures feed.old ≡ 0 }

@@ -31,9 +31,9 @@ use smx_text::laws::{one_text_has_one_reading, one_transcript_has_one_reading};
 use smx_trace::laws_of_replays::a_transcript_has_one_replay;
 use smx_trace::laws_of_traces::a_transcript_has_one_trace;
 
-/// About a check (with or without an explanation), a replay, a trace, and a run on one worker whose output is a
-/// transcript. Unless memory runs out, each of these has only one result and one output for an input. So an input can't
-/// both succeed and be refused, and a refused input has only one fault.
+/// This law is about a check (with or without an explanation), a replay, a trace, and a run on one worker whose output
+/// is a transcript. Unless memory runs out, each of these has only one result and one output for an input. So an input
+/// can't both succeed and be refused, and a refused input has only one fault.
 pub fn an_input_has_one_answer()
     ensures checked { (input : List ℕ) (one other : Result (Verdict × List ℕ) MainFault)
         → Answers checking input one → Answers checking input other
@@ -81,8 +81,9 @@ pub fn what_is_run_has_drivers()
 }
 
 /// If a run writes a transcript, on any number of workers, a check finds this transcript legal. If the bytes that the
-/// run wrote spell a transcript, this transcript is in the version of the programs, and is a report that is promised for
-/// them. (A report is drivers, a history and the view after it.)
+/// run wrote spell a transcript, this transcript is in the version of the programs, and is a report that is promised
+/// for the programs. (A report is drivers, a history and the view after it. It is promised for programs if it has their
+/// drivers, and a legal history with the commands of each program, each once, in order.)
 pub fn a_run_writes_one_legal_transcript()
     ensures legal { (workers : ℕ) (programs : ProgramLists) (output : List ℕ)
         → IsWrittenFor false workers programs output → (line : List ℕ) × GivesFor checking output Legal line }
@@ -95,8 +96,8 @@ pub fn a_run_writes_one_legal_transcript()
 }
 
 /// All fronts that a run writes are those of one report that is promised for the programs, and each process has one
-/// front. The front of a process is that of the first entries of the report, up to some point, and these entries have
-/// all commands of the process. No front counts more entries than the report has. On one worker the report has the
+/// front. The front of a process counts the entries and the links at some point of the report. All commands of the
+/// process come before this point. No front counts more entries than the report has. On one worker the report has the
 /// programs one after the other.
 pub fn a_run_writes_the_fronts_of_one_report()
     ensures { (workers : ℕ) (programs : ProgramLists) (output : List ℕ) → IsWrittenFor true workers programs output

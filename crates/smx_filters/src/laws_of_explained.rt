@@ -18,8 +18,8 @@ ghost use Rattle.smx_filters.specs.declared.refusal.Refusal.{Refusal as AnyRefus
 
 use smx_explain::laws_of_explanations::a_legal_transcript_needs_none;
 
-/// A check with an explanation has the verdict of a check, and first writes what a check writes. If the verdict is
-/// `legal`, the explanation is empty.
+/// A check with an explanation has the verdict of a check without one, and first writes what that check writes. If the
+/// verdict is `legal`, the explanation is empty.
 pub fn an_explained_check_is_a_check()
     ensures { (explain : Bool) (input output : List ℕ) (verdict : Verdict)
         → GivesFor (judging explain) input verdict output
@@ -29,9 +29,9 @@ pub fn an_explained_check_is_a_check()
     a_legal_transcript_needs_none();
 }
 
-/// About an explained check or run whose input is in memory, and whose reader and writer don't fail. The result is one
-/// that the filter allows. If the text is malformed or its drivers are refused, the whole input is kept. If a check has
-/// any other fault, such as out-of-memory, nothing is kept.
+/// This law is about an explained check or run whose input is in memory, and whose reader and writer don't fail. The
+/// result is one that the filter allows. If the text is malformed or its drivers are refused, the whole input is kept.
+/// If a check has any other fault, such as out-of-memory, nothing is kept.
 pub fn faults_are_explained_in_memory()
     ensures check { (input left output : List ℕ) (ended flushed : Bool) (answer : Result Verdict AnyRefusal)
         → KeepsText explaining (Some input) (Some left) ended 0 (Some []) (Some output) flushed 0 answer

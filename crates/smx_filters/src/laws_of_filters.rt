@@ -19,8 +19,8 @@ ghost use Rattle.smx_filters.specs.declared.main_fault.MainFault.{MainFault};
 ghost use Rattle.smx_filters.specs.declared.main_fault.MainFault.TheVariants.{ReadFailed};
 
 /// The results of a run for an input in memory: if nothing fails (`ends`), if the reader fails (`unread`), and if the
-/// writer fails (`cut_short`). A run whose reader fails reports that, and writes nothing. A run whose writer fails has
-/// seen the end of the input, and has written a beginning of an output that is allowed.
+/// writer fails (`cut_short`). A run whose reader fails returns `ReadFailed`, and writes nothing. A run whose writer
+/// fails has seen the end of the input, and has written a beginning of an output that is allowed.
 pub fn runs_end_in_memory()
     ensures ends { (input left output : List ℕ) (workers : ℕ) (fronts ended flushed : Bool)
         (answer : Result (Unit {0}) MainFault)

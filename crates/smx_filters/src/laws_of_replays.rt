@@ -9,7 +9,7 @@ ghost use Rattle.smx_filters.specs.ReplayText.{replaying};
 use smx_text::laws::one_transcript_has_one_reading;
 use smx_trace::laws_of_replays::{a_transcript_has_one_replay, replays_are_the_legal_transcripts};
 
-/// If a check judges an input legal, the replay of all its entries gives it back, byte by byte.
+/// If a check judges an input legal, the replay of all its entries gives this input back, byte by byte.
 pub fn a_legal_transcript_is_given_back()
     ensures { (input line output : List ℕ) (done : Unit {0}) → GivesFor checking input Legal line
         → GivesFor (replaying None) input done output → output ≡ input }
@@ -19,8 +19,8 @@ pub fn a_legal_transcript_is_given_back()
     replays_are_the_legal_transcripts();
 }
 
-/// A check judges the output of a replay legal, whether it is a replay of all entries or of the first ones. For each
-/// choice of `at`, an input has only one output of a replay.
+/// A check judges the output of a replay legal, whether it is a replay of all entries or of the first ones. For an
+/// input and a value of `at`, a replay has only one possible output.
 pub fn a_replay_is_one_legal_transcript()
     ensures legal { (at : Option ℕ) (input output : List ℕ) (done : Unit {0})
         → GivesFor (replaying at) input done output

@@ -1,5 +1,5 @@
-//! Filters, each a call from bytes to bytes: a run of programs, and a check, a replay, a trace, a drawing or a page of
-//! a transcript.
+//! Filters. A filter is a call that reads bytes and writes bytes: a run of programs, or a check, a replay, a trace, a
+//! drawing or a page of a transcript.
 #![tactic(auto)]
 
 mod check;

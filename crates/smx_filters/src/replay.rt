@@ -20,9 +20,9 @@ use smx_types::Transcript;
 use std::alloc::Global;
 
 /// Reads a transcript from `feed`, performs its commands in order, and writes the transcript that results to `sink`, in
-/// the same version. If `at` is a number, performs only the commands of this number of first entries. Ignores the
-/// replies and the configuration of the transcript that was read. So the replay of all entries of a legal transcript is
-/// this transcript. Keeps the text if the text or its drivers have a fault. Requires that neither `feed` nor `sink` has
+/// the same version. If `at` is a number, performs only the commands of the first `at` entries. Ignores the replies and
+/// the configuration of the transcript that was read. So the replay of all entries of a legal transcript is this
+/// transcript. Keeps the text if the text or its drivers have a fault. Requires that neither `feed` nor `sink` has
 /// failed before and that the feed has not ended. Reads at most 16,777,217 bytes. Checks for faults in this order:
 /// reading, text, the number of entries, drivers, replaying, writing.
 pub fn replay_text<F: Feed, S: Sink>(
@@ -45,8 +45,8 @@ pub fn replay_text<F: Feed, S: Sink>(
     }
 }
 
-// Returns the text of the replay of the transcript that the input spells. If `at` is a number, replays only this number
-// of first entries.
+// Returns the text of the replay of the transcript that the input spells. If `at` is a number, replays only the first
+// `at` entries.
 fn text_of_replay(alloc: Global, input: &[u8], at: Option<usize>) -> Result<Vec<u8>, MainFault>
     ensures { Answers (replaying at) input.now (items_of result) }
 {

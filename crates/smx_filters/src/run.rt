@@ -23,10 +23,10 @@ use std::thread::Threads;
 /// Reads programs from `feed`, and runs them on `workers` workers, 1 to 64. Writes the transcript of the run to `sink`,
 /// in the version of the programs. With `fronts` it writes, in place of the transcript, a front for each program: the
 /// number of entries and the number of links at one moment after this program had ended. One worker runs one program
-/// after the other, by rising number, so there is only one transcript that it can write. With several workers, worker
-/// `p` modulo `workers` runs process `p`. `gate` is called for each command. No command is performed before the whole
-/// text was read and found valid. Requires that neither `feed` nor `sink` has failed before and that the feed has not
-/// ended. Checks for faults in this order: reading, text, drivers, run, writing.
+/// after the other, by rising number. So a run on one worker has only one possible transcript. With several workers,
+/// worker `p` modulo `workers` runs process `p`. `gate` is called before and after each command. No command is
+/// performed before the whole text was read and found valid. Requires that neither `feed` nor `sink` has failed before
+/// and that the feed has not ended. Checks for faults in this order: reading, text, drivers, run, writing.
 pub fn run_text<R: Threads + Wait + Sync, F: Feed, S: Sink, G: Gate + Sync>(
     rt: &R,
     alloc: Global,
