@@ -1,5 +1,10 @@
 //! The limits of a configuration, all specific to this project.
 
+ghost use Rattle.std.specs.Prelude.{◌≡◌};
+ghost use Rattle.smx_types.specs.declared.limits.TheConstants.{MAX_DRIVERS, MAX_DRIVERS_OF_VERSION_1, MAX_MINORS};
+ghost use Rattle.smx_types.specs.declared.limits.TheConstants.{MAX_HIGH, MAX_MESSAGE, MAX_PROCESSES, MAX_DESCRIPTORS};
+ghost use Rattle.smx_types.specs.declared.limits.TheConstants.{MAX_LINKS, NUMBER_END, MAX_COMMANDS};
+
 /// The maximum number of drivers of a configuration.
 pub const MAX_DRIVERS: usize = 128;
 
@@ -29,3 +34,12 @@ pub const NUMBER_END: u32 = 4_294_967_295;
 
 /// The maximum number of commands in the programs of all processes together.
 pub const MAX_COMMANDS: usize = 100_000;
+
+/// A law: the limits are these numbers. Contracts and code use the names above, so without this law a wrong number would
+/// be wrong in both.
+pub fn the_limits_are_these()
+    ensures drivers { (MAX_DRIVERS ≡ 128) × (MAX_DRIVERS_OF_VERSION_1 ≡ 64) × (MAX_MINORS ≡ 64) }
+    ensures queues { (MAX_HIGH ≡ 4096) × (MAX_MESSAGE ≡ 1024) }
+    ensures processes { (MAX_PROCESSES ≡ 64) × (MAX_DESCRIPTORS ≡ 16) × (MAX_COMMANDS ≡ 100000) }
+    ensures links { (MAX_LINKS ≡ 1024) × (NUMBER_END ≡ 4294967295) }
+{}
