@@ -132,6 +132,7 @@ impl LinkTable {
     pub fn remove_each(&mut self, ids: &[u32])
         ensures rest { self.new ≡ without_ids self.old ids.now }
         ensures drivers { self.new.drivers ≡ self.old.drivers }
+        ensures sound { IsLinkList self.old }
     {
         self.links.remove_each(ids);
         recompute(&mut self.masks, self.links.as_slice());
@@ -139,7 +140,8 @@ impl LinkTable {
 
     /// Returns the link with this id, if there is one. Does one look-up.
     pub fn get(&self, id: u32) -> Option<&Link>
-        ensures { option_copied result ≡ find (λ l. l.id == id) self.now.links }
+        ensures value { option_copied result ≡ find (λ l. l.id == id) self.now.links }
+        ensures sound { IsLinkList self.now }
     {
         self.links.get(id)
     }
@@ -160,7 +162,8 @@ impl LinkTable {
 
     /// Returns all links, by rising id. Does not allocate.
     pub fn links(&self) -> &[Link]
-        ensures { result.now ≡ self.now.links }
+        ensures value { result.now ≡ self.now.links }
+        ensures sound { IsLinkList self.now }
     {
         self.links.as_slice()
     }
@@ -182,7 +185,8 @@ impl LinkTable {
 
     /// Returns the number of links.
     pub fn len(&self) -> usize
-        ensures { result ≡ length self.now.links }
+        ensures count { result ≡ length self.now.links }
+        ensures few { result ≤ MAX_LINKS }
     {
         self.links().len()
     }
@@ -203,19 +207,10 @@ impl LinkTable {
 
     /// Returns whether the driver is the upper driver of some link. Reads one word.
     pub fn is_upper(&self, driver: u8) -> bool
-        ensures { result ≡ is_upper self.now.links driver }
+        ensures value { result ≡ is_upper self.now.links driver }
+        ensures sound { IsLinkList self.now }
     {
         has_any_bit(&self.masks, driver)
-    }
-
-    /// For proofs: gives the caller the properties of every table. The links form no cycle, no stream is below two
-    /// links, the ids rise and are below the next id, and there are at most 1,024 links. Does nothing when the program
-    /// runs.
-    pub fn is_sound(&self)
-        ensures { IsLinkList self.now }
-    {
-        // For the proof: opens the invariant.
-        let _next_id = self.next_id;
     }
 
     /// Copies the table. The copy gets its memory from this allocator, and keeps the allocator.

@@ -1,12 +1,12 @@
 -- The value of a store and its chains, and what calls read of them.
-use Rattle.std.proofs.Common.{◌≡◌, ◌≢◌, ℕ, ◌+◌, ◌<◌, ◌≤◌, ◌^◌, true, false, List, [], ◌∷◌}
+use Rattle.std.proofs.Common.{◌≡◌, ◌≢◌, ℕ, ◌<◌, ◌≤◌, ◌^◌, true, false, List, [], ◌∷◌}
 use Rattle.std.proofs.Common.{length, map, get_or, set, Option, Some, None, refl, sym, ap, ◌∙◌, arith}
-use Rattle.std.specs.List.{sum_by, slice_get}
+use Rattle.std.specs.List.{All, slice_get}
 use Rattle.std.proofs.lemmas.List.{get_or-set_other, get_or_default, length-map, length-set}
-use Rattle.std.proofs.lemmas.List.Elements.{All-head}
-use Rattle.std.proofs.lemmas.List.Sums.{sum_by-set, sum_by-cons}
+use Rattle.std.proofs.lemmas.List.Elements.{All-head, All-tail}
+use Rattle.std.proofs.lemmas.List.Sums.{sum_by-cons}
 use Rattle.std.proofs.lemmas.Option.{same_Some}
-use Rattle.slab.specs.Slab.{Slab, get, ContainsKey, slab_len, Updates}
+use Rattle.slab.specs.Slab.{Slab, get, ContainsKey, Updates}
 use Rattle.smx_types.specs.declared.message.Message.{Message}
 use Rattle.smx_model.specs.Queues.{bytes_of}
 use Rattle.smx_queues.specs.declared.node.Node.{Node}
@@ -197,29 +197,18 @@ read_twice chains p x y below first second = second ∙ (get_or_default chains p
 pub second_below : (chains : List Chain) (p q : ℕ) (after : Chain) → q < length chains → q < length (set chains p after)
 second_below chains p q after below = omega (arith, below, length-set chains p after)
 
--- two chains have at most as many nodes together as all chains
-two_counts : (chains : List Chain) (p q : ℕ) (first second : Chain) → p < length chains → q < length chains → q ≢ p
-    → first ≡ get_or chains p no_chain → second ≡ get_or chains q no_chain
-    → first.count + second.count ≤ sum_by (λ (chain : Chain). chain.count) chains
-two_counts chains p q first second p_in q_in differ read_first read_second =
-    let count = λ (chain : Chain). chain.count in
-    let a = sum_by-set count chains p no_chain no_chain p_in in
-    let b = sum_by-set count (set chains p no_chain) q no_chain no_chain
-    (omega (arith, length-set chains p no_chain)) in
-    let e = ap count (get_or-set_other chains p q no_chain no_chain differ) in
-    omega (arith, a, b, e, ap count read_first, ap count read_second)
+-- there are at most as many messages as bytes
+few_messages : (ms : List Message) → All HasBytesThatFit ms → length ms ≤ bytes_of ms
+few_messages [] h = omega arith
+few_messages (m ∷ ms) h =
+    let have = All-head HasBytesThatFit m ms h in
+    omega (arith, have.0, few_messages ms (All-tail HasBytesThatFit m ms h), sum_by-cons size m ms)
 
--- two chains have at most as many nodes together as the store
-pub counts_fit : (s : Slab Node) (chains : List Chain) (sound : IsSound s chains) (view : List (Option Queue)) (p q : ℕ)
-    (first second : Chain) → IsAt sound.own s chains view p first → IsAt sound.own s chains view q second → p ≢ q
-    → first.count + second.count ≤ slab_len s
-counts_fit s chains sound view p q first second a b differ =
-    omega (
-      arith,
-      sound.store.counted,
-      two_counts chains p q first second a.below b.below
-          (λ e. differ (sym e)) a.read b.read,
-    )
+-- the chain of a place that is not full has fewer than 4,096 nodes
+pub open_count : (own : ℕ → ℕ × ℕ) (s : Slab Node) (p : ℕ) (chain : Chain) (q : Queue) → IsQueue own s p chain q
+    → q.full ≡ false → chain.count < 4096
+open_count own s p chain q l unmarked =
+    omega (arith, l.count, few_messages q.messages l.have_bytes, l.open_below_high unmarked, l.high_bounded)
 
 -- after setting a chain whose place exists and its queue, contracts see this queue at its number, and the others
 -- unchanged
@@ -252,11 +241,3 @@ there_at s chains sound view is p there =
     let t = place_there chains sound.queues p (rw (← view_slots s chains sound view is) there) in
     place_at s chains sound view is p there (get_or chains p no_chain)
     (get_or_default chains p no_chain (get_or chains p no_chain) t.below)
-
--- a place that is not full has fewer than 4,096 bytes
-pub open_has_few : (s : Slab Node) (chains : List Chain) (sound : IsSound s chains) (view : List (Option Queue))
-    → map (slot_of s) chains ≡ view → (p : ℕ) → IsPlace view p → (queue_at view p).full ≡ false
-    → bytes_of (queue_at view p).messages < 4096
-open_has_few s chains sound view is p there unmarked =
-    let l = (there_at s chains sound view is p there).queue in
-    omega (arith, l.open_below_high unmarked, l.high_bounded)

@@ -142,9 +142,6 @@ impl Places {
         if minor >= row.minors {
             return None;
         }
-        let places: &[Place] = &self.places;
-        // For the proof: the length of a slice is so small that the sum below can't overflow.
-        let _count = places.len();
         Some(row.first + 2 * minor + side_number(place.side))
     }
 

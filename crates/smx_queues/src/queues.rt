@@ -6,7 +6,6 @@ ghost use Rattle.std.specs.Prelude.{◌≡◌, ◌≢◌, ◌↔◌, ◌+◌, �
 ghost use Rattle.std.specs.Prelude.{None, false, OnOk, OnErr, OnSome, IfOk, IfNone, IsTrue, slice_get};
 ghost use Rattle.std.specs.Prelude.{slice_set, Option};
 ghost use Rattle.smx_types.specs.declared.message.Message.{Message};
-ghost use Rattle.smx_model.specs.Queues.{bytes_of};
 ghost use Rattle.smx_queues.specs.QueueTable.{queue_at, IsPlace, empty_queue, least_vacant, with_place};
 ghost use Rattle.smx_queues.specs.QueueTable.{with_queue, with_arrival, without_front, without_messages};
 
@@ -145,20 +144,17 @@ impl Queues {
             ≡ with_queue self.old.queues p (with_arrival (queue_at self.old.queues p) message) }
         ensures spare { self.old.spare ≡ self.new.spare + 1 }
     {
-        // For the proof: this use of `self` makes its invariant known, which bounds the bytes of a place that is not
-        // full.
-        let _chains = &self.chains;
         let (message, size) = sized(message);
         self.append(p, message, size);
     }
 
-    // Adds a message of `size` bytes at the end of a queue, even if the place is full.
+    // Adds a message of `size` bytes at the end of the queue of a place that is not full.
     fn append(&mut self, p: PlaceId, message: Message, size: usize)
         requires place { IsPlace self.old.queues p }
+        requires open { (queue_at self.old.queues p).full ≡ false }
         requires size { size ≡ length message.bytes }
         requires some { 0 < size }
         requires few { size < 2 ^ 63 }
-        requires fits { bytes_of (queue_at self.old.queues p).messages + size < 2 ^ 64 }
         requires spare { 0 < self.old.spare }
         ensures put { self.new.queues
             ≡ with_queue self.old.queues p (with_arrival (queue_at self.old.queues p) message) }
@@ -166,8 +162,6 @@ impl Queues {
     {
         let chain = self.chains[p];
         let key = self.nodes.insert_reserved(Node { message, next: 0 });
-        // For the proof: no place has more messages than the store has nodes in use.
-        let _count = self.nodes.len();
         follow(&mut self.nodes, chain, key);
         self.chains[p].add_last(key, size);
     }
@@ -209,8 +203,6 @@ impl Queues {
         let node = &self.nodes[source.first];
         let size = node.message.bytes.as_slice().len();
         let next = node.next;
-        // For the proof: no place has more messages than the store has nodes in use.
-        let _count = self.nodes.len();
         self.chains[from].drop_first(next, size);
         let target = self.chains[to];
         follow(&mut self.nodes, target, source.first);

@@ -1,19 +1,18 @@
 -- Records that are copied stream by stream.
 use Rattle.std.proofs.Common.{◌≡◌, ℕ, suc, ◌+◌, ◌<◌, true, false, List, [], ◌∷◌, length, map, get_or}
-use Rattle.std.proofs.Common.{drop, Option, Some, None, if◌then◌else◌, refl, sym, ap, ◌∙◌, arith, inl, inr}
+use Rattle.std.proofs.Common.{drop, Option, if◌then◌else◌, refl, sym, ap, ◌∙◌, arith, inl, inr}
 use Rattle.std.proofs.Math.ListN.{get_or-map}
 use Rattle.std.proofs.lemmas.Bool.{cases_Bool}
 use Rattle.std.proofs.lemmas.Bool.Decides.{nat_tests}
 use Rattle.std.proofs.lemmas.List.{get_or_past, length-map}
 use Rattle.slab.specs.Slab.{Slab}
 use Rattle.smx_types.specs.declared.stream.StreamId.{StreamId}
-use Rattle.smx_model.specs.Configuration.{pair_before, same_stream}
+use Rattle.smx_model.specs.Configuration.{pair_before}
 use Rattle.smx_streams.specs.declared.records.Record.{Record}
 use Rattle.smx_streams.specs.HungRows.{flag_at}
-use Rattle.smx_streams.specs.RecordGrids.{Grid, Uses, AreSet, HasRows, IsCopyBefore, IsRecordOf}
+use Rattle.smx_streams.specs.RecordGrids.{Grid, Uses, HasRows, IsCopyBefore}
 use Rattle.smx_streams.specs.RecordGrids.{holds_of, hung_of, opens_of, record_of_key, uses_of}
 use Rattle.smx_streams.specs.StreamTables.{number_at}
-use Rattle.smx_streams.proofs.GridLemmas.{same_is}
 
 -- rows
 

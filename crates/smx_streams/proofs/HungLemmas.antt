@@ -97,13 +97,13 @@ left u v old new s o h set used names holds now was = made old new (rw now (hung
 pub holds_changed : (t : Inside) (v : Uses) (s : StreamId) (h : ℕ)
     → AreSet t.records s (number_at t.records.opens s) h
     (nat_lt 0 (number_at t.records.opens s + h) && flag_at t.records.hungs s) v
-    → AreUsed t.records → IsWhole t → HasHolds (table_of t) s h (table_of (record t { records = v }))
-holds_changed t v s h set used whole = record {
+    → IsWhole t → HasHolds (table_of t) s h (table_of (record t { records = v }))
+holds_changed t v s h set whole = record {
   minors = set.minors;
   fds = refl;
   holds = set.holds_now;
-  hungs = left t.records v (table_of t) (table_of (record t { records = v })) s _ _ set used
-      (λ x. set.opens_now x ∙ same_number t.records.opens x s _ refl ∙ whole x) refl refl refl;
+  hungs = left t.records v (table_of t) (table_of (record t { records = v })) s _ _ set
+      whole.records.hung (λ x. set.opens_now x ∙ same_number t.records.opens x s _ refl ∙ whole.named x) refl refl refl;
 }
 
 -- if no numbers change, a stream has hung up exactly if it exists and had hung up
@@ -164,13 +164,13 @@ hung_now u v s o h set = one_list (hungs_from 0 v.hungs) (with_hung s (hungs_fro
       turned : (x y : StreamId) → same_stream x y ≡ same_stream y x
       turned x y = grind (arith, nat_tests)
 
--- the streams whose flags are set, each with a descriptor or hold, are in order and exist
-pub are_sound : (u : Uses) (t : StreamTable) → AreUsed u → AreNames u t → t.holds ≡ u.holds
-    → t.hungs ≡ hungs_from 0 u.hungs → AreHungsSound t
-are_sound u t used names holds hungs = record {
-  rise = rw hungs (hungs_rise 0 u.hungs);
-  exist = λ x h. exists_by u t x names holds ∙ lt-ltb 0 (number_at u.opens x + number_at u.holds x)
-      (used x (sym (ap (λ (hs : List StreamId). is_hung hs x) hungs ∙ flag_tells u.hungs x) ∙ h));
+-- the streams whose flags are set are in order and exist
+pub are_sound : (t : Inside) → IsWhole t → AreHungsSound (table_of t)
+are_sound t whole = record {
+  rise = hungs_rise 0 t.records.hungs;
+  exist = λ x h. exists_by t.records (table_of t) x whole.named refl
+      ∙ lt-ltb 0 (number_at t.records.opens x + number_at t.records.holds x)
+      (whole.records.hung x (sym (flag_tells t.records.hungs x) ∙ h));
 }
 
 -- if no flag is set, no stream has hung up
@@ -181,13 +181,6 @@ none_hung rows h = by (hungs_from 0 rows) (λ s. flag_tells rows s ∙ h s) wher
   by (x ∷ xs) k = absurd (false≢true (sym (k x) ∙ or_left _ _ (same_self x)))
 
 -- closing descriptors one after the other
-
--- a test that all elements pass removes none
-pub all_pass : (p : StreamId → Bool) (xs : List StreamId) → ((x : StreamId) → is_hung xs x ≡ true → p x ≡ true)
-    → xs ≡ filter p xs
-all_pass p [] h = refl
-all_pass p (x ∷ xs) h = rw (h x (or_left _ _ (same_self x)))
-    (ap (λ (ys : List StreamId). x ∷ ys) (all_pass p xs (λ y t. h y (or_right (same_stream x y) _ t))))
 
 -- a stream that a remaining descriptor names was named before
 named_before : (keep : Descriptor → Bool) (ds : List Descriptor) (s : StreamId) → is_named (filter keep ds) s ≡ true

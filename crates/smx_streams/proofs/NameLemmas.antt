@@ -2,9 +2,9 @@
 use Rattle.std.proofs.Common.{◌≡◌, ℕ, zero, suc, ◌+◌, ◌-◌, ◌<◌, ◌≤◌, Bool, true, false, not, eqb, List, [], ◌∷◌}
 use Rattle.std.proofs.Common.{length, find, filter, get_or, slice_get, Some, None, if◌then◌else◌, refl, sym, ap}
 use Rattle.std.proofs.Common.{arith, inl, inr}
-use Rattle.std.specs.Prelude.{nat_lt}
+use Rattle.std.specs.Prelude.{nat_le, nat_lt}
 use Rattle.std.specs.List.{list_any, range_with_len}
-use Rattle.std.proofs.lemmas.Bool.{cases_Bool, and_parts, eqb-true}
+use Rattle.std.proofs.lemmas.Bool.{cases_Bool, and_parts, eqb-true, lt-ltb}
 use Rattle.std.proofs.lemmas.Bool.Decides.{nat_tests}
 use Rattle.std.proofs.lemmas.Option.{get_or_from_slice_get, same_Some}
 use Rattle.smx_types.specs.declared.stream.Descriptor.{Descriptor}
@@ -12,7 +12,8 @@ use Rattle.smx_types.specs.declared.stream.StreamId.{StreamId}
 use Rattle.smx_model.specs.Configuration.{same_stream, is_fd, fd_before}
 use Rattle.smx_model.specs.Ordered.{ComesBefore, IsRising, with_inserted}
 use Rattle.smx_model.specs.Standing.{is_named}
-use Rattle.smx_streams.specs.StreamTables.{StreamTable, exists, is_in_range, number_at, stream_at}
+use Rattle.smx_streams.specs.StreamTables.{StreamTable, exists, is_in_range, minor_answer}
+use Rattle.smx_streams.specs.StreamTables.{number_at, numbered, stream_at}
 use Rattle.smx_streams.proofs.GridLemmas.{same_is, same_self}
 use Rattle.smx_streams.specs.TableFields.{names_of}
 use Rattle.smx_streams.proofs.ListLemmas.{none_goes}
@@ -106,6 +107,17 @@ no_driver (n ∷ ns) (suc d) m h = no_driver ns d m h
 -- the number of minors of an existing driver is what a look-up with default 0 returns
 pub minors_at : (minors : List ℕ) (d n : ℕ) → Some n ≡ slice_get minors d → n ≡ get_or minors d 0
 minors_at minors d n h = sym (get_or_from_slice_get minors d n 0 (sym h))
+
+-- a driver with a minor exists
+has_minors : (minors : List ℕ) (d m : ℕ) → m < get_or minors d 0 → nat_le (length minors) d ≡ false
+has_minors [] d m h = absurd (omega (arith, h))
+has_minors (n ∷ ns) zero m h = grind (arith, nat_tests)
+has_minors (n ∷ ns) (suc d) m h = let rest = has_minors ns d m h in grind (arith, nat_tests, rest)
+
+-- a minor in range is opened as the lowest free descriptor
+pub minor_numbered : (t : StreamTable) (p d m : ℕ) → m < get_or t.minors d 0
+    → minor_answer t p d m ≡ numbered t p (record { driver = d; minor = m })
+minor_numbered t p d m h = rw (has_minors t.minors d m h, lt-ltb m (get_or t.minors d 0) h) refl
 
 -- descriptors added or removed, and the number of names of their streams
 

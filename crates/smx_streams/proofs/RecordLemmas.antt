@@ -1,5 +1,5 @@
 -- Records by driver and minor: changed, added and removed.
-use Rattle.std.proofs.Common.{◌≡◌, ◌≢◌, ℕ, ◌+◌, ◌<◌, ◌≤◌, true, false, List, [], length, map, replicate, Option}
+use Rattle.std.proofs.Common.{◌≡◌, ◌≢◌, ℕ, ◌+◌, ◌<◌, ◌≤◌, true, false, List, length, map, replicate, Option}
 use Rattle.std.proofs.Common.{Some, None, if◌then◌else◌, refl, sym, ap, ◌∙◌, arith, inl, inr}
 use Rattle.std.proofs.lemmas.Bool.{cases_Bool, cases_eq, both_ways, ltb-true, lt-ltb}
 use Rattle.std.specs.Prelude.{nat_lt}
@@ -13,7 +13,7 @@ use Rattle.smx_types.specs.declared.stream.StreamId.{StreamId}
 use Rattle.smx_model.specs.Configuration.{same_stream}
 use Rattle.smx_streams.specs.declared.records.Record.{Record}
 use Rattle.smx_streams.specs.RecordGrids.{Grid, key_at, record_of_key, opens_of, holds_of, uses_of, AreSet, AreRecords}
-use Rattle.smx_streams.specs.RecordGrids.{IsRecord, IsSet, hung_of, is_used_and_hung}
+use Rattle.smx_streams.specs.RecordGrids.{AreSound, IsRecord, IsSet, hung_of, is_used_and_hung}
 use Rattle.smx_streams.specs.StreamTables.{number_at, is_in_range}
 use Rattle.smx_streams.proofs.GridLemmas.{same_is, same_self, opens_at, holds_at, in_range_of_key, no_keys, hungs_at}
 use Rattle.smx_streams.specs.HungRows.{flag_at}
@@ -288,6 +288,15 @@ hung_is_used grid records s whole h = rw (opens_at grid records s, holds_at grid
           → 0 < opens_of (record_of_key records o) + holds_of (record_of_key records o)
       by None e t = absurd cc
       by (Some key) e t = let there = whole.listed s key e in rw there.1 there.2.used
+
+-- records that are found by their keys are valid
+pub are_sound : (grid : Grid) (records : Slab Record) → AreRecords grid records → AreSound (uses_of grid records)
+are_sound grid records whole = record {
+  few = few_minors grid records whole;
+  range = used_is_in_range grid records;
+  flagged = hung_is_in_range grid records;
+  hung = λ s h. hung_is_used grid records s whole h;
+}
 
 -- a record that counts nothing
 

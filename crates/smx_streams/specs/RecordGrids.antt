@@ -1,13 +1,13 @@
 -- The records of streams, by driver and minor. No public clause needs this.
-use Rattle.std.specs.Prelude.{◌≡◌, ℕ, ◌+◌, ◌<◌, ◌≤◌, nat_lt, Bool, false, ◌&&◌, List, [], map, length, slice_index_or}
-use Rattle.std.specs.Prelude.{slice_set, Option, Some, None, if◌then◌else◌, IfSome}
+use Rattle.std.specs.Prelude.{◌≡◌, ℕ, ◌+◌, ◌<◌, ◌≤◌, nat_lt, Bool, true, false, ◌&&◌, List, [], map, length}
+use Rattle.std.specs.Prelude.{slice_index_or, slice_set, Option, Some, None, if◌then◌else◌, IfSome}
 use Rattle.slab.specs.Slab.{Slab, get}
 use Rattle.smx_types.specs.declared.limits.TheConstants.{MAX_DRIVERS}
 use Rattle.smx_types.specs.declared.stream.StreamId.{StreamId}
 use Rattle.smx_model.specs.Configuration.{pair_before, same_stream}
 use Rattle.smx_streams.specs.declared.records.Record.{Record}
 use Rattle.smx_streams.specs.HungRows.{flag_at}
-use Rattle.smx_streams.specs.StreamTables.{number_at}
+use Rattle.smx_streams.specs.StreamTables.{is_in_range, number_at}
 
 -- for each driver, a key or `None` at each minor
 abbrev pub Grid : Type 0
@@ -47,6 +47,14 @@ pub record Uses : Type 0 where
   pub opens : List (List ℕ)
   pub holds : List (List ℕ)
   pub hungs : List (List Bool)
+
+-- there are at most as many drivers as allowed; a stream that has descriptors or is hung up is in range; a hung-up
+-- stream has at least one descriptor or hold
+pub record AreSound (u : Uses) : Type 0 where
+  pub few : length u.minors ≤ MAX_DRIVERS
+  pub range : (s : StreamId) → 0 < number_at u.opens s → is_in_range u.minors s.driver s.minor ≡ true
+  pub flagged : (s : StreamId) → flag_at u.hungs s ≡ true → is_in_range u.minors s.driver s.minor ≡ true
+  pub hung : (s : StreamId) → flag_at u.hungs s ≡ true → 0 < number_at u.opens s + number_at u.holds s
 
 abbrev pub uses_of : Grid → Slab Record → Uses
 uses_of grid records = record {

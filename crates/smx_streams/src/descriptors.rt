@@ -131,8 +131,9 @@ impl Descriptors {
     pub fn put(&mut self, process: Process, fd: u32, stream: StreamId)
         requires room { fd < slice_index self.old.rooms process }
         requires free { list_any (is_fd process fd) self.old.fds ≡ false }
-        ensures { self.new.fds
+        ensures fds { self.new.fds
             ≡ with_inserted fd_before self.old.fds (record { process = process; fd = fd; stream = stream }) }
+        ensures listed { IsListed self.new.fds }
     {
         set_cell(&mut self.processes, process.get(), fd, Some(stream));
     }
@@ -141,6 +142,7 @@ impl Descriptors {
     pub fn take(&mut self, process: Process, fd: u32) -> Option<StreamId>
         ensures stream { result ≡ stream_at self.old.fds process fd }
         ensures rest { self.new.fds ≡ filter (λ d. not (is_fd process fd d)) self.old.fds }
+        ensures listed { IsListed self.new.fds }
         ensures unchanged { IfNone result (self.new ≡ self.old) }
     {
         let stream = cell_at(&self.processes, process, fd)?;
@@ -151,9 +153,9 @@ impl Descriptors {
     /// Returns the first descriptor, in the order of processes and numbers, that is at or after this process and
     /// number. Reads each cell from there up to the cell of the returned descriptor.
     pub fn next(&self, process: Process, fd: u32) -> Option<Descriptor>
+        requires { IsListed self.now.fds }
         ensures { IsNext self.now.fds process fd result }
     {
-        self.is_sound();
         let mut at = process;
         let mut number = fd;
         loop {
@@ -170,14 +172,6 @@ impl Descriptors {
                 number += 1;
             }
         }
-    }
-
-    /// For proofs: gives the caller the properties of every list of descriptors (`IsListed`).
-    pub fn is_sound(&self)
-        ensures { IsListed self.now.fds }
-    {
-        // For the proof: opens the invariant.
-        let _processes = &self.processes;
     }
 
     pub fn copy(&self, alloc: Global) -> Result<Descriptors, NoMemory>

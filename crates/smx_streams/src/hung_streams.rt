@@ -3,6 +3,7 @@
 ghost use Rattle.std.specs.Prelude.{◌≡◌};
 ghost use Rattle.std.specs.Iterator.{YieldsFirstBy};
 ghost use Rattle.smx_streams.specs.HungRows.{hungs_from, IsNextOf};
+ghost use Rattle.smx_streams.specs.RecordGrids.{AreSound};
 
 use crate::records::Records;
 use smx_types::StreamId;
@@ -22,17 +23,20 @@ impl<'a> Model for HungStreams<'a> {
     ghost use Rattle.std.specs.Prelude.{List};
     ghost use Rattle.smx_types.specs.declared.stream.StreamId.{StreamId};
     ghost use Rattle.smx_streams.specs.HungRows.{hungs_from, streams_from};
+    ghost use Rattle.smx_streams.specs.RecordGrids.{AreSound};
 
     ghost Value = { List StreamId };
 
     ghost view = { λ it. streams_from it.driver it.minor (hungs_from 0 it.records.now.hungs) };
+
+    ghost invariant = { λ it. AreSound it.records.now };
 }
 
 // Returns the first hung-up stream, in the order of drivers and minors, that is at or after this driver and minor.
 fn first_from(records: &Records, driver: u8, minor: u8) -> Option<StreamId>
+    requires { AreSound records.now }
     ensures { IsNextOf (hungs_from 0 records.now.hungs) driver minor result }
 {
-    records.is_sound();
     let mut at = driver;
     let mut number = minor;
     while let Some(minors) = records.minors_of(at) {
@@ -54,6 +58,7 @@ fn first_from(records: &Records, driver: u8, minor: u8) -> Option<StreamId>
 
 impl<'a> HungStreams<'a> {
     pub(crate) fn new(records: &'a Records) -> HungStreams<'a>
+        requires { AreSound records.now }
         ensures { result ≡ hungs_from 0 records.now.hungs }
     {
         HungStreams {

@@ -3,10 +3,11 @@
 ghost use Rattle.std.specs.Prelude.{◌≡◌, ◌≢◌, ◌+◌, ◌-◌, ◌<◌, ◌≤◌, ◌==◌, nat_lt, ◌&&◌, true, false, [], None, Some};
 ghost use Rattle.std.specs.Prelude.{map, length, replicate, slice_get, slice_index, slice_index_or};
 ghost use Rattle.std.specs.Prelude.{IfOk, IsOk, OnOk, OnErr};
+ghost use Rattle.std.specs.List.{list_all};
 ghost use Rattle.slab.specs.Slab.{get, Updates};
 ghost use Rattle.smx_types.specs.declared.limits.TheConstants.{MAX_DRIVERS};
 ghost use Rattle.smx_types.specs.declared.stream.StreamId.{StreamId};
-ghost use Rattle.smx_streams.specs.RecordGrids.{key_at, with_key, is_used_and_hung, AreRecords, AreSet};
+ghost use Rattle.smx_streams.specs.RecordGrids.{key_at, with_key, is_used_and_hung, AreRecords, AreSet, AreSound};
 ghost use Rattle.smx_streams.specs.RecordGrids.{HasRows, IsCopyBefore, IsRecordOf, IsSet};
 ghost use Rattle.smx_streams.specs.HungRows.{flag_at};
 ghost use Rattle.smx_streams.specs.StreamTables.{is_in_range, number_at};
@@ -147,6 +148,7 @@ impl Records {
         ensures none { IfOk result (λ r. (s : StreamId) → (number_at r.opens s ≡ 0) × (number_at r.holds s ≡ 0)) }
         ensures hungs { IfOk result (λ r. (s : StreamId) → flag_at r.hungs s ≡ false) }
         ensures rows { IfOk result HasRows }
+        ensures sound { IfOk result AreSound }
     {
         Ok(Records {
             drivers: new_keys(alloc, minors)?,
@@ -206,6 +208,14 @@ impl Records {
         key_of(&self.drivers, stream).is_some()
     }
 
+    /// Returns whether each of these streams has a record.
+    pub fn has_each(&self, streams: &[StreamId]) -> bool
+        ensures { result
+            ≡ list_all (λ s. nat_lt 0 (number_at self.now.opens s + number_at self.now.holds s)) streams.now }
+    {
+        streams.iter().all(|s| self.has(*s))
+    }
+
     /// Counts one more descriptor of a stream. Makes a record of the stream if there is none yet.
     #[inline(always)]
     pub fn open(&mut self, stream: StreamId) -> Result<(), NoMemory>
@@ -215,6 +225,7 @@ impl Records {
             (number_at self.old.holds stream) (flag_at self.old.hungs stream) self.new) }
         ensures err { OnErr result (self.new ≡ self.old) }
         ensures in_place { 0 < number_at self.old.opens stream → IsOk result }
+        ensures sound { OnOk result (AreSound self.new) }
     {
         if let Some(record) = self.record_of(stream) {
             self.change(Record {
@@ -240,6 +251,7 @@ impl Records {
         ensures ok { OnOk result (AreSet self.old record.stream record.opens record.holds record.hung self.new) }
         ensures err { OnErr result (self.new ≡ self.old) }
         ensures rows { HasRows self.new }
+        ensures sound { OnOk result (AreSound self.new) }
     {
         put(&mut self.drivers, &mut self.records, record)?;
         Ok(())
@@ -249,9 +261,10 @@ impl Records {
     /// and no hold is left.
     pub fn close(&mut self, stream: StreamId)
         requires { 0 < number_at self.old.opens stream }
-        ensures { AreSet self.old stream (number_at self.old.opens stream - 1) (number_at self.old.holds stream)
+        ensures set { AreSet self.old stream (number_at self.old.opens stream - 1) (number_at self.old.holds stream)
             (nat_lt 0 ((number_at self.old.opens stream - 1) + number_at self.old.holds stream)
             && flag_at self.old.hungs stream) self.new }
+        ensures sound { AreSound self.new }
     {
         if let Some(record) = self.record_of(stream) {
             self.change(Record {
@@ -266,9 +279,10 @@ impl Records {
     pub fn hold(&mut self, stream: StreamId)
         requires there { 0 < number_at self.old.opens stream + number_at self.old.holds stream }
         requires few { number_at self.old.holds stream < 1024 }
-        ensures { AreSet self.old stream (number_at self.old.opens stream) (number_at self.old.holds stream + 1)
+        ensures set { AreSet self.old stream (number_at self.old.opens stream) (number_at self.old.holds stream + 1)
             (nat_lt 0 (number_at self.old.opens stream + (number_at self.old.holds stream + 1))
             && flag_at self.old.hungs stream) self.new }
+        ensures sound { AreSound self.new }
     {
         if let Some(record) = self.record_of(stream) {
             self.change(Record {
@@ -283,9 +297,10 @@ impl Records {
     /// is left.
     pub fn release(&mut self, stream: StreamId)
         requires { 0 < number_at self.old.holds stream }
-        ensures { AreSet self.old stream (number_at self.old.opens stream) (number_at self.old.holds stream - 1)
+        ensures set { AreSet self.old stream (number_at self.old.opens stream) (number_at self.old.holds stream - 1)
             (nat_lt 0 (number_at self.old.opens stream + (number_at self.old.holds stream - 1))
             && flag_at self.old.hungs stream) self.new }
+        ensures sound { AreSound self.new }
     {
         if let Some(record) = self.record_of(stream) {
             self.change(Record {
@@ -299,8 +314,9 @@ impl Records {
     /// Sets the hung-up flag of a stream that has a record.
     pub fn hang(&mut self, stream: StreamId)
         requires { 0 < number_at self.old.opens stream + number_at self.old.holds stream }
-        ensures { AreSet self.old stream (number_at self.old.opens stream) (number_at self.old.holds stream) true
+        ensures set { AreSet self.old stream (number_at self.old.opens stream) (number_at self.old.holds stream) true
             self.new }
+        ensures sound { AreSound self.new }
     {
         if let Some(record) = self.record_of(stream) {
             self.change(Record {
@@ -314,26 +330,12 @@ impl Records {
     // Replaces the record of a stream. If the new record has no descriptor and no hold, removes the record instead.
     fn change(&mut self, changed: Record)
         requires { 0 < number_at self.old.opens changed.stream + number_at self.old.holds changed.stream }
-        ensures { AreSet self.old changed.stream changed.opens changed.holds (is_used_and_hung changed) self.new }
+        ensures set { AreSet self.old changed.stream changed.opens changed.holds (is_used_and_hung changed) self.new }
+        ensures sound { AreSound self.new }
     {
         if let Some(key) = key_of(&self.drivers, changed.stream) {
             put_back(&mut self.drivers, &mut self.records, key, changed);
         }
-    }
-
-    /// For proofs: gives the caller the properties of every set of records. There are at most 128 drivers. If a stream
-    /// has descriptors or is hung up, its driver exists and has its minor. A hung-up stream has a descriptor or a hold.
-    pub fn is_sound(&self)
-        ensures few { length self.now.minors ≤ MAX_DRIVERS }
-        ensures range { (s : StreamId) → 0 < number_at self.now.opens s
-            → is_in_range self.now.minors s.driver s.minor ≡ true }
-        ensures flagged { (s : StreamId) → flag_at self.now.hungs s ≡ true
-            → is_in_range self.now.minors s.driver s.minor ≡ true }
-        ensures hung { (s : StreamId) → flag_at self.now.hungs s ≡ true
-            → 0 < number_at self.now.opens s + number_at self.now.holds s }
-    {
-        // For the proof: opens the invariant.
-        let _records = &self.records;
     }
 
     // Copies the record of the stream from `others` to `self`, if the stream has one.

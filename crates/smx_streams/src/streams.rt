@@ -5,7 +5,7 @@ ghost use Rattle.std.specs.Prelude.{Some, Ok, Err, IfOk, IfErr, IfSome, IfNone, 
 ghost use Rattle.smx_types.specs.declared.limits.TheConstants.{MAX_DESCRIPTORS, MAX_DRIVERS};
 ghost use Rattle.smx_types.specs.declared.stream.StreamId.{StreamId};
 ghost use Rattle.std.specs.Option.{option_map};
-ghost use Rattle.smx_streams.specs.DescriptorRows.{IsListed};
+ghost use Rattle.std.specs.List.{All, list_all};
 ghost use Rattle.smx_streams.specs.StreamTables.{number_at, is_in_range, exists, stream_at, is_last, least_fd};
 ghost use Rattle.smx_streams.specs.StreamTables.{least_minor, numbered, clone_answer, minor_answer, dup_answer};
 ghost use Rattle.smx_streams.specs.StreamTables.{IsNext, IsRefused};
@@ -80,9 +80,18 @@ impl Streams {
 
     /// Returns whether a descriptor names the stream, or the stream is held.
     pub fn exists(&self, stream: StreamId) -> bool
-        ensures { result ≡ exists self.now stream }
+        ensures answer { result ≡ exists self.now stream }
+        ensures sound { AreHungsSound self.now }
     {
         self.records.has(stream)
+    }
+
+    /// Returns whether each of these streams exists.
+    pub fn has_each(&self, streams: &[StreamId]) -> bool
+        ensures answer { result ≡ list_all (exists self.now) streams.now }
+        ensures sound { AreHungsSound self.now }
+    {
+        self.records.has_each(streams)
     }
 
     /// Returns whether the stream is hung up.
@@ -101,7 +110,8 @@ impl Streams {
 
     /// Returns the number of holds of the stream.
     pub fn holds_of(&self, stream: StreamId) -> u32
-        ensures { result ≡ number_at self.now.holds stream }
+        ensures number { result ≡ number_at self.now.holds stream }
+        ensures sound { AreHungsSound self.now }
     {
         self.records.holds_of(stream)
     }
@@ -136,7 +146,6 @@ impl Streams {
         ensures err { OnErr result (self.new ≡ self.old) }
         ensures in_place { (n : ℕ) → stream_at self.old.fds process n ≡ Some stream → IsOk result }
     {
-        self.descriptors.is_sound();
         self.descriptors.make_room(self.alloc, process)?;
         self.records.open(stream)?;
         self.descriptors.put(process, fd, stream);
@@ -217,7 +226,6 @@ impl Streams {
         let Some(stream) = self.descriptors.stream_of(process, fd) else {
             return Err(StreamFault::BadDescriptor);
         };
-        self.records.is_sound();
         self.give(process, stream)
     }
 
@@ -226,7 +234,6 @@ impl Streams {
     pub fn is_last(&self, process: Process, fd: u32) -> bool
         ensures { result ≡ is_last self.now process fd }
     {
-        self.descriptors.is_sound();
         match self.descriptors.stream_of(process, fd) {
             Some(stream) => self.records.is_opened_once(stream),
             None => false,
@@ -243,9 +250,9 @@ impl Streams {
         ensures went { (s : StreamId) → exists self.old s ≡ true → exists self.new s ≡ false
             → stream_at self.old.fds process fd ≡ Some s }
         ensures unchanged { IfNone result (self.new ≡ self.old) }
+        ensures sound { AreHungsSound self.old }
+        ensures numbered { All (λ d. d.fd < MAX_DESCRIPTORS) self.old.fds }
     {
-        self.descriptors.is_sound();
-        self.records.is_sound();
         let stream = self.descriptors.take(process, fd)?;
         self.records.close(stream);
         Some(Closed {
@@ -261,8 +268,6 @@ impl Streams {
         ensures went { (s : StreamId) → exists self.old s ≡ true → exists self.new s ≡ false
             → (n : ℕ) × (n < MAX_DESCRIPTORS) × (stream_at self.old.fds process n ≡ Some s) }
     {
-        self.is_listed();
-        self.is_sound();
         for fd in 0..MAX_DESCRIPTORS {
             let _closed = self.close_fd(process, fd);
         }
@@ -283,13 +288,6 @@ impl Streams {
         self.next_fd(Process::new(0).unwrap(), 0)
     }
 
-    // For proofs: gives the caller the properties of every list of descriptors (`IsListed`).
-    fn is_listed(&self)
-        ensures { IsListed self.now.fds }
-    {
-        self.descriptors.is_sound();
-    }
-
     /// Counts one more hold of a stream that exists. Does not allocate.
     pub fn hold(&mut self, stream: StreamId)
         requires there { exists self.old stream ≡ true }
@@ -297,7 +295,6 @@ impl Streams {
         ensures rest { HasHolds self.old stream (number_at self.old.holds stream + 1) self.new }
         ensures hungs { self.new.hungs ≡ self.old.hungs }
     {
-        self.records.is_sound();
         self.records.hold(stream);
     }
 
@@ -308,8 +305,8 @@ impl Streams {
         requires { 0 < number_at self.old.holds stream }
         ensures answer { result ≡ not (exists self.new stream) }
         ensures rest { HasHolds self.old stream (number_at self.old.holds stream - 1) self.new }
+        ensures sound { AreHungsSound self.old }
     {
-        self.records.is_sound();
         self.records.release(stream);
         !self.exists(stream)
     }
@@ -327,7 +324,7 @@ impl Streams {
     pub fn is_sound(&self)
         ensures { AreHungsSound self.now }
     {
-        self.records.is_sound();
+        let _records = &self.records;
     }
 
     /// Copies the table. The copy gets its memory from this allocator, and keeps the allocator.

@@ -11,7 +11,7 @@ loop-minors-preserved-then-number-minors c =
     let minors = minors_at u.minors c.loop-minors.at c.in-Some.minors c.in-Some.ensures in
     c.loop-minors.invariant
     ∙ next_driver u.minors c.loop-minors.at c.loop-minors.number (hungs_from 0 u.hungs) (omega (arith, minors))
-    (λ x h. c.is_sound.ensures.flagged x (sym (flag_tells u.hungs x) ∙ h))
+    (λ x h. c.requires.flagged x (sym (flag_tells u.hungs x) ∙ h))
 
 pub returns-then-is_hung : goal.returns-then-is_hung
 returns-then-is_hung c =
@@ -35,4 +35,4 @@ returns c =
     let u = c.args.records.now in
     c.loop-minors.invariant
     ∙ no_driver_left u.minors c.loop-minors.at c.loop-minors.number (hungs_from 0 u.hungs) c.in_default.ensures
-    (λ x h. c.is_sound.ensures.flagged x (sym (flag_tells u.hungs x) ∙ h))
+    (λ x h. c.requires.flagged x (sym (flag_tells u.hungs x) ∙ h))

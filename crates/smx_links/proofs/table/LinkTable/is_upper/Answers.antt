@@ -5,8 +5,8 @@ use Rattle.smx_links.specs.TableFields.{list_of}
 use Rattle.smx_links.proofs.UpperLemmas.{any_is_upper}
 use Rattle.smx_links.proofs.table.LinkTable.is_upper.Goals as goal
 
-pub returns : goal.returns
-returns c =
+pub returns-clause-value : goal.returns-clause-value
+returns-clause-value c =
     any_is_upper (list_of c.self.inside).links c.self.inside.masks.items c.args.driver c.has_any_bit.result
     c.self.invariant.masks
     (subst (λ (ws : List ℕ). HasAnyBit ws c.args.driver c.has_any_bit.result) c.deref.ensures.value

@@ -10,14 +10,14 @@ overflow_add-result c =
     let within = number_within c.self.inside.drivers.items c.self.inside.rows.items c.self.inside.places.items
     c.args.place c.in_ok-row.row c.self.invariant (rw c.deref.ensures.value at c.in_ok-row.ensures)
     (omega (arith, c.if-minor-row.false)) in
-    omega (arith, within, c.deref-places.type_inv.0)
+    omega (arith, within, c.self.inside.places.ok.0, c.self.inside.places.small)
 
 pub overflow_add-result-2 : goal.overflow_add-result-2
 overflow_add-result-2 c =
     let within = number_within c.self.inside.drivers.items c.self.inside.rows.items c.self.inside.places.items
     c.args.place c.in_ok-row.row c.self.invariant (rw c.deref.ensures.value at c.in_ok-row.ensures)
     (omega (arith, c.if-minor-row.false)) in
-    omega (arith, within, c.side_number.ensures, c.deref-places.type_inv.0)
+    omega (arith, within, c.side_number.ensures, c.self.inside.places.ok.0, c.self.inside.places.small)
 
 pub returns-in_err-row-clause-none : goal.returns-in_err-row-clause-none
 returns-in_err-row-clause-none c = rw (c.from_residual.ensures, ← c.self.view_is)

@@ -3,7 +3,8 @@ use Rattle.smx_queues.specs.declared.chain.Chain.{Chain}
 use Rattle.smx_queues.specs.Chains.{chain_with_last}
 use Rattle.smx_queues.specs.QueueTable.{queue_at, with_arrival}
 use Rattle.smx_queues.proofs.FollowLemmas.{node_from}
-use Rattle.smx_queues.proofs.SoundLemmas.{IsAt, IsSeen, kept_there, last_there, place_at, queues_of, read_twice}
+use Rattle.smx_queues.proofs.SoundLemmas.{IsAt, IsSeen, kept_there, last_there, open_count}
+use Rattle.smx_queues.proofs.SoundLemmas.{place_at, queues_of, read_twice}
 use Rattle.smx_queues.proofs.SeenMessageLemmas.{seen_put}
 use Rattle.smx_queues.proofs.queues.Queues.append.Goals as goal
 use Rattle.smx_queues.proofs.queues.Queues.append.Goals.{After-index-chain, After-add_last}
@@ -33,11 +34,25 @@ follow-requires c some =
     kept_there _ _ _ _ _ c.insert_reserved-key.ensures.updates c.insert_reserved-key.ensures.was_vacant
     (last_there _ _ _ _ _ (at (goal.at.follow-requires c).After-index-chain).queue some)
 
+pub add_last-requires-clause-count : goal.add_last-requires-clause-count
+add_last-requires-clause-count c =
+    let there = at (goal.at.add_last-requires-clause-count c).After-index-chain in
+    let same = read_twice _ _ _ _ there.below c.index-chain.ensures c.index_mut.ensures.value in
+    omega (arith, open_count _ _ _ _ _ there.queue c.requires.open, ap (λ (x : Chain). x.count) same)
+
 pub add_last-requires-clause-bytes : goal.add_last-requires-clause-bytes
 add_last-requires-clause-bytes c =
     let there = at (goal.at.add_last-requires-clause-bytes c).After-index-chain in
     let same = read_twice _ _ _ _ there.below c.index-chain.ensures c.index_mut.ensures.value in
-    omega (arith, there.queue.bytes, c.requires.fits, ap (λ (x : Chain). x.bytes) same)
+    let below = there.queue.open_below_high c.requires.open in
+    omega (
+      arith,
+      there.queue.bytes,
+      below,
+      there.queue.high_bounded,
+      c.requires.few,
+      ap (λ (x : Chain). x.bytes) same,
+    )
 
 pub invariant_of-self : goal.invariant_of-self
 invariant_of-self c = (put (goal.at.invariant_of-self c).After-add_last).sound

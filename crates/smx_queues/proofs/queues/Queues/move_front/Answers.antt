@@ -4,9 +4,9 @@ use Rattle.smx_queues.specs.declared.chain.Chain.{Chain}
 use Rattle.smx_queues.specs.Chains.{chain_with_last, chain_without_first}
 use Rattle.smx_queues.specs.QueueTable.{queue_at, with_arrival, without_front}
 use Rattle.smx_queues.proofs.FollowLemmas.{follower_spare}
-use Rattle.smx_queues.proofs.SoundLemmas.{IsAt, IsFirst, IsSeen, counts_fit, filled, first_few, first_message_is}
-use Rattle.smx_queues.proofs.SoundLemmas.{first_of, first_within, last_there, place_at, queues_of, read_other}
-use Rattle.smx_queues.proofs.SoundLemmas.{read_twice, second_below, spare_of}
+use Rattle.smx_queues.proofs.SoundLemmas.{IsAt, IsFirst, IsSeen, filled, first_few, first_message_is}
+use Rattle.smx_queues.proofs.SoundLemmas.{first_of, first_within, last_there, open_count, place_at, queues_of}
+use Rattle.smx_queues.proofs.SoundLemmas.{read_other, read_twice, second_below, spare_of}
 use Rattle.smx_queues.proofs.SeenMessageLemmas.{seen_move}
 use Rattle.smx_queues.proofs.queues.Queues.move_front.Goals as goal
 use Rattle.smx_queues.proofs.queues.Queues.move_front.Goals.{After-index-source, After-index_mut, After-index-target}
@@ -79,10 +79,8 @@ follow-requires c some = last_there _ _ _ _ _ (to (goal.at.follow-requires c).Af
 pub add_last-requires-clause-count : goal.add_last-requires-clause-count
 add_last-requires-clause-count c =
     let g = goal.at.add_last-requires-clause-count c in
-    let both = counts_fit _ _ c.self.invariant _ _ _ _ _ (from g.After-index-source) (to g.After-index-target)
-    c.requires.differ in
-    let same = ap (λ (x : Chain). x.count) (same_target g.After-index_mut-2) in
-    omega (arith, some g.After-index-source, both, c.len-count.ensures, same)
+    let few = open_count _ _ _ _ _ (to g.After-index-target).queue c.requires.open in
+    omega (arith, few, ap (λ (x : Chain). x.count) (same_target g.After-index_mut-2))
 
 pub add_last-requires-clause-bytes : goal.add_last-requires-clause-bytes
 add_last-requires-clause-bytes c =

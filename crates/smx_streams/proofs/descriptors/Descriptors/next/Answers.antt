@@ -16,19 +16,19 @@ returns-in_err-at c =
     ] in
     rw c.from_residual.ensures
     (c.loop-number.invariant ∙ no_process c.loop-number.at c.loop-number.number c.args.self.now.fds
-    (omega arith) last c.is_sound.ensures.numbered c.is_sound.ensures.processes)
+    (omega arith) last c.requires.numbered c.requires.processes)
 
 pub loop-number-preserved-then-number-ge-MAX_DESCRIPTORS :
     goal.loop-number-preserved-then-number-ge-MAX_DESCRIPTORS
 loop-number-preserved-then-number-ge-MAX_DESCRIPTORS c =
     rw (c.in_ok-at.ensures.value, c.get.ensures.value)
     (c.loop-number.invariant ∙ next_process c.loop-number.at c.loop-number.number c.args.self.now.fds
-    (omega arith) c.is_sound.ensures.numbered)
+    (omega arith) c.requires.numbered)
 
 pub returns-in-Some : goal.returns-in-Some
 returns-in-Some c = (
   c.loop-number.invariant ∙ found c.loop-number.at c.loop-number.number c.in-Some.stream c.args.self.now.fds
-      c.is_sound.ensures.rise (sym c.in-Some.ensures),
+      c.requires.rise (sym c.in-Some.ensures),
   omega arith,
 )
 

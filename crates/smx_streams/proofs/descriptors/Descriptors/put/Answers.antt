@@ -5,11 +5,11 @@ use Rattle.smx_model.specs.Ordered.{with_inserted}
 use Rattle.smx_streams.specs.DescriptorRows.{Listed}
 use Rattle.std.proofs.Common.{map, length}
 use Rattle.smx_streams.proofs.RowLemmas.{put_cell}
-use Rattle.smx_streams.proofs.RowOrderLemmas.{row_length, rows_with_cell}
+use Rattle.smx_streams.proofs.RowOrderLemmas.{are_listed, row_length, rows_with_cell}
 use Rattle.smx_streams.proofs.descriptors.Descriptors.put.Goals as goal
 
-pub returns : goal.returns
-returns c =
+pub returns-clause-fds : goal.returns-clause-fds
+returns-clause-fds c =
     let room : c.args.fd < get_or (map length c.self.inside.processes.items) c.args.process 0 = subst
     (λ (l : Listed). c.args.fd < get_or l.rooms c.args.process 0) (sym c.self.view_is) c.requires.room in
     let free : list_any (is_fd c.args.process c.args.fd) _
@@ -23,3 +23,7 @@ returns c =
 
 pub invariant_of-self : goal.invariant_of-self
 invariant_of-self c = rw c.set_cell.ensures (rows_with_cell _ _ _ _ c.self.invariant)
+
+pub returns-clause-listed : goal.returns-clause-listed
+returns-clause-listed c = are_listed c.set_cell.new.processes.items
+    (rw c.set_cell.ensures (rows_with_cell _ _ _ _ c.self.invariant))

@@ -1,9 +1,9 @@
 use Rattle.std.proofs.Common.{◌≡◌, not, ap, sym, subst, ◌∙◌, filter}
 use Rattle.smx_model.specs.Configuration.{is_fd}
-use Rattle.smx_streams.specs.DescriptorRows.{Listed}
+use Rattle.smx_streams.specs.DescriptorRows.{IsListed, Listed}
 use Rattle.smx_streams.specs.StreamTables.{stream_at}
 use Rattle.smx_streams.proofs.RowLemmas.{stream_is_cell, take_cell, take_none}
-use Rattle.smx_streams.proofs.RowOrderLemmas.{rows_with_cell}
+use Rattle.smx_streams.proofs.RowOrderLemmas.{are_listed, rows_with_cell}
 use Rattle.smx_streams.proofs.descriptors.Descriptors.take.Goals as goal
 
 pub returns-in_err-stream-clause-stream : goal.returns-in_err-stream-clause-stream
@@ -16,6 +16,10 @@ returns-in_err-stream-clause-rest c =
     subst (λ (l : Listed). l.fds ≡ filter (λ d. not (is_fd c.args.process c.args.fd d)) l.fds) c.self.view_is
     (sym (take_none c.self.inside.processes.items c.args.process c.args.fd
     (sym (rw c.deref.ensures.value at c.in_err-stream.ensures))))
+
+pub returns-in_err-stream-clause-listed : goal.returns-in_err-stream-clause-listed
+returns-in_err-stream-clause-listed c =
+    subst (λ (l : Listed). IsListed l.fds) c.self.view_is (are_listed c.self.inside.processes.items c.self.invariant)
 
 pub invariant_of-self : goal.invariant_of-self
 invariant_of-self c =
@@ -32,3 +36,8 @@ returns-clause-rest c =
     rw (c.set_cell.ensures, c.get.ensures.value)
     (sym (take_cell c.self.inside.processes.items c.args.process c.args.fd))
     ∙ ap (λ (l : Listed). filter (λ d. not (is_fd c.args.process c.args.fd d)) l.fds) c.self.view_is
+
+pub returns-clause-listed : goal.returns-clause-listed
+returns-clause-listed c = are_listed c.set_cell.new.processes.items
+    (rw (c.set_cell.ensures, c.get.ensures.value)
+    (rows_with_cell c.self.inside.processes.items c.args.process c.args.fd _ c.self.invariant))

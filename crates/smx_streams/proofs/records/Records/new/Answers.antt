@@ -1,7 +1,7 @@
 use Rattle.std.proofs.Common.{refl}
 use Rattle.smx_streams.proofs.CopyLemmas.{has_rows}
 use Rattle.smx_streams.proofs.GridLemmas.{no_keys_lengths}
-use Rattle.smx_streams.proofs.RecordLemmas.{no_holds, no_hungs, no_opens, none_recorded}
+use Rattle.smx_streams.proofs.RecordLemmas.{are_sound, no_holds, no_hungs, no_opens, none_recorded}
 use Rattle.smx_streams.proofs.records.Records.new.Goals as goal
 
 pub invariant_of-result : goal.invariant_of-result
@@ -22,3 +22,8 @@ returns-clause-hungs c = λ s. rw c.in_ok-new_keys.ensures (no_hungs c.args.mino
 
 pub returns-clause-rows : goal.returns-clause-rows
 returns-clause-rows c = has_rows c.in_ok-new_keys.field-0.items c.new.result
+
+pub returns-clause-sound : goal.returns-clause-sound
+returns-clause-sound c = are_sound c.in_ok-new_keys.field-0.items c.new.result
+    (rw c.in_ok-new_keys.ensures
+    (none_recorded c.args.minors.now c.new.result c.requires (λ k. rw c.new.ensures.empty refl)))

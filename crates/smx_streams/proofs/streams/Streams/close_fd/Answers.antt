@@ -1,10 +1,12 @@
-use Rattle.std.proofs.Common.{sym, subst, refl, ◌∙◌, arith}
+use Rattle.std.proofs.Common.{sym, subst, refl, ◌<◌, ◌∙◌, arith}
+use Rattle.std.specs.List.{All}
 use Rattle.smx_model.specs.Configuration.{fd_before}
 use Rattle.smx_model.specs.Ordered.{IsRising}
-use Rattle.smx_streams.specs.StreamTables.{StreamTable, HasOneLess}
+use Rattle.smx_types.specs.declared.limits.TheConstants.{MAX_DESCRIPTORS}
+use Rattle.smx_streams.specs.StreamTables.{StreamTable, AreHungsSound, HasOneLess}
 use Rattle.smx_streams.specs.TableFields.{IsWhole, table_of}
 use Rattle.smx_streams.proofs.NameLemmas.{names_after_take, names_some}
-use Rattle.smx_streams.proofs.HungLemmas.{kept, left, same_number}
+use Rattle.smx_streams.proofs.HungLemmas.{are_sound, kept, left, same_number}
 use Rattle.smx_streams.proofs.WentLemmas.{went_is_named}
 use Rattle.smx_streams.proofs.streams.Streams.close_fd.Goals as goal
 use Rattle.smx_streams.proofs.streams.Streams.close_fd.Goals.{After-close}
@@ -13,15 +15,19 @@ pub close-requires : goal.close-requires
 close-requires c =
     let some = names_some c.in_ok-stream.stream c.args.process c.args.fd c.self.inside.descriptors.fds
     (sym c.in_ok-stream.ensures.stream) in
-    omega (arith, some, c.self.invariant c.in_ok-stream.stream)
+    omega (arith, some, c.self.invariant.named c.in_ok-stream.stream)
 
 -- the records count the remaining descriptors
 whole : (c : After-close) → IsWhole (record c.self.inside { descriptors = c.take.new.self; records = c.close.new.self })
-whole c s =
-    c.close.ensures.opens_now s
-    ∙ rw (c.in_ok-stream.ensures.rest)
-    (names_after_take c.self.inside.records.opens s c.in_ok-stream.stream c.args.process c.args.fd
-    c.self.inside.descriptors.fds c.self.invariant c.is_sound.ensures.rise (sym c.in_ok-stream.ensures.stream))
+whole c = record {
+  named = λ s. c.close.ensures.set.opens_now s
+      ∙ rw (c.in_ok-stream.ensures.rest)
+      (names_after_take c.self.inside.records.opens s c.in_ok-stream.stream c.args.process c.args.fd
+      c.self.inside.descriptors.fds c.self.invariant.named c.self.invariant.listed.rise
+      (sym c.in_ok-stream.ensures.stream));
+  listed = c.in_ok-stream.ensures.listed;
+  records = c.close.ensures.sound;
+}
 
 -- the table has one descriptor less
 less : (c : After-close) → HasOneLess c.args.self.now c.args.process c.args.fd
@@ -29,11 +35,12 @@ less : (c : After-close) → HasOneLess c.args.self.now c.args.process c.args.fd
 less c =
     let new = table_of (record c.self.inside { descriptors = c.take.new.self; records = c.close.new.self }) in
     subst (λ (t : StreamTable). HasOneLess t c.args.process c.args.fd new) c.self.view_is (record {
-      minors = c.close.ensures.minors;
+      minors = c.close.ensures.set.minors;
       fds = c.in_ok-stream.ensures.rest;
-      holds = λ x. c.close.ensures.holds_now x ∙ same_number c.self.inside.records.holds x c.in_ok-stream.stream _ refl;
+      holds = λ x. c.close.ensures.set.holds_now x
+          ∙ same_number c.self.inside.records.holds x c.in_ok-stream.stream _ refl;
       hungs = left c.self.inside.records c.close.new.self (table_of c.self.inside) new
-          c.in_ok-stream.stream _ _ c.close.ensures c.is_sound-2.ensures.hung (whole c) refl refl refl;
+          c.in_ok-stream.stream _ _ c.close.ensures.set c.self.invariant.records.hung (whole c).named refl refl refl;
     })
 
 pub returns-in_err-stream-clause-rest : goal.returns-in_err-stream-clause-rest
@@ -44,7 +51,8 @@ returns-in_err-stream-clause-rest c =
       fds = c.in_err-stream.ensures.rest;
       holds = λ x. refl;
       hungs = kept c.self.inside.records (table_of c.self.inside) new
-          c.is_sound-2.ensures.hung (λ x. rw c.in_err-stream.ensures.unchanged (c.self.invariant x)) refl refl refl;
+          c.self.invariant.records.hung
+          (λ x. rw c.in_err-stream.ensures.unchanged (c.self.invariant.named x)) refl refl refl;
     })
 
 pub invariant_of-self-2 : goal.invariant_of-self-2
@@ -56,5 +64,19 @@ returns-clause-rest c = less (goal.at.returns-clause-rest c).After-close
 pub returns-clause-went : goal.returns-clause-went
 returns-clause-went c = λ s was gone.
     went_is_named _ _ s _ _
-    (subst (λ (t : StreamTable). IsRising fd_before t.fds) c.self.view_is c.is_sound.ensures.rise)
+    (subst (λ (t : StreamTable). IsRising fd_before t.fds) c.self.view_is c.self.invariant.listed.rise)
     (less (goal.at.returns-clause-went c).After-close) was gone
+
+pub returns-in_err-stream-clause-sound : goal.returns-in_err-stream-clause-sound
+returns-in_err-stream-clause-sound c = subst AreHungsSound c.self.view_is (are_sound c.self.inside c.self.invariant)
+
+pub returns-in_err-stream-clause-numbered : goal.returns-in_err-stream-clause-numbered
+returns-in_err-stream-clause-numbered c =
+    subst (λ (t : StreamTable). All (λ d. d.fd < MAX_DESCRIPTORS) t.fds) c.self.view_is c.self.invariant.listed.numbered
+
+pub returns-clause-sound : goal.returns-clause-sound
+returns-clause-sound c = subst AreHungsSound c.self.view_is (are_sound c.self.inside c.self.invariant)
+
+pub returns-clause-numbered : goal.returns-clause-numbered
+returns-clause-numbered c =
+    subst (λ (t : StreamTable). All (λ d. d.fd < MAX_DESCRIPTORS) t.fds) c.self.view_is c.self.invariant.listed.numbered

@@ -1,11 +1,14 @@
-use Rattle.std.proofs.Common.{not, ap, refl, sym, arith, filter, ◌∙◌, List, inl, inr}
+use Rattle.std.proofs.Common.{not, ap, refl, sym, subst, arith, filter, ◌<◌, ◌∙◌, List, inl, inr}
 use Rattle.std.proofs.lemmas.Bool.{cases_Bool, false≢true}
+use Rattle.std.proofs.Math.Nat.{eq-zero-or-pos}
+use Rattle.std.specs.List.{All}
+use Rattle.smx_types.specs.declared.limits.TheConstants.{MAX_DESCRIPTORS}
 use Rattle.smx_types.specs.declared.stream.Descriptor.{Descriptor}
 use Rattle.smx_model.specs.Configuration.{is_fd}
-use Rattle.smx_streams.specs.StreamTables.{exists, stream_at}
+use Rattle.smx_streams.specs.StreamTables.{StreamTable, exists, stream_at}
 use Rattle.smx_streams.proofs.NextLemmas.{closed_none, closed_more, closed_all}
 use Rattle.smx_streams.proofs.WentLemmas.{at_next}
-use Rattle.smx_streams.proofs.HungLemmas.{all_pass, left_again}
+use Rattle.smx_streams.proofs.HungLemmas.{left_again}
 use Rattle.smx_streams.proofs.streams.Streams.close_process.Goals as goal
 
 pub loop-fd-init : goal.loop-fd-init
@@ -13,7 +16,9 @@ loop-fd-init c = record {
   minors = refl;
   holds = λ x. refl;
   fds = closed_none c.args.process c.args.self.now.fds;
-  hungs = all_pass (exists c.args.self.now) c.args.self.now.hungs c.is_sound.ensures.exist;
+  start = λ zero. refl;
+  hungs = λ some. absurd (omega (arith, some));
+  numbered = λ some. absurd (omega (arith, some));
   went = λ s there gone. absurd (false≢true (sym gone ∙ there));
 }
 
@@ -24,8 +29,18 @@ loop-fd-preserved c = record {
       ∙ ap (λ (ds : List Descriptor). filter (λ d. not (is_fd c.args.process c.loop-fd.fd d)) ds)
       c.loop-fd.invariant.fds ∙ closed_more c.args.process c.loop-fd.fd c.args.self.now.fds;
   holds = λ x. c.close_fd-closed.ensures.rest.holds x ∙ c.loop-fd.invariant.holds x;
-  hungs = c.close_fd-closed.ensures.rest.hungs ∙ left_again c.loop-fd.self c.close_fd-closed.new.self c.args.process
-      c.loop-fd.fd _ _ c.close_fd-closed.ensures.rest c.loop-fd.invariant.hungs;
+  start = λ zero. absurd (omega (arith, zero));
+  hungs = λ some. c.close_fd-closed.ensures.rest.hungs ∙ elim (eq-zero-or-pos c.loop-fd.fd) [
+    | inl zero ↦ ap (λ (t : StreamTable). filter (exists c.close_fd-closed.new.self) t.hungs)
+        (c.loop-fd.invariant.start zero)
+    | inr later ↦ left_again c.loop-fd.self c.close_fd-closed.new.self c.args.process c.loop-fd.fd _ _
+        c.close_fd-closed.ensures.rest (c.loop-fd.invariant.hungs later)
+  ];
+  numbered = λ some. elim (eq-zero-or-pos c.loop-fd.fd) [
+    | inl zero ↦ subst (λ (t : StreamTable). All (λ d. d.fd < MAX_DESCRIPTORS) t.fds)
+        (c.loop-fd.invariant.start zero) c.close_fd-closed.ensures.numbered
+    | inr later ↦ c.loop-fd.invariant.numbered later
+  ];
   went = λ s there gone. elim (cases_Bool (exists c.loop-fd.self s)) [
     | inl still ↦ (
       c.loop-fd.fd,
@@ -42,7 +57,7 @@ pub returns-clause-rest : goal.returns-clause-rest
 returns-clause-rest c = record {
   minors = c.loop-fd.invariant.minors;
   fds = c.loop-fd.invariant.fds ∙ closed_all c.args.process c.loop-fd.fd c.args.self.now.fds
-      (omega arith) c.is_listed.ensures.numbered;
+      (omega arith) (c.loop-fd.invariant.numbered (omega arith));
   holds = c.loop-fd.invariant.holds;
-  hungs = c.loop-fd.invariant.hungs;
+  hungs = c.loop-fd.invariant.hungs (omega arith);
 }

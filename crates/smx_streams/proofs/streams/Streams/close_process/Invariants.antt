@@ -1,4 +1,6 @@
 use Rattle.std.proofs.Common.{◌≡◌, ℕ, ◌<◌, true, false, Some, not, filter}
+use Rattle.std.specs.List.{All}
+use Rattle.smx_types.specs.declared.limits.TheConstants.{MAX_DESCRIPTORS}
 use Rattle.smx_types.specs.declared.stream.StreamId.{StreamId}
 use Rattle.smx_streams.specs.StreamTables.{exists, number_at, stream_at}
 use Rattle.smx_streams.proofs.NextLemmas.{is_closed}
@@ -9,7 +11,9 @@ invariant-loop-fd l = record {
   minors : l.self.minors ≡ l.initial.self.minors;
   fds : l.self.fds ≡ filter (λ d. not (is_closed l.process l.fd d)) l.initial.self.fds;
   holds : (x : StreamId) → number_at l.self.holds x ≡ number_at l.initial.self.holds x;
-  hungs : l.self.hungs ≡ filter (exists l.self) l.initial.self.hungs;
+  start : l.fd ≡ 0 → l.self ≡ l.initial.self;
+  hungs : 0 < l.fd → l.self.hungs ≡ filter (exists l.self) l.initial.self.hungs;
+  numbered : 0 < l.fd → All (λ d. d.fd < MAX_DESCRIPTORS) l.initial.self.fds;
   went : (s : StreamId) → exists l.initial.self s ≡ true → exists l.self s ≡ false
       → (n : ℕ) × (n < l.fd) × (stream_at l.initial.self.fds l.process n ≡ Some s);
 }

@@ -9,7 +9,8 @@ use Rattle.smx_streams.proofs.streams.Streams.hang.Goals as goal
 pub hang-requires : goal.hang-requires
 hang-requires c = counts_some _
     (used_exists (table_of c.self.inside) c.args.stream (number_at c.self.inside.records.opens c.args.stream)
-    (c.self.invariant c.args.stream) ∙ ap (λ (t : StreamTable). exists t c.args.stream) c.self.view_is ∙ c.requires)
+    (c.self.invariant.named c.args.stream) ∙ ap (λ (t : StreamTable). exists t c.args.stream) c.self.view_is
+    ∙ c.requires)
 
 pub returns : goal.returns
 returns c = subst
@@ -17,8 +18,8 @@ returns c = subst
     (table_of
     (record { alloc = c.self.inside.alloc; descriptors = c.self.inside.descriptors; records = c.hang.new.self })))
     c.self.view_is (record {
-      minors = c.hang.ensures.minors;
+      minors = c.hang.ensures.set.minors;
       fds = refl;
-      holds = λ x. c.hang.ensures.holds_now x ∙ same_number c.self.inside.records.holds x c.args.stream _ refl;
-      hungs = hung_now c.self.inside.records c.hang.new.self c.args.stream _ _ c.hang.ensures;
+      holds = λ x. c.hang.ensures.set.holds_now x ∙ same_number c.self.inside.records.holds x c.args.stream _ refl;
+      hungs = hung_now c.self.inside.records c.hang.new.self c.args.stream _ _ c.hang.ensures.set;
     })

@@ -9,17 +9,16 @@ use Rattle.smx_streams.proofs.streams.Streams.hold.Goals as goal
 pub hold-requires-clause-there : goal.hold-requires-clause-there
 hold-requires-clause-there c = counts_some _
     (used_exists (table_of c.self.inside) c.args.stream (number_at c.self.inside.records.opens c.args.stream)
-    (c.self.invariant c.args.stream) ∙ ap (λ (t : StreamTable). exists t c.args.stream) c.self.view_is
+    (c.self.invariant.named c.args.stream) ∙ ap (λ (t : StreamTable). exists t c.args.stream) c.self.view_is
     ∙ c.requires.there)
 
 pub returns-clause-rest : goal.returns-clause-rest
 returns-clause-rest c = subst
     (λ (t : StreamTable). HasHolds t c.args.stream (number_at t.holds c.args.stream + 1)
     (table_of (record c.self.inside { records = c.hold.new.self }))) c.self.view_is
-    (holds_changed c.self.inside c.hold.new.self c.args.stream _ c.hold.ensures
-    c.is_sound.ensures.hung c.self.invariant)
+    (holds_changed c.self.inside c.hold.new.self c.args.stream _ c.hold.ensures.set c.self.invariant)
 
 pub returns-clause-hungs : goal.returns-clause-hungs
 returns-clause-hungs c =
-    hung_still c.self.inside.records c.hold.new.self c.args.stream _ _ c.hold.ensures
+    hung_still c.self.inside.records c.hold.new.self c.args.stream _ _ c.hold.ensures.set
     ∙ ap (λ (t : StreamTable). t.hungs) c.self.view_is

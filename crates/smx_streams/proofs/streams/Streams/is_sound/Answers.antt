@@ -1,9 +1,7 @@
-use Rattle.std.proofs.Common.{refl, subst}
+use Rattle.std.proofs.Common.{subst}
 use Rattle.smx_streams.specs.StreamTables.{AreHungsSound}
-use Rattle.smx_streams.specs.TableFields.{table_of}
 use Rattle.smx_streams.proofs.HungLemmas.{are_sound}
 use Rattle.smx_streams.proofs.streams.Streams.is_sound.Goals as goal
 
 pub returns : goal.returns
-returns c = subst AreHungsSound c.self.view_is
-    (are_sound c.self.inside.records (table_of c.self.inside) c.is_sound.ensures.hung c.self.invariant refl refl)
+returns c = subst AreHungsSound c.self.view_is (are_sound c.self.inside c.self.invariant)

@@ -17,22 +17,25 @@ pub open-requires-clause-few : goal.open-requires-clause-few
 open-requires-clause-few c = omega (
   arith,
   names_few c.args.stream c.self.inside.descriptors.fds,
-  c.self.invariant c.args.stream,
-  c.is_sound.ensures.few,
+  c.self.invariant.named c.args.stream,
+  c.self.invariant.listed.few,
 )
 
 pub returns-in_err-open-clause-in_place : goal.returns-in_err-open-clause-in_place
 returns-in_err-open-clause-in_place c = λ n there.
     let some = names_some c.args.stream c.args.process n c.self.inside.descriptors.fds
     (subst (λ (t : StreamTable). stream_at t.fds c.args.process n ≡ Some c.args.stream) (sym c.self.view_is) there) in
-    absurd (false≢true (c.in_err-open.ensures.in_place (omega (arith, some, c.self.invariant c.args.stream))))
+    absurd (false≢true (c.in_err-open.ensures.in_place (omega (arith, some, c.self.invariant.named c.args.stream))))
 
 pub invariant_of-self-2 : goal.invariant_of-self-2
-invariant_of-self-2 c = λ s.
-    c.in_ok-open.ensures.ok.opens_now s
-    ∙ rw (c.put.ensures, c.in_ok-make_room.ensures.fds)
-    (names_after_put c.self.inside.records.opens s c.args.stream c.args.process c.args.fd c.self.inside.descriptors.fds
-    c.self.invariant)
+invariant_of-self-2 c = record {
+  named = λ s. c.in_ok-open.ensures.ok.opens_now s
+      ∙ rw (c.put.ensures.fds, c.in_ok-make_room.ensures.fds)
+      (names_after_put c.self.inside.records.opens s c.args.stream c.args.process c.args.fd
+      c.self.inside.descriptors.fds c.self.invariant.named);
+  listed = c.put.ensures.listed;
+  records = c.in_ok-open.ensures.sound;
+}
 
 pub returns-clause-ok : goal.returns-clause-ok
 returns-clause-ok c = subst
@@ -40,7 +43,7 @@ returns-clause-ok c = subst
     (table_of (record { alloc = c.self.inside.alloc; descriptors = c.put.new.self; records = c.open.new.self })))
     c.self.view_is (record {
       minors = c.in_ok-open.ensures.ok.minors;
-      fds = rw (c.put.ensures, c.in_ok-make_room.ensures.fds) refl;
+      fds = rw (c.put.ensures.fds, c.in_ok-make_room.ensures.fds) refl;
       holds = λ x. c.in_ok-open.ensures.ok.holds_now x ∙ same_number c.self.inside.records.holds x c.args.stream _ refl;
       hungs = hung_same c.self.inside.records c.open.new.self c.args.stream _ _
           c.in_ok-open.ensures.ok;
