@@ -1,12 +1,14 @@
 -- The value of tables, and their fields.
 use Rattle.smx_commands.specs.declared.tables.Tables.TheInside.{Inside}
-use Rattle.std.proofs.Common.{◌≡◌, ℕ, List, length, map, Ok, ap, subst, sym, ◌∙◌}
+use Rattle.std.proofs.Common.{◌≡◌, ℕ, List, length, map, Ok, ap, refl, subst, sym, ◌∙◌}
 use Rattle.smx_types.specs.declared.driver.DriverSpec.{DriverSpec}
 use Rattle.smx_types.specs.declared.reply.Reply.{Reply}
 use Rattle.smx_model.specs.Configuration.{Configuration}
 use Rattle.smx_model.specs.KeptConfigurations.{IsSound}
 use Rattle.smx_model.specs.Outcomes.{Outcome}
+use Rattle.smx_tables.specs.ExistingStreams.{TellsExisting}
 use Rattle.smx_tables.specs.ModelOfLists.{configuration_of}
+use Rattle.smx_tables.proofs.ExistingLemmas.{swept_is_linked, tells_existing}
 use Rattle.smx_commands.specs.Machine.{Machine}
 use Rattle.smx_commands.specs.ModelOfTables.{machine_of, TablesInvariant}
 
@@ -14,6 +16,21 @@ use Rattle.smx_commands.specs.ModelOfTables.{machine_of, TablesInvariant}
 pub sound_inside : (t : Inside) (m : Machine) → machine_of t ≡ m → IsSound m.drivers m.configuration
     → IsSound t.drivers.items (configuration_of t.lists)
 sound_inside t m e h = subst (λ (x : Machine). IsSound x.drivers x.configuration) (sym e) h
+
+-- if the value is sound, the table of streams has exactly the streams that exist
+pub tells_inside : (t : Inside) (m : Machine) → machine_of t ≡ m → TablesInvariant t
+    → IsSound m.drivers m.configuration → TellsExisting t.drivers.items (configuration_of t.lists) t.lists.streams
+tells_inside t m e h s =
+    let sound = sound_inside t m e s in
+    tells_existing t.drivers.items (configuration_of t.lists) t.lists.streams sound.links sound.known.controlling
+    refl h.kept.held (swept_is_linked t.drivers.items (configuration_of t.lists) t.lists.streams refl h.kept.held
+    sound.swept.links)
+
+-- the same over the drivers and the configuration of the value
+pub tells_seen : (t : Inside) (m : Machine) → machine_of t ≡ m → TablesInvariant t
+    → IsSound m.drivers m.configuration → TellsExisting m.drivers m.configuration t.lists.streams
+tells_seen t m e h s = subst (λ (x : Machine). TellsExisting x.drivers x.configuration t.lists.streams) e
+    (tells_inside t m e h s)
 
 -- an outcome accepted for the fields is accepted for the value
 pub accepted : (t : Inside) (m : Machine) (new : Configuration) (o : Machine → Outcome) (r : Reply) → machine_of t ≡ m

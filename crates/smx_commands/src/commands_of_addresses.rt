@@ -53,7 +53,6 @@ impl Tables {
     fn has_link(&self, driver: u8, id: u32) -> bool
         ensures { result ≡ list_any (λ l. (l.id == id) && (l.ctl.driver == driver)) self.now.configuration.links }
     {
-        self.lists.links.is_sound();
         match self.lists.links.get(id) {
             Some(link) => link.ctl.driver == driver,
             None => false,

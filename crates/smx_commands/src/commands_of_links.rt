@@ -5,17 +5,17 @@ ghost use Rattle.std.specs.List.{list_any};
 ghost use Rattle.smx_types.specs.declared.command.Which.TheVariants as which;
 ghost use Rattle.smx_model.specs.Commands.{link_outcome};
 ghost use Rattle.smx_model.specs.KeptConfigurations.{IsSound};
+ghost use Rattle.smx_model.specs.SoundLinks.{AreIdsRising};
 ghost use Rattle.smx_commands.specs.UnlinkTargets.{may_have_links, may_unlink, is_target, are_there, unlinks};
 ghost use Rattle.smx_commands.specs.Refinement.{HasOutcome, answer_of};
 
 use crate::answers::refuse;
 use crate::step_error::StepError;
-use crate::tables::{Tables, tells_existing};
+use crate::tables::Tables;
 use smx_links::LinkTable;
-use smx_tables::comparisons::same_stream;
+use smx_tables::comparisons::{is_persistent, same_stream};
 use smx_tables::driver_specs::is_mux;
 use smx_tables::removal::remove_links;
-use smx_tables::standing::is_persistent;
 use smx_tables::sweep::{reserve_for_sweep, sweep_and_reply};
 use smx_types::{Fault, Link, LinkKind, Process, Reply, StreamId, Which};
 use std::alloc::{AllocError, Global};
@@ -56,10 +56,10 @@ fn targets(
     kind: LinkKind,
     stream: StreamId,
 ) -> Result<Vec<u32>, AllocError>
-    requires { are_there which kind stream links.now.links ≡ Ok tt }
+    requires rise { AreIdsRising links.now.links links.now.next_id }
+    requires there { are_there which kind stream links.now.links ≡ Ok tt }
     ensures { IfOk result (λ v. v.items ≡ map (λ l. l.id) (filter (is_target which kind stream) links.now.links)) }
 {
-    links.is_sound();
     match which {
         Which::All => all_targets(alloc, links, kind, stream),
         Which::Id(id) => Vec::from_slice(alloc, &[id]),
@@ -70,7 +70,6 @@ fn targets(
 fn has_target(links: &LinkTable, id: u32, kind: LinkKind, stream: StreamId) -> bool
     ensures { result ≡ list_any (is_target (which.Id id) kind stream) links.now.links }
 {
-    links.is_sound();
     match links.get(id) {
         Some(link) => may_unlink(kind, stream, link),
         None => false,
@@ -143,12 +142,11 @@ impl Tables {
     {
         let stream = self.mux_stream(process, fd)?;
         self.check_targets(which, kind, stream)?;
-        tells_existing(&self.drivers, &self.lists);
-        self.lists.links.is_sound();
         let gone = targets(self.alloc, &self.lists.links, which, kind, stream)?;
-        let mut room = reserve_for_sweep(self.alloc, &self.lists, gone.len())?;
+        reserve_for_sweep(&mut self.room, &self.lists, gone.len())?;
+        let room = &mut self.room;
         remove_links(&mut self.lists, &gone, &mut room.touched, &mut room.dropped);
-        *reply = sweep_and_reply(&self.drivers, &mut self.lists, &mut room);
+        *reply = sweep_and_reply(&self.drivers, &mut self.lists, room);
         Ok(())
     }
 }

@@ -14,7 +14,7 @@ ghost use Rattle.smx_commands.specs.Sending.{is_at_end, may_send, read_from, rec
 
 use crate::answers::refuse;
 use crate::step_error::StepError;
-use crate::tables::{Tables, tells_existing};
+use crate::tables::Tables;
 use smx_tables::arrivals::{arrive, leave};
 use smx_tables::driver_specs::max_of;
 use smx_tables::dropped_messages::drop_sides;
@@ -163,10 +163,10 @@ impl Tables {
         ensures { Refines self.old self.new process (Flush fd sides) (answer_of result reply.new) }
     {
         let stream = self.live_stream(process, fd)?;
-        tells_existing(&self.drivers, &self.lists);
-        let mut room = reserve_for_sweep(self.alloc, &self.lists, 0)?;
+        let room = &mut self.room;
+        reserve_for_sweep(room, &self.lists, 0)?;
         drop_sides(&mut self.lists.queues, stream, sides, &mut room.dropped);
-        *reply = sweep_and_reply(&self.drivers, &mut self.lists, &mut room);
+        *reply = sweep_and_reply(&self.drivers, &mut self.lists, room);
         Ok(())
     }
 }

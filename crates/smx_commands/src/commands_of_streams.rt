@@ -16,9 +16,8 @@ ghost use Rattle.smx_commands.specs.Refinement.{HasOutcome, Refines, answer_of};
 
 use crate::answers::{done, refuse};
 use crate::step_error::StepError;
-use crate::tables::{Tables, tells_existing};
+use crate::tables::Tables;
 use smx_streams::Streams;
-use smx_tables::standing;
 use smx_tables::sweep::{reserve_for_sweep, sweep_and_reply};
 use smx_types::{Fault, MAX_DESCRIPTORS, Name, Process, Reply, StreamId};
 
@@ -58,7 +57,6 @@ impl Tables {
         ensures { Refines self.old self.new process (OpenClone name.now) (answer_of result reply.new) }
     {
         let driver = self.driver_of(name)?;
-        tells_existing(&self.drivers, &self.lists);
         let opened = self.lists.streams.open_clone(process, driver)?;
         *reply = fd_reply(opened);
         Ok(())
@@ -113,11 +111,10 @@ impl Tables {
         ensures { HasOutcome self.old self.new
             (closing self.old.drivers self.old.configuration process fd) (answer_of result reply.new) }
     {
-        tells_existing(&self.drivers, &self.lists);
-        let mut room = reserve_for_sweep(self.alloc, &self.lists, 1)?;
+        reserve_for_sweep(&mut self.room, &self.lists, 1)?;
         let _closed = self.lists.streams.close_fd(process, fd);
-        room.touched.push_reserved(stream);
-        *reply = sweep_and_reply(&self.drivers, &mut self.lists, &mut room);
+        self.room.touched.push_reserved(stream);
+        *reply = sweep_and_reply(&self.drivers, &mut self.lists, &mut self.room);
         Ok(())
     }
 
@@ -135,10 +132,7 @@ impl Tables {
         if self.lists.streams.is_last(process, fd) {
             return self.close_last(process, fd, stream, reply);
         }
-        tells_existing(&self.drivers, &self.lists);
-        self.lists.streams.is_sound();
         let _stays = self.lists.streams.close_fd(process, fd);
-        standing::tells_existing(&self.drivers, &self.lists);
         *reply = done(self.alloc);
         Ok(())
     }
@@ -147,11 +141,10 @@ impl Tables {
         requires { IsSound self.old.drivers self.old.configuration }
         ensures { Refines self.old self.new process CloseAll (answer_of result reply.new) }
     {
-        tells_existing(&self.drivers, &self.lists);
-        let mut room = reserve_for_sweep(self.alloc, &self.lists, MAX_DESCRIPTORS as usize)?;
-        touch_each(&self.lists.streams, process, &mut room.touched);
+        reserve_for_sweep(&mut self.room, &self.lists, MAX_DESCRIPTORS as usize)?;
+        touch_each(&self.lists.streams, process, &mut self.room.touched);
         self.lists.streams.close_process(process);
-        *reply = sweep_and_reply(&self.drivers, &mut self.lists, &mut room);
+        *reply = sweep_and_reply(&self.drivers, &mut self.lists, &mut self.room);
         Ok(())
     }
 
@@ -168,7 +161,6 @@ impl Tables {
         ensures in_place { result ≢ Err step_error.NoMemory }
     {
         let stream = self.leaf_stream(name, minor)?;
-        tells_existing(&self.drivers, &self.lists);
         self.lists.streams.hang(stream);
         *reply = done(self.alloc);
         Ok(())

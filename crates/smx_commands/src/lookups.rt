@@ -14,7 +14,7 @@ ghost use Rattle.smx_queues.specs.PlaceLists.{places_of};
 ghost use Rattle.smx_types.specs.declared.stream.Place.{Place as PlaceValue};
 
 use crate::answers::refuse;
-use crate::tables::{Tables, tells_existing};
+use crate::tables::Tables;
 use smx_tables::driver_specs::{driver_of, is_mux, minors_of};
 use smx_types::{Fault, Message, Name, Place, Process, StreamId};
 
@@ -95,7 +95,6 @@ impl Tables {
         requires { IsSound self.now.drivers self.now.configuration }
         ensures { result ≡ exists self.now.drivers self.now.configuration stream }
     {
-        tells_existing(&self.drivers, &self.lists);
         self.lists.streams.exists(stream)
     }
 

@@ -24,7 +24,6 @@ impl Tables {
             → slice_get (places_of self.old.drivers) to ≡ Some q → self.new
             ≡ record self.old { configuration = after_move_between self.old.drivers self.old.configuration p q } }
     {
-        self.lists.links.is_sound();
         self.lists.queues.move_front_at(from, to);
     }
 }

@@ -12,7 +12,6 @@ ghost use Rattle.smx_commands.specs.UnlinkTargets.{unlinks};
 
 use crate::step_error::StepError;
 use crate::tables::Tables;
-use smx_model::laws_of_steps::other_commands_drop_none;
 use smx_types::{
     Bytes, Command, Fault, LinkKind, Place, Process, Reply, Serials, Side, StreamId, Which,
 };
@@ -110,7 +109,6 @@ impl Tables {
             → delivered_by (step self.now.drivers self.now.configuration process command.now).1 ≡ []
             → result ≢ Err step_error.NoMemory }
     {
-        other_commands_drop_none();
         match command {
             Command::Read { fd } => {
                 let stream = self.free_stream(process, *fd)?;

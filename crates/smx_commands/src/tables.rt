@@ -3,16 +3,12 @@
 ghost use Rattle.std.specs.Prelude.{◌≡◌, IfOk};
 ghost use Rattle.smx_model.specs.Configuration.{empty};
 ghost use Rattle.smx_model.specs.DriverList.{IsDriverList};
-ghost use Rattle.smx_model.specs.KeptConfigurations.{IsSound};
-ghost use Rattle.smx_tables.specs.ExistingStreams.{TellsExisting};
-ghost use Rattle.smx_tables.specs.KeptHolds.{KeepsHolds};
-ghost use Rattle.smx_tables.specs.ModelOfLists.{configuration_of};
 
 use smx_links::LinkTable;
 use smx_queues::FlowTable;
 use smx_tables::copies::{copy_lists, empty_lists};
 use smx_tables::lists::Lists;
-use smx_tables::standing;
+use smx_tables::sweep::SweepReserve;
 use smx_types::{DriverSpec, NoMemory};
 use std::alloc::Global;
 use std::marker::Model;
@@ -24,6 +20,8 @@ pub struct Tables {
     pub(crate) alloc: Global,
     pub(crate) drivers: Vec<DriverSpec>,
     pub(crate) lists: Lists,
+    // Kept from one sweep to the next for its memory. No clause speaks of it.
+    pub(crate) room: SweepReserve,
 }
 
 impl Model for Tables {
@@ -38,16 +36,6 @@ impl Model for Tables {
     ghost invariant = { TablesInvariant };
 }
 
-// Ensures that the table of streams has exactly the streams that exist, if the configuration is sound. Does nothing at
-// run time.
-pub fn tells_existing(drivers: &[DriverSpec], lists: &Lists)
-    requires kept { KeepsHolds lists.now }
-    requires sound { IsSound drivers.now (configuration_of lists.now) }
-    ensures { TellsExisting drivers.now (configuration_of lists.now) lists.now.streams }
-{
-    standing::tells_existing(drivers, lists);
-}
-
 impl Tables {
     /// Makes empty tables over these drivers. Fails only if out of memory.
     pub fn new(alloc: Global, drivers: &[DriverSpec]) -> Result<Tables, NoMemory>
@@ -60,6 +48,7 @@ impl Tables {
             alloc,
             drivers,
             lists,
+            room: SweepReserve::new(alloc),
         })
     }
 
@@ -96,6 +85,7 @@ impl Tables {
             alloc,
             drivers,
             lists,
+            room: SweepReserve::new(alloc),
         })
     }
 }

@@ -32,6 +32,7 @@ impl Tables {
             alloc,
             drivers,
             lists,
+            ..
         } = self;
         let next_id = lists.links.next_id();
         let next_serial = lists.next_serial;

@@ -3,7 +3,7 @@ use Rattle.std.proofs.Common.{◌≡◌, ℕ, ◌≤◌, Bool, true, false, List
 use Rattle.std.proofs.Common.{inr}
 use Rattle.std.specs.Prelude.{nat_lt}
 use Rattle.std.specs.List.{list_all}
-use Rattle.std.proofs.lemmas.Bool.{and_from, or_cases, or_left, or_right}
+use Rattle.std.proofs.lemmas.Bool.{cases_Bool, and_from, or_cases, or_left, or_right, false≢true}
 use Rattle.std.proofs.lemmas.Bool.Decides.{nat_tests}
 use Rattle.smx_types.specs.declared.stream.Descriptor.{Descriptor}
 use Rattle.smx_types.specs.declared.stream.StreamId.{StreamId}
@@ -13,8 +13,8 @@ use Rattle.smx_model.specs.Standing.{is_named}
 use Rattle.smx_streams.specs.StreamTables.{StreamTable, AreHungsSound, HasHolds, LeavesHungs, number_at}
 use Rattle.smx_streams.specs.StreamTables.{exists as is_there}
 use Rattle.smx_tables.proofs.AboveLemmas.{stream_is, stream_self}
--- a test that all items pass keeps all; and a stricter test keeps the same after a weaker one as alone
-pub use Rattle.smx_streams.proofs.HungLemmas.{all_pass, twice as stricter}
+-- a stricter test keeps the same after a weaker one as alone
+pub use Rattle.smx_streams.proofs.HungLemmas.{twice as stricter}
 
 -- ---- tests of streams
 
@@ -25,7 +25,28 @@ pass_all p [] h = refl
 pass_all p (x ∷ xs) h =
     and_from _ _ (h x (or_left _ _ (stream_self x))) (pass_all p xs (λ y t. h y (or_right (same_stream x y) _ t)))
 
+-- a test that each hung-up stream passes removes none
+pub all_pass : (p : StreamId → Bool) (xs : List StreamId) → ((x : StreamId) → is_hung xs x ≡ true → p x ≡ true)
+    → xs ≡ filter p xs
+all_pass p [] h = refl
+all_pass p (x ∷ xs) h = rw (h x (or_left _ _ (stream_self x)))
+    (ap (λ (ys : List StreamId). x ∷ ys) (all_pass p xs (λ y t. h y (or_right (same_stream x y) _ t))))
+
+-- a stream that is left by a test passes it
+passed : (p : StreamId → Bool) (xs : List StreamId) (s : StreamId) → is_hung (filter p xs) s ≡ true → p s ≡ true
+passed p [] s h = absurd (false≢true h)
+passed p (x ∷ xs) s h = elim (cases_Bool (p x)) [
+  | inl keeps ↦ elim (or_cases (same_stream x s) (is_hung (filter p xs) s) (rw keeps at h))
+      [ inl same ↦ ap p (sym (stream_is x s same)) ∙ keeps | inr other ↦ passed p xs s other ]
+  | inr drops ↦ passed p xs s (rw drops at h)
+]
+
 -- ---- tables of streams
+
+-- the hung-up streams that are left are in the table
+pub left_there : (t u : StreamTable) → LeavesHungs t u → (s : StreamId) → is_hung u.hungs s ≡ true
+    → is_there u s ≡ true
+left_there t u left s h = passed (is_there u) t.hungs s (sym (ap (λ (hs : List StreamId). is_hung hs s) left) ∙ h)
 
 -- if nothing changes, no hung-up stream is lost
 pub none_went : (t : StreamTable) → AreHungsSound t → LeavesHungs t t

@@ -1,8 +1,8 @@
 -- The streams that a change touches: those that ceased to exist, and what is left of the others.
-use Rattle.std.proofs.Common.{◌≡◌, ℕ, suc, ◌+◌, ◌≤◌, Bool, true, ◌||◌, not, List, [], ◌∷◌, ◌++◌, length, map}
+use Rattle.std.proofs.Common.{◌≡◌, ℕ, suc, ◌+◌, ◌≤◌, Bool, true, false, ◌||◌, not, List, [], ◌∷◌, ◌++◌, length, map}
 use Rattle.std.proofs.Common.{filter, get_or, refl, sym, ap, ◌∙◌, arith, inl, inr}
 use Rattle.std.specs.List.{All, list_any, list_all}
-use Rattle.std.proofs.lemmas.Bool.{cases_Bool, and_parts, or_cases, or_left, or_right, false≢true}
+use Rattle.std.proofs.lemmas.Bool.{cases_Bool, and_parts, or_cases, or_left, or_right, false≢true, not-true}
 use Rattle.std.proofs.lemmas.List.{length-map}
 use Rattle.std.proofs.lemmas.Bool.Decides.{nat_tests}
 use Rattle.smx_types.specs.declared.driver.DriverSpec.{DriverSpec}
@@ -16,7 +16,7 @@ use Rattle.smx_model.specs.Removal.{without_links, without_queues_at}
 use Rattle.smx_model.specs.Standing.{exists, is_persistent}
 use Rattle.smx_model.specs.Swept.{IsSwept}
 use Rattle.smx_streams.specs.StreamTables.{StreamTable, HasHolds, exists as is_there}
-use Rattle.smx_tables.specs.ExistingStreams.{AreHeld, TellsExisting, holds_below, is_held}
+use Rattle.smx_tables.specs.ExistingStreams.{AreHeld, TellsExisting, holds_below, is_held, is_loose}
 use Rattle.smx_tables.specs.TouchedStreams.{IsCascade, IsTouched, is_there_or_touched, is_watched}
 use Rattle.smx_tables.proofs.AboveLemmas.{stream_is}
 use Rattle.smx_tables.proofs.ExistingLemmas.{all_fewer, all_weaker, held_is_below, holds_few, linked_weaker}
@@ -60,6 +60,21 @@ swept_still drivers c t ss told all h hung = record {
 } where
   there : (s : StreamId) → is_there_or_touched t ss s ≡ true → exists drivers c s ≡ true
   there s o = sym (told s) ∙ touched_there t ss s all o
+
+-- no link is loose
+pub none_loose_still : (t : StreamTable) (ss : List StreamId) (ls : List Link) → list_all (is_there t) ss ≡ true
+    → list_all (is_watched t ss) ls ≡ true → list_any (is_loose t) ls ≡ false
+none_loose_still t ss [] all h = refl
+none_loose_still t ss (l ∷ ls) all h =
+    let p = and_parts (is_watched t ss l) (list_all (is_watched t ss) ls) h in
+    let tight : is_loose t l ≡ false =
+    elim (or_cases (not (is_loose t l)) (list_any (same_stream l.ctl) ss) p.0) [
+      | inl quiet ↦ not-true _ quiet
+      | inr listed ↦
+          let there : is_there t l.ctl ≡ true = touched_there t ss l.ctl all (or_right (is_there t l.ctl) _ listed) in
+          grind (arith, nat_tests)
+    ] in
+    rw tight (none_loose_still t ss ls all p.1)
 
 -- ---- streams that were in the table are in it or touched
 

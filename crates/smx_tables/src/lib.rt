@@ -11,5 +11,4 @@ pub mod lists;
 mod orphans;
 pub mod removal;
 pub mod show;
-pub mod standing;
 pub mod sweep;

@@ -5,13 +5,12 @@ ghost use Rattle.std.specs.Prelude.{◌≡◌, ℕ, ◌+◌, ◌≤◌, ◌++◌
 ghost use Rattle.std.specs.List.{list_any};
 ghost use Rattle.smx_types.specs.declared.stream.StreamId.{StreamId};
 ghost use Rattle.smx_model.specs.Configuration.{same_stream};
-ghost use Rattle.smx_streams.specs.StreamTables.{LeavesHungs, exists as is_there};
-ghost use Rattle.smx_links.specs.LinkLists.{is_upper};
+ghost use Rattle.smx_streams.specs.StreamTables.{AreHungsSound, LeavesHungs, exists as is_there};
+ghost use Rattle.smx_links.specs.LinkLists.{is_upper, IsLinkList};
 ghost use Rattle.smx_tables.specs.ExistingStreams.{is_held, is_loose, holds_below, IsReleasing};
 ghost use Rattle.smx_tables.specs.TouchedStreams.{is_there_or_touched, AreReleased, IsCascade};
 
-use crate::comparisons::same_stream;
-use crate::standing::is_persistent;
+use crate::comparisons::{is_persistent, same_stream};
 use smx_links::LinkTable;
 use smx_streams::Streams;
 use smx_types::{Link, StreamId};
@@ -40,20 +39,24 @@ fn is_loose_by(streams: &Streams, ctl: StreamId, link: &Link) -> bool
 // Returns whether this stream may be the controlling stream of a loose link. That is so if the stream is not in the
 // table, and its driver is the upper driver of some link.
 fn may_have_loose(streams: &Streams, links: &LinkTable, ctl: StreamId) -> bool
-    ensures { result ≡ (not (is_there streams.now ctl) && is_upper links.now.links ctl.driver) }
+    ensures answer { result ≡ (not (is_there streams.now ctl) && is_upper links.now.links ctl.driver) }
+    ensures sound { AreHungsSound streams.now }
 {
     !streams.exists(ctl) && links.is_upper(ctl.driver)
 }
 
 // Releases the lower streams of the loose links whose controlling stream is `ctl`. Adds these lower streams to
-// `touched`, and the ids of these links to `gone`.
+// `touched`, and the ids of these links to `gone`. The caller also passes the list of all links.
 fn release_below(
     streams: &mut Streams,
     links: &LinkTable,
+    listed: &[Link],
     ctl: StreamId,
     touched: &mut Vec<StreamId>,
     gone: &mut Vec<u32>,
 )
+    requires sound { IsLinkList links.now }
+    requires listed { listed.now ≡ links.now.links }
     requires cascade { IsCascade links.now.links streams.old (touched.old.items ++ ctl ∷ [])
         (vec_capacity touched.old) }
     requires gone { AreReleased links.now.links streams.old gone.old.items (vec_capacity gone.old) }
@@ -68,12 +71,10 @@ fn release_below(
         → is_there_or_touched streams.new touched.new.items s ≡ true }
     ensures gone { AreReleased links.now.links streams.new gone.new.items (vec_capacity gone.new) }
 {
-    links.is_sound();
-    streams.is_sound();
     if !may_have_loose(streams, links, ctl) {
         return;
     }
-    for link in links.links() {
+    for link in listed {
         if is_loose_by(streams, ctl, link) {
             let _gone = streams.release(link.lower);
             touched.push_reserved(link.lower);
@@ -83,7 +84,8 @@ fn release_below(
 }
 
 // Calls `release_below` for each stream in `touched`, and for each stream that these calls add to it. Afterwards no
-// link is loose. Moves the examined streams from `touched` to `seen`, which has room for them.
+// link is loose. Moves the examined streams from `touched` to `seen`, which has room for them. If the table of streams
+// has each stream of `touched`, no link is loose, and no stream is examined.
 pub fn release_orphans(
     streams: &mut Streams,
     links: &LinkTable,
@@ -104,10 +106,14 @@ pub fn release_orphans(
     ensures seen { (s : StreamId) → is_there_or_touched streams.old touched.old.items s ≡ true
         → is_there_or_touched streams.new seen.new.items s ≡ true }
     ensures gone { AreReleased links.now.links streams.new gone.new.items (vec_capacity gone.new) }
+    ensures sound { IsLinkList links.now }
 {
-    streams.is_sound();
+    let listed = links.links();
+    if streams.has_each(touched.as_slice()) {
+        return;
+    }
     while let Some(stream) = touched.pop() {
         seen.push_reserved(stream);
-        release_below(streams, links, stream, touched, gone);
+        release_below(streams, links, listed, stream, touched, gone);
     }
 }

@@ -27,7 +27,6 @@ fn drop_below(queues: &mut FlowTable, links: &LinkTable, gone: &[u32], dropped: 
     ensures { EmptiesPlaces (is_read_below_listed links.now.links gone.now)
         queues.old dropped.old queues.new dropped.new }
 {
-    links.is_sound();
     for id in gone {
         if let Some(link) = links.get(*id) {
             let place = Place {
@@ -44,7 +43,6 @@ fn release_held(streams: &mut Streams, stream: StreamId)
     requires { number_at streams.old.holds stream ≤ 1 }
     ensures { HasHolds streams.old stream 0 streams.new }
 {
-    streams.is_sound();
     if streams.holds_of(stream) > 0 {
         let _gone = streams.release(stream);
     }
@@ -63,7 +61,6 @@ fn release_each(streams: &mut Streams, links: &LinkTable, gone: &[u32], touched:
     ensures few { length touched.new.items ≤ length touched.old.items + length gone.now }
     ensures capacity { vec_capacity touched.new ≡ vec_capacity touched.old }
 {
-    links.is_sound();
     streams.is_sound();
     for id in gone {
         if let Some(link) = links.get(*id) {
@@ -88,7 +85,6 @@ pub fn drop_links(lists: &mut Lists, gone: &[u32], dropped: &mut Vec<u32>)
     if gone.is_empty() {
         return;
     }
-    lists.links.is_sound();
     lists.routes.unroute_links(gone);
     drop_below(&mut lists.queues, &lists.links, gone, dropped);
     lists.links.remove_each(gone);

@@ -5,8 +5,8 @@ use Rattle.smx_commands.proofs.commands_of_links.has_target.Goals as goal
 
 pub returns-in-Some : goal.returns-in-Some
 returns-in-Some c = c.may_unlink.ensures ∙ some_with_id (may_unlink c.args.kind c.args.stream) c.args.id
-    c.args.links.now.links c.in-Some.link.now c.is_sound.ensures.ids.rise c.in-Some.ensures
+    c.args.links.now.links c.in-Some.link.now c.get.ensures.sound.ids.rise c.in-Some.ensures.value
 
 pub returns-in-None : goal.returns-in-None
 returns-in-None c = none_with_id (may_unlink c.args.kind c.args.stream) c.args.id c.args.links.now.links
-    c.is_sound.ensures.ids.rise c.in-None.ensures
+    c.get.ensures.sound.ids.rise c.in-None.ensures.value

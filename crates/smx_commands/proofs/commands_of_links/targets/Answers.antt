@@ -13,5 +13,5 @@ returns-in-Id c =
     let t = may_unlink c.args.kind c.args.stream in
     let links = c.args.links.now.links in
     let there = is_there NoLink (list_any (λ l. eqb l.id c.in-Id.id && t l) links)
-    (subst (λ (w : Which). are_there w c.args.kind c.args.stream links ≡ Ok tt) c.in-Id.is c.requires) in
-    rw c.in-Id.is (rw (target_of_id t c.in-Id.id links c.is_sound.ensures.ids.rise there) c.from_slice.ensures.items)
+    (subst (λ (w : Which). are_there w c.args.kind c.args.stream links ≡ Ok tt) c.in-Id.is c.requires.there) in
+    rw c.in-Id.is (rw (target_of_id t c.in-Id.id links c.requires.rise.rise there) c.from_slice.ensures.items)

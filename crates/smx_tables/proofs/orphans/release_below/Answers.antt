@@ -18,47 +18,47 @@ pub returns-then-not-may_have_loose-clause-cascade : goal.returns-then-not-may_h
 returns-then-not-may_have_loose-clause-cascade c = record {
   releasing = c.requires.cascade.releasing;
   watched = none_by c.args.streams.now c.args.touched.now.items c.args.ctl c.args.links.now.links
-      (sym c.may_have_loose.ensures ∙ c.if-not-may_have_loose.true) c.requires.cascade.watched;
+      (sym c.may_have_loose.ensures.answer ∙ c.if-not-may_have_loose.true) c.requires.cascade.watched;
   enough = omega (arith, c.requires.cascade.enough, length-append c.args.touched.now.items (c.args.ctl ∷ []));
 }
 
 pub returns-then-not-may_have_loose-clause-hungs : goal.returns-then-not-may_have_loose-clause-hungs
-returns-then-not-may_have_loose-clause-hungs c = none_went c.args.streams.now c.is_sound-2.ensures
+returns-then-not-may_have_loose-clause-hungs c = none_went c.args.streams.now c.may_have_loose.ensures.sound
 
 pub release-gone-requires : goal.release-gone-requires
 release-gone-requires c =
-    let link = link_at c.links-link-items.result.now c.loop-link.link-index in
+    let link = link_at c.args.listed.now c.loop-link.link-index in
     loose_held c.loop-link.streams link
     (and_parts (same_stream link.ctl c.args.ctl) (is_loose c.loop-link.streams link)
     (sym c.is_loose_by.ensures ∙ c.if-is_loose_by.true)).1
 
 pub push_reserved-requires : goal.push_reserved-requires
 push_reserved-requires c =
-    let link = link_at c.links-link-items.result.now c.loop-link.link-index in
+    let link = link_at c.args.listed.now c.loop-link.link-index in
     let loose = (and_parts (same_stream link.ctl c.args.ctl)
     (is_loose c.loop-link.streams link) (sym c.is_loose_by.ensures ∙ c.if-is_loose_by.true)).1 in
     let less = less_this c.args.links.now.links c.loop-link.link-index link c.loop-link.streams
     c.release-gone.new.self
-    (one_at c.args.links.now.links c.links-link-items.result.now c.loop-link.link-index
-    c.links-link-items.ensures (omega arith)) loose c.release-gone.ensures.rest in
+    (one_at c.args.links.now.links c.args.listed.now c.loop-link.link-index
+    c.requires.listed (omega arith)) loose c.release-gone.ensures.rest in
     omega (arith, less, c.loop-link.invariant.enough)
 
 pub push_reserved-requires-then-is_loose_by : goal.push_reserved-requires-then-is_loose_by
 push_reserved-requires-then-is_loose_by c =
-    let link = link_at c.links-link-items.result.now c.loop-link.link-index in
+    let link = link_at c.args.listed.now c.loop-link.link-index in
     let loose = (and_parts (same_stream link.ctl c.args.ctl)
     (is_loose c.loop-link.streams link) (sym c.is_loose_by.ensures ∙ c.if-is_loose_by.true)).1 in
     let less = less_this c.args.links.now.links c.loop-link.link-index link c.loop-link.streams
     c.release-gone.new.self
-    (one_at c.args.links.now.links c.links-link-items.result.now c.loop-link.link-index
-    c.links-link-items.ensures (omega arith)) loose c.release-gone.ensures.rest in
+    (one_at c.args.links.now.links c.args.listed.now c.loop-link.link-index
+    c.requires.listed (omega arith)) loose c.release-gone.ensures.rest in
     omega (arith, less, c.loop-link.invariant.gone.enough)
 
 pub loop-link-init : goal.loop-link-init
 loop-link-init c = record {
   fds = refl;
   minors = refl;
-  hungs = none_went c.args.streams.now c.is_sound-2.ensures;
+  hungs = none_went c.args.streams.now c.may_have_loose.ensures.sound;
   there = λ s h. h;
   releasing = c.requires.cascade.releasing;
   all = c.requires.cascade.watched;
@@ -71,13 +71,13 @@ loop-link-init c = record {
 
 pub loop-link-preserved : goal.loop-link-preserved
 loop-link-preserved c =
-    let link = link_at c.links-link-items.result.now c.loop-link.link-index in
+    let link = link_at c.args.listed.now c.loop-link.link-index in
     elim c.if-is_loose_by.branch [
       | then-is_loose_by w ↦
           let loose = (and_parts (same_stream link.ctl c.args.ctl)
           (is_loose c.loop-link.streams link) (sym c.is_loose_by.ensures ∙ w.if-is_loose_by.true)).1 in
-          let at = one_at c.args.links.now.links c.links-link-items.result.now c.loop-link.link-index
-          c.links-link-items.ensures (omega arith) in
+          let at = one_at c.args.links.now.links c.args.listed.now c.loop-link.link-index
+          c.requires.listed (omega arith) in
           let less = less_this c.args.links.now.links c.loop-link.link-index link c.loop-link.streams
           w.release-gone.new.self at loose w.release-gone.ensures.rest in
           let pushed = w.push_reserved.ensures.items in
@@ -95,7 +95,7 @@ loop-link-preserved c =
                 (there_before c.loop-link.streams w.release-gone.new.self link.lower x _
                 w.release-gone.ensures.rest (omega arith) h);
             releasing = λ n. releases_this c.args.links.now.links n c.loop-link.link-index link c.loop-link.streams
-                w.release-gone.new.self c.is_sound.ensures.sound.lowers at loose w.release-gone.ensures.rest
+                w.release-gone.new.self c.requires.sound.sound.lowers at loose w.release-gone.ensures.rest
                 (c.loop-link.invariant.releasing n);
             all = rw pushed (all_watch_on c.loop-link.streams w.release-gone.new.self link.lower
                 (c.loop-link.touched.items ++ c.args.ctl ∷ [])
@@ -127,12 +127,12 @@ loop-link-preserved c =
                 (sym w.push_reserved-then-is_loose_by.ensures.capacity)
                 (one_released c.args.links.now.links c.loop-link.link-index _ link c.loop-link.streams
                 w.release-gone.new.self c.loop-link.gone.items w.push_reserved-then-is_loose_by.new.self.items
-                c.is_sound.ensures.sound.lowers at loose (c.loop-link.invariant.releasing 0) w.release-gone.ensures.rest
+                c.requires.sound.sound.lowers at loose (c.loop-link.invariant.releasing 0) w.release-gone.ensures.rest
                 w.push_reserved-then-is_loose_by.ensures.items less c.loop-link.invariant.gone);
           })
       | else-is_loose_by w ↦
-          let at = one_at c.args.links.now.links c.links-link-items.result.now c.loop-link.link-index
-          c.links-link-items.ensures (omega arith) in
+          let at = one_at c.args.links.now.links c.args.listed.now c.loop-link.link-index
+          c.requires.listed (omega arith) in
           rw (w.streams-is, w.touched-is, w.gone-is) (record {
             fds = c.loop-link.invariant.fds;
             minors = c.loop-link.invariant.minors;
@@ -158,6 +158,6 @@ pub returns-clause-cascade : goal.returns-clause-cascade
 returns-clause-cascade c = record {
   releasing = c.loop-link.invariant.releasing;
   watched = all_in_all (is_watched c.loop-link.streams c.loop-link.touched.items) c.args.links.now.links
-      c.loop-link.link-index (omega (arith, ap length c.links-link-items.ensures)) c.loop-link.invariant.so_far;
+      c.loop-link.link-index (omega (arith, ap length c.requires.listed)) c.loop-link.invariant.so_far;
   enough = c.loop-link.invariant.enough;
 }

@@ -5,11 +5,27 @@ use Rattle.std.specs.List.{list_all}
 use Rattle.std.specs.Prelude.{vec_capacity}
 use Rattle.std.proofs.lemmas.List.{nil_from_length}
 use Rattle.smx_types.specs.declared.stream.StreamId.{StreamId}
+use Rattle.smx_streams.specs.StreamTables.{exists as is_there}
 use Rattle.smx_tables.specs.TouchedStreams.{IsCascade, is_watched}
 use Rattle.smx_tables.proofs.HungLemmas.{left_twice, none_went}
-use Rattle.smx_tables.proofs.TouchLemmas.{all_seen, seen_more}
+use Rattle.smx_tables.proofs.TouchLemmas.{all_seen, none_loose_still, seen_more, touched_there}
 use Rattle.smx_tables.proofs.WatchLemmas.{none_loose}
 use Rattle.smx_tables.proofs.orphans.release_orphans.Goals as goal
+
+pub returns-then-has_each-clause-hungs : goal.returns-then-has_each-clause-hungs
+returns-then-has_each-clause-hungs c = none_went c.args.streams.now c.has_each.ensures.sound
+
+pub returns-then-has_each-clause-none : goal.returns-then-has_each-clause-none
+returns-then-has_each-clause-none c = none_loose_still c.args.streams.now c.args.touched.now.items
+    c.args.links.now.links
+    (ap (list_all (is_there c.args.streams.now)) (sym c.as_slice.ensures.value) ∙ sym c.has_each.ensures.answer
+    ∙ c.if-has_each.true)
+    c.requires.cascade.watched
+
+pub returns-then-has_each-clause-seen : goal.returns-then-has_each-clause-seen
+returns-then-has_each-clause-seen c = λ s h. or_left _ _ (touched_there c.args.streams.now c.args.touched.now.items s
+    (ap (list_all (is_there c.args.streams.now)) (sym c.as_slice.ensures.value) ∙ sym c.has_each.ensures.answer
+    ∙ c.if-has_each.true) h)
 
 pub release_below-requires-clause-cascade : goal.release_below-requires-clause-cascade
 release_below-requires-clause-cascade c =
@@ -22,7 +38,7 @@ pub loop-stream-init : goal.loop-stream-init
 loop-stream-init c = record {
   fds = refl;
   minors = refl;
-  hungs = none_went c.args.streams.now c.is_sound.ensures;
+  hungs = none_went c.args.streams.now c.has_each.ensures.sound;
   cascade = c.requires.cascade;
   room = c.requires.room;
   seen = λ s h. or_left _ _ h;

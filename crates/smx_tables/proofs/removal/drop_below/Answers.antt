@@ -28,12 +28,13 @@ loop-id-preserved c =
           (λ p. same_place p (record { stream = w.in-Some.link.now.lower; side = side.Read }))
           (is_read_below_listed links now) _ _ _ _ _ _
           (λ p. ap (λ (ids : List ℕ). is_read_below_listed links ids p) more
-          ∙ read_more links so_far _ w.in-Some.link.now c.is_sound.ensures.sound.lowers c.is_sound.ensures.ids.rise
-          (sym w.in-Some.ensures) p) c.loop-id.invariant w.drop_at.ensures)
+          ∙ read_more links so_far _ w.in-Some.link.now w.in-Some.ensures.sound.sound.lowers
+          w.in-Some.ensures.sound.ids.rise
+          (sym w.in-Some.ensures.value) p) c.loop-id.invariant w.drop_at.ensures)
       | in_default w ↦ rw (w.queues-is, w.dropped-is)
           (empties_alike (is_read_below_listed links so_far) (is_read_below_listed links now) _ _ _ _
           (λ p. ap (λ (ids : List ℕ). is_read_below_listed links ids p) more
-          ∙ read_none links so_far _ (sym w.in_default.ensures) p) c.loop-id.invariant)
+          ∙ read_none links so_far _ (sym w.in_default.ensures.value) p) c.loop-id.invariant)
     ]
 
 pub returns : goal.returns

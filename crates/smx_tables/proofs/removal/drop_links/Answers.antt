@@ -15,8 +15,8 @@ returns-then-is_empty-clause-links c = none_listed c.args.gone.now c.args.lists.
 pub returns-clause-value : goal.returns-clause-value
 returns-clause-value c = λ goes e.
     rw (c.unroute_links.ensures, c.drop_below.ensures.flow, c.drop_below.ensures.fulls, c.remove_each.ensures.rest)
-    (removed_is (configuration_of c.args.lists.now) c.args.gone.now c.is_sound.ensures.sound.lowers
-    c.is_sound.ensures.ids.rise goes e)
+    (removed_is (configuration_of c.args.lists.now) c.args.gone.now c.remove_each.ensures.sound.sound.lowers
+    c.remove_each.ensures.sound.ids.rise goes e)
 
 pub returns-clause-links : goal.returns-clause-links
 returns-clause-links c = ap (λ (t : LinkList). t.links) c.remove_each.ensures.rest

@@ -15,7 +15,7 @@ loop-id-init c = record {
   held = released_at_first c.args.links.now.links c.args.streams.now c.requires.held;
   fds = refl;
   minors = refl;
-  hungs = none_went c.args.streams.now c.is_sound-2.ensures;
+  hungs = none_went c.args.streams.now c.is_sound.ensures;
   touched = λ s there. or_left _ _ there;
   few = omega arith;
   capacity = refl;
@@ -31,8 +31,9 @@ loop-id-preserved c = elim c.match-get.branch [
         held = subst (λ (ids : List ℕ). AreHeld (others_of ids c.args.links.now.links) w.release_held.new.streams)
             (sym (take_more c.args.gone.now c.loop-id.id-index 0 (omega arith)))
             (released_more c.args.links.now.links (take c.loop-id.id-index c.args.gone.now) _ w.in-Some.link.now
-            c.loop-id.streams w.release_held.new.streams c.is_sound.ensures.sound.lowers c.is_sound.ensures.ids.rise
-            (sym w.in-Some.ensures) c.loop-id.invariant.held w.release_held.ensures);
+            c.loop-id.streams w.release_held.new.streams w.in-Some.ensures.sound.sound.lowers
+            w.in-Some.ensures.sound.ids.rise
+            (sym w.in-Some.ensures.value) c.loop-id.invariant.held w.release_held.ensures);
         fds = w.release_held.ensures.fds ∙ c.loop-id.invariant.fds;
         minors = w.release_held.ensures.minors ∙ c.loop-id.invariant.minors;
         hungs = left_twice c.args.streams.now c.loop-id.streams w.release_held.new.streams c.loop-id.invariant.hungs
@@ -49,7 +50,7 @@ loop-id-preserved c = elim c.match-get.branch [
     held = subst (λ (ids : List ℕ). AreHeld (others_of ids c.args.links.now.links) c.loop-id.streams)
         (sym (take_more c.args.gone.now c.loop-id.id-index 0 (omega arith)))
         (released_none c.args.links.now.links (take c.loop-id.id-index c.args.gone.now) _ c.loop-id.streams
-        (sym w.in_default.ensures) c.loop-id.invariant.held);
+        (sym w.in_default.ensures.value) c.loop-id.invariant.held);
     fds = c.loop-id.invariant.fds;
     minors = c.loop-id.invariant.minors;
     hungs = c.loop-id.invariant.hungs;

@@ -41,7 +41,7 @@ returns-clause-value c = λ drivers told.
     c.loop-stream.invariant.value
     ∙ ap (λ (ss : List StreamId). without_streams (configuration_of old) (is_dead old.streams ss)) seen
     ∙ all_gone drivers (configuration_of old) old.streams c.args.seen.now told c.requires.seen
-    c.is_sound.ensures.exist
+    c.requires.hungs
 
 pub returns-clause-kept : goal.returns-clause-kept
 returns-clause-kept c = record {

@@ -4,12 +4,15 @@ use Rattle.std.specs.List.{All, list_all, list_any}
 use Rattle.std.proofs.lemmas.List.Elements.{All-filter}
 use Rattle.smx_types.specs.declared.link.Link.{Link}
 use Rattle.smx_model.specs.KnownStreams.{IsKnown}
+use Rattle.smx_model.specs.SoundLinks.{AreLinksSound}
 use Rattle.smx_model.specs.Standing.{is_persistent}
+use Rattle.smx_model.proofs.SoundLemmas.{sound_filter}
 use Rattle.smx_streams.specs.StreamTables.{StreamTable, LeavesHungs, exists as is_there}
 use Rattle.smx_tables.specs.ExistingStreams.{AreHeld, is_held}
 use Rattle.smx_tables.specs.ListedLinks.{is_listed, is_orphaned, AreIdsOf}
 use Rattle.smx_tables.specs.ModelOfLists.{configuration_of}
 use Rattle.smx_tables.specs.TouchedStreams.{is_there_or_touched}
+use Rattle.smx_tables.proofs.ExistingLemmas.{tells_existing}
 use Rattle.smx_tables.proofs.OrphanLemmas.{held_is_left, kept_alike, left_is_linked, left_links}
 use Rattle.smx_tables.proofs.OrphanLemmas.{released_are_orphaned}
 use Rattle.smx_tables.proofs.OrphanIdLemmas.{none_released_yet}
@@ -23,7 +26,7 @@ left : (c : After-drop_links) → c.drop_links.new.lists.links.links
 left c =
     let links = c.args.lists.now.links.links in
     let t = c.release_orphans.new.streams in
-    c.drop_links.ensures.links ∙ left_links links _ t c.is_sound.ensures.ids.rise
+    c.drop_links.ensures.links ∙ left_links links _ t c.release_orphans.ensures.sound.ids.rise
     (subst (AreIdsOf (λ l. not (is_held t l)) links) (sym c.deref.ensures.value) c.release_orphans.ensures.gone.same)
 
 -- each stream below a link that is left is held
@@ -52,24 +55,22 @@ pub release_orphans-requires-clause-gone : goal.release_orphans-requires-clause-
 release_orphans-requires-clause-gone c = none_released_yet c.args.lists.now.links.links c.args.lists.now.streams
     c.args.room.now.orphaned.items _ c.requires.kept.held c.requires.room.orphaned_empty c.requires.room.orphaned_room
 
-pub tells_existing-requires-clause-held : goal.tells_existing-requires-clause-held
-tells_existing-requires-clause-held c = held (goal.at.tells_existing-requires-clause-held c).After-drop_links
-
-pub tells_existing-requires-clause-known : goal.tells_existing-requires-clause-known
-tells_existing-requires-clause-known c =
-    subst (λ (ls : List Link). All (λ l. IsKnown c.args.drivers.now l.ctl) ls)
-    (sym (left (goal.at.tells_existing-requires-clause-known c).After-drop_links))
-    (All-filter (is_held c.release_orphans.new.streams) (λ l. IsKnown c.args.drivers.now l.ctl)
-    c.args.lists.now.links.links c.requires.known)
-
-pub tells_existing-requires-clause-linked : goal.tells_existing-requires-clause-linked
-tells_existing-requires-clause-linked c =
+-- the table of streams has exactly the streams that exist
+pub returns-clause-existing : goal.returns-clause-existing
+returns-clause-existing c =
     let links = c.args.lists.now.links.links in
     let t = c.release_orphans.new.streams in
-    subst (λ (ls : List Link). list_all (λ l. is_persistent l || is_there c.drop_links.new.lists.streams l.ctl) ls
-    ≡ true) (sym (left (goal.at.tells_existing-requires-clause-linked c).After-drop_links))
+    let after = (goal.at.returns-clause-existing c).After-drop_links in
+    let new = c.drop_links.new.lists in
+    tells_existing c.args.drivers.now (configuration_of new) new.streams
+    (subst AreLinksSound (sym (left after)) (sound_filter (is_held t) links c.release_orphans.ensures.sound.sound))
+    (subst (λ (ls : List Link). All (λ l. IsKnown c.args.drivers.now l.ctl) ls) (sym (left after))
+    (All-filter (is_held t) (λ l. IsKnown c.args.drivers.now l.ctl) links c.requires.known))
+    refl (held after)
+    (subst (λ (ls : List Link). list_all (λ l. is_persistent l || is_there new.streams l.ctl) ls ≡ true)
+    (sym (left after))
     (subst (λ (u : StreamTable). list_all (λ l. is_persistent l || is_there u l.ctl) (filter (is_held t) links) ≡ true)
-    (sym c.drop_links.ensures.streams) (left_is_linked t links c.release_orphans.ensures.none))
+    (sym c.drop_links.ensures.streams) (left_is_linked t links c.release_orphans.ensures.none)))
 
 pub returns-clause-value : goal.returns-clause-value
 returns-clause-value c =
@@ -78,7 +79,7 @@ returns-clause-value c =
     let t = c.release_orphans.new.streams in
     let goes = is_orphaned c.args.lists.now.streams.fds links n in
     let alike = released_are_orphaned c.args.drivers.now (configuration_of c.args.lists.now) t
-    c.is_sound.ensures.sound c.requires.known
+    c.release_orphans.ensures.sound.sound c.requires.known
     c.release_orphans.ensures.fds (c.release_orphans.ensures.releasing n) c.release_orphans.ensures.none in
     c.drop_links.ensures.value goes
     (subst (λ (ls : List Link). (id : ℕ) → is_listed c.deref.result.now id ≡ list_any (λ l. eqb l.id id) ls)

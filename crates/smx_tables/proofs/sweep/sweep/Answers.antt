@@ -1,31 +1,19 @@
 use Rattle.std.proofs.Common.{ap, sym, subst, ◌∙◌}
-use Rattle.std.specs.List.{list_all}
 use Rattle.std.specs.Prelude.{length}
 use Rattle.smx_model.specs.Configuration.{Configuration}
 use Rattle.smx_model.specs.Removal.{without_dead_streams, without_links}
-use Rattle.smx_streams.specs.StreamTables.{exists as is_there}
 use Rattle.smx_tables.specs.ExistingStreams.{TellsExisting}
 use Rattle.smx_tables.specs.ListedLinks.{is_orphaned}
 use Rattle.smx_tables.specs.ModelOfLists.{configuration_of}
 use Rattle.smx_tables.specs.TouchedStreams.{IsTouched}
+use Rattle.smx_tables.proofs.HungLemmas.{left_there}
 use Rattle.smx_tables.proofs.HungSweepLemmas.{dead_of_left}
-use Rattle.smx_tables.proofs.TouchLemmas.{linked_still, swept_still, touched_hungs, touched_on}
-use Rattle.smx_tables.proofs.TouchLemmas.{touched_without}
+use Rattle.smx_tables.proofs.TouchLemmas.{touched_hungs, touched_on, touched_without}
 use Rattle.smx_tables.proofs.sweep.sweep.Goals as goal
 
-pub tells_existing-requires-clause-linked : goal.tells_existing-requires-clause-linked
-tells_existing-requires-clause-linked c =
-    linked_still c.args.lists.now.streams c.args.room.now.touched.items (configuration_of c.args.lists.now)
-    (ap (list_all (is_there c.args.lists.now.streams)) (sym c.deref.ensures.value) ∙ sym c.are_there.ensures
-    ∙ c.if-are_there.true) c.requires.touched
-
-pub returns-then-are_there-clause-value : goal.returns-then-are_there-clause-value
-returns-then-are_there-clause-value c =
-    sym (c.sweeping_again_changes_nothing.ensures c.args.drivers.now (configuration_of c.args.lists.now)
-    (swept_still c.args.drivers.now (configuration_of c.args.lists.now) c.args.lists.now.streams
-    c.args.room.now.touched.items c.tells_existing.ensures
-    (ap (list_all (is_there c.args.lists.now.streams)) (sym c.deref.ensures.value) ∙ sym c.are_there.ensures
-    ∙ c.if-are_there.true) c.requires.touched c.is_sound.ensures.exist))
+pub drop_dead-requires-clause-hungs : goal.drop_dead-requires-clause-hungs
+drop_dead-requires-clause-hungs c = left_there c.args.lists.now.streams c.drop_orphans.new.lists.streams
+    c.drop_orphans.ensures.hungs
 
 pub drop_dead-requires-clause-seen : goal.drop_dead-requires-clause-seen
 drop_dead-requires-clause-seen c =
@@ -34,7 +22,7 @@ drop_dead-requires-clause-seen c =
     let u = c.drop_orphans.new.lists.streams in
     let goes = is_orphaned t.fds c.args.lists.now.links.links (length c.args.drivers.now) in
     let seen = c.drop_orphans.new.room.seen.items in
-    rw c.deref-2.ensures.value (subst (λ (x : Configuration). IsTouched u seen x) (sym c.drop_orphans.ensures.value)
+    rw c.deref.ensures.value (subst (λ (x : Configuration). IsTouched u seen x) (sym c.drop_orphans.ensures.value)
     (touched_hungs u seen (without_links old goes) u.hungs
     (touched_on t u c.args.room.now.touched.items seen (without_links old goes)
     (touched_without t c.args.room.now.touched.items old goes c.requires.touched) c.drop_orphans.ensures.seen)))

@@ -2,12 +2,13 @@ use Rattle.std.proofs.Common.{[], List, refl, sym, ap, ◌∙◌}
 use Rattle.smx_types.specs.declared.stream.StreamId.{StreamId}
 use Rattle.smx_streams.specs.StreamTables.{exists as is_there, stream_at}
 use Rattle.smx_tables.specs.ModelOfLists.{configuration_of}
+use Rattle.smx_tables.proofs.ExistingLemmas.{tells_existing}
 use Rattle.smx_tables.proofs.HungLemmas.{all_pass}
 use Rattle.smx_tables.proofs.TouchLemmas.{linked_still, swept_still, touched_by, touched_fds}
 use Rattle.smx_commands.specs.Closing.{closing}
 use Rattle.smx_commands.proofs.AcceptedLemmas.{fd_at}
 use Rattle.smx_commands.proofs.ClosingLemmas.{all_stay, closed_stays, closes_shared}
-use Rattle.smx_commands.proofs.TablesLemmas.{accepted, sound_inside}
+use Rattle.smx_commands.proofs.TablesLemmas.{accepted, sound_inside, tells_inside}
 use Rattle.smx_commands.proofs.tables.Tables.close.Goals as goal
 
 pub close_last-requires-clause-there : goal.close_last-requires-clause-there
@@ -16,18 +17,6 @@ close_last-requires-clause-there c = fd_at (stream_at c.args.self.now.configurat
 
 pub returns-then-is_last : goal.returns-then-is_last
 returns-then-is_last c = rw (sym c.stream_of.ensures ∙ c.in_ok-stream.was) c.close_last.ensures
-
-pub tells_existing-requires-2-clause-linked : goal.tells_existing-requires-2-clause-linked
-tells_existing-requires-2-clause-linked c =
-    let old = configuration_of c.self.inside.lists in
-    let t = c.self.inside.lists.streams in
-    let u = c.close_fd-stays.new.self in
-    let sound = sound_inside c.self.inside c.args.self.now c.self.view_is c.requires in
-    linked_still u [] old refl
-    (touched_by c.self.inside.drivers.items old t u []
-    (rw (← c.deref.ensures.value) c.tells_existing.ensures) sound.swept
-    (closed_stays t u c.args.process c.args.fd (sym c.is_last.ensures ∙ c.if-is_last.false)
-    c.close_fd-stays.ensures.rest c.close_fd-stays.ensures.went))
 
 pub returns : goal.returns
 returns c =
@@ -38,14 +27,18 @@ returns c =
     let sound = sound_inside c.self.inside c.args.self.now c.self.view_is c.requires in
     let still = closed_stays t u c.args.process c.args.fd (sym c.is_last.ensures ∙ c.if-is_last.false)
     c.close_fd-stays.ensures.rest c.close_fd-stays.ensures.went in
-    let touched = touched_by ds old t u [] (rw (← c.deref.ensures.value) c.tells_existing.ensures) sound.swept still in
-    let stays = all_stay t u old.hungs c.is_sound.ensures.exist still in
+    let touched = touched_by ds old t u []
+    (tells_inside c.self.inside c.args.self.now c.self.view_is c.self.invariant c.requires) sound.swept still in
+    let told = tells_existing ds (record old { fds = u.fds }) u sound.links sound.known.controlling
+    refl (λ s. c.close_fd-stays.ensures.rest.holds s ∙ c.self.invariant.kept.held s)
+    (linked_still u [] old refl touched) in
+    let stays = all_stay t u old.hungs c.close_fd-stays.ensures.sound.exist still in
     let hungs = c.close_fd-stays.ensures.rest.hungs ∙ sym (all_pass (is_there u) old.hungs stays) in
     rw (sym c.stream_of.ensures ∙ c.in_ok-stream.was)
     (accepted c.self.inside c.args.self.now _ (λ m. closing m.drivers m.configuration c.args.process c.args.fd) _
     c.self.view_is
     (closes_shared ds old c.args.process c.args.fd u.fds _ _
     (swept_still ds (record old { fds = u.fds }) u []
-    (rw (← c.deref-2.ensures.value) c.tells_existing-2.ensures) refl (touched_fds u [] old u.fds touched) stays)
+    told refl (touched_fds u [] old u.fds touched) stays)
     c.close_fd-stays.ensures.rest.fds
     (ap (λ (hs : List StreamId). record old { fds = u.fds; hungs = hs }) hungs) c.done.ensures))

@@ -8,7 +8,7 @@ use Rattle.smx_tables.proofs.HungSweepLemmas.{sweep_of_left}
 use Rattle.smx_tables.proofs.TouchLemmas.{touched_by, touched_fds, touched_hungs}
 use Rattle.smx_commands.proofs.ClosingLemmas.{all_closed_touch}
 use Rattle.smx_commands.proofs.DoneLemmas.{swept_is}
-use Rattle.smx_commands.proofs.TablesLemmas.{accepted, sound_inside}
+use Rattle.smx_commands.proofs.TablesLemmas.{accepted, sound_inside, tells_inside}
 use Rattle.smx_commands.proofs.tables.Tables.close_all.Goals as goal
 
 pub sweep_and_reply-requires-clause-touched : goal.sweep_and_reply-requires-clause-touched
@@ -21,7 +21,7 @@ sweep_and_reply-requires-clause-touched c =
     touched_hungs u ss (record old { fds = u.fds }) u.hungs
     (touched_fds u ss old u.fds
     (touched_by c.self.inside.drivers.items old t u ss
-    (rw (← c.deref.ensures.value) c.tells_existing.ensures) sound.swept
+    (tells_inside c.self.inside c.args.self.now c.self.view_is c.self.invariant c.requires) sound.swept
     (all_closed_touch t u c.args.process ss c.touch_each.ensures.named c.close_process.ensures.went)))
 
 pub returns : goal.returns
@@ -35,10 +35,10 @@ returns c =
     refl c.close_process.ensures.rest.hungs in
     accepted c.self.inside c.args.self.now _
     (λ m. outcome m.drivers m.configuration c.args.process command.CloseAll) _ c.self.view_is
-    (swept_is c.self.inside.drivers.items c.deref-2.result.now old
+    (swept_is c.self.inside.drivers.items c.deref.result.now old
     (record old { fds = filter (λ d. not (d.process == c.args.process)) old.fds }) swept _
     c.sweep_and_reply.result
-    c.deref-2.ensures.value c.sweep_and_reply.ensures.value (left
+    c.deref.ensures.value c.sweep_and_reply.ensures.value (left
     ∙ ap (λ (fs : List Descriptor). after_sweep c.self.inside.drivers.items (record old { fds = fs }))
     c.close_process.ensures.rest.fds)
-    (c.sweep_and_reply.ensures.reply old.flow sound.serials.apart c.in_ok-room.ensures.none))
+    (c.sweep_and_reply.ensures.reply old.flow sound.serials.apart c.in_ok-reserve_for_sweep.ensures.none))

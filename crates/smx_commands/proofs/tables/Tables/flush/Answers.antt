@@ -7,20 +7,20 @@ use Rattle.smx_model.specs.Removal.{after_sweep, without_queues_at}
 use Rattle.smx_tables.specs.ModelOfLists.{configuration_of}
 use Rattle.smx_tables.proofs.TouchLemmas.{touched_by, touched_emptied}
 use Rattle.smx_commands.proofs.DoneLemmas.{swept_is}
-use Rattle.smx_commands.proofs.TablesLemmas.{accepted, sound_inside}
+use Rattle.smx_commands.proofs.TablesLemmas.{accepted, sound_inside, tells_inside}
 use Rattle.smx_commands.proofs.tables.Tables.flush.Goals as goal
 
 pub sweep_and_reply-requires-clause-touched : goal.sweep_and_reply-requires-clause-touched
 sweep_and_reply-requires-clause-touched c =
     let old = configuration_of c.self.inside.lists in
     let t = c.self.inside.lists.streams in
-    let touched = c.in_ok-room.room.touched.items in
+    let touched = c.reserve_for_sweep.new.room.touched.items in
     let goes = λ (p : Place). same_stream p.stream c.in_ok-stream.stream && is_side c.args.sides p.side in
     let sound = sound_inside c.self.inside c.args.self.now c.self.view_is c.requires in
     rw (c.drop_sides.ensures.flow, c.drop_sides.ensures.fulls)
     (touched_emptied t touched old goes
     (touched_by c.self.inside.drivers.items old t t touched
-    (rw (← c.deref.ensures.value) c.tells_existing.ensures) sound.swept
+    (tells_inside c.self.inside c.args.self.now c.self.view_is c.self.invariant c.requires) sound.swept
     (λ s there. or_left _ _ there)))
 
 pub returns : goal.returns
@@ -33,10 +33,10 @@ returns c =
     rw (sym c.live_stream.ensures ∙ c.in_ok-stream.was)
     (accepted c.self.inside c.args.self.now _
     (λ m. done_outcome m.drivers m.configuration (without_queues_at m.configuration goes)) _ c.self.view_is
-    (swept_is c.self.inside.drivers.items c.deref-2.result.now old (without_queues_at old goes)
+    (swept_is c.self.inside.drivers.items c.deref.result.now old (without_queues_at old goes)
     (record old { flow = c.drop_sides.new.queues.flow; fulls = c.drop_sides.new.queues.fulls }) _
     c.sweep_and_reply.result
-    c.deref-2.ensures.value c.sweep_and_reply.ensures.value
+    c.deref.ensures.value c.sweep_and_reply.ensures.value
     (ap (after_sweep c.self.inside.drivers.items) emptied)
     (c.sweep_and_reply.ensures.reply old.flow sound.serials.apart
-    (c.drop_sides.ensures.dropped old.flow c.in_ok-room.ensures.none))))
+    (c.drop_sides.ensures.dropped old.flow c.in_ok-reserve_for_sweep.ensures.none))))

@@ -4,8 +4,8 @@ use Rattle.smx_commands.proofs.tables.Tables.has_link.Goals as goal
 
 pub returns-in-Some : goal.returns-in-Some
 returns-in-Some c = rw (← c.self.view_is) (some_with_id (λ l. eqb l.ctl.driver c.args.driver) c.args.id
-    c.self.inside.lists.links.links c.in-Some.link.now c.is_sound.ensures.ids.rise c.in-Some.ensures)
+    c.self.inside.lists.links.links c.in-Some.link.now c.get.ensures.sound.ids.rise c.in-Some.ensures.value)
 
 pub returns-in-None : goal.returns-in-None
 returns-in-None c = rw (← c.self.view_is) (none_with_id (λ l. eqb l.ctl.driver c.args.driver) c.args.id
-    c.self.inside.lists.links.links c.is_sound.ensures.ids.rise c.in-None.ensures)
+    c.self.inside.lists.links.links c.get.ensures.sound.ids.rise c.in-None.ensures.value)

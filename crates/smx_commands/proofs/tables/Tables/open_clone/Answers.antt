@@ -3,7 +3,7 @@ use Rattle.std.proofs.lemmas.Result.{err_from_is_err_and}
 use Rattle.smx_streams.specs.StreamTables.{clone_answer}
 use Rattle.smx_commands.specs.Machine.{Machine}
 use Rattle.smx_commands.proofs.DescriptorLemmas.{agrees_err, agrees_ok, clone_agrees, refused_by}
-use Rattle.smx_commands.proofs.TablesLemmas.{streams_over}
+use Rattle.smx_commands.proofs.TablesLemmas.{streams_over, tells_seen}
 use Rattle.smx_commands.proofs.tables.Tables.open_clone.Goals as goal
 
 pub returns-in_err-opened : goal.returns-in_err-opened
@@ -13,7 +13,7 @@ returns-in_err-opened c =
     let t = c.self.inside.lists.streams in
     let agrees = clone_agrees old.drivers old.configuration t c.args.process c.in_ok-driver.driver c.args.name.now
     (streams_over c.self.inside old c.self.view_is c.self.invariant)
-    (rw (← c.self.view_is, ← c.deref.ensures.value) c.tells_existing.ensures) (rw (← c.self.view_is) refl)
+    (tells_seen c.self.inside old c.self.view_is c.self.invariant c.requires) (rw (← c.self.view_is) refl)
     (sym c.driver_of.ensures.found ∙ c.in_ok-driver.was) c.in_ok-driver.ensures.in_range in
     rw (p.1, p.2) (refused_by old _ _ _ (rw c.in_err-opened.ensures.unchanged c.self.view_is)
     (agrees_err old.configuration c.args.process (clone_answer t c.args.process c.in_ok-driver.driver) _ _ agrees
@@ -25,7 +25,7 @@ returns c =
     let t = c.self.inside.lists.streams in
     let agrees = clone_agrees old.drivers old.configuration t c.args.process c.in_ok-driver.driver c.args.name.now
     (streams_over c.self.inside old c.self.view_is c.self.invariant)
-    (rw (← c.self.view_is, ← c.deref.ensures.value) c.tells_existing.ensures) (rw (← c.self.view_is) refl)
+    (tells_seen c.self.inside old c.self.view_is c.self.invariant c.requires) (rw (← c.self.view_is) refl)
     (sym c.driver_of.ensures.found ∙ c.in_ok-driver.was) c.in_ok-driver.ensures.in_range in
     rw c.fd_reply.ensures (
       ap (λ (m : Machine). m.drivers) c.self.view_is,

@@ -1,4 +1,5 @@
 use Rattle.std.proofs.Common.{◌≡◌, true, rules, sym, ◌∙◌}
+use Rattle.smx_model.proofs.DropLemmas.{step_drops}
 use Rattle.smx_commands.proofs.DoneLemmas.{punlink_is, unlink_is}
 use Rattle.smx_commands.proofs.ReplyLemmas.{carries_nothing, nothing_fits}
 use Rattle.smx_commands.proofs.tables.Tables.room_for_reply.Goals as goal
@@ -28,8 +29,8 @@ returns-in-OpenClone-clause-makes c =
     let plain : carries_nothing c.args.command.now ≡ true = search rules in
     nothing_fits c.args.self.now.drivers c.args.self.now.configuration c.args.process c.args.command.now
     c.no_room.result plain
-    (c.other_commands_drop_none.ensures c.args.self.now.drivers c.args.self.now.configuration c.args.process
-    c.args.command.now c.requires.swept) c.no_room.ensures
+    (step_drops c.args.self.now.drivers c.args.self.now.configuration c.args.process c.args.command.now
+    c.requires.swept) c.no_room.ensures
 
 pub returns-in-Unlink-clause-makes : goal.returns-in-Unlink-clause-makes
 returns-in-Unlink-clause-makes c = rw (c.in-Unlink.is, unlink_is) c.room_for_unlink.ensures

@@ -13,22 +13,26 @@ use Rattle.smx_tables.proofs.HungSweepLemmas.{sweep_of_left}
 use Rattle.smx_tables.proofs.TouchLemmas.{few_ids, touched_by, touched_hungs, touched_without}
 use Rattle.smx_commands.specs.UnlinkTargets.{is_target}
 use Rattle.smx_commands.proofs.DoneLemmas.{swept_is}
-use Rattle.smx_commands.proofs.TablesLemmas.{accepted, sound_inside}
+use Rattle.smx_commands.proofs.TablesLemmas.{accepted, sound_inside, tells_inside}
 use Rattle.smx_commands.proofs.tables.Tables.unlink_as.Goals as goal
+
+pub targets-requires-clause-rise : goal.targets-requires-clause-rise
+targets-requires-clause-rise c =
+    (sound_inside c.self.inside c.args.self.now c.self.view_is c.requires).ids
 
 pub reserve_for_sweep-requires : goal.reserve_for_sweep-requires
 reserve_for_sweep-requires c =
     let goes = is_target c.args.which c.args.kind c.in_ok-stream.stream in
-    omega (arith, few_ids goes c.self.inside.lists.links.links _ c.in_ok-gone.ensures, c.is_sound.ensures.few)
+    omega (arith, few_ids goes c.self.inside.lists.links.links _ c.in_ok-gone.ensures)
 
 pub sweep_and_reply-requires-clause-known : goal.sweep_and_reply-requires-clause-known
 sweep_and_reply-requires-clause-known c =
     let ds = c.self.inside.drivers.items in
     let goes = is_target c.args.which c.args.kind c.in_ok-stream.stream in
     let left = ap (λ (x : Configuration). x.links)
-    (c.remove_links.ensures.value goes (c.deref-2.ensures.value ∙ c.in_ok-gone.ensures)) in
+    (c.remove_links.ensures.value goes (c.deref.ensures.value ∙ c.in_ok-gone.ensures)) in
     let sound = sound_inside c.self.inside c.args.self.now c.self.view_is c.requires in
-    rw c.deref-3.ensures.value (subst (λ (ls : List Link). All (λ l. IsKnown ds l.ctl) ls) (sym left)
+    rw c.deref-2.ensures.value (subst (λ (ls : List Link). All (λ l. IsKnown ds l.ctl) ls) (sym left)
     (All-filter (λ l. not (goes l)) (λ l. IsKnown ds l.ctl) c.self.inside.lists.links.links sound.known.controlling))
 
 pub sweep_and_reply-requires-clause-touched : goal.sweep_and_reply-requires-clause-touched
@@ -39,11 +43,11 @@ sweep_and_reply-requires-clause-touched c =
     let touched = c.remove_links.new.touched.items in
     let sound = sound_inside c.self.inside c.args.self.now c.self.view_is c.requires in
     subst (λ (x : Configuration). IsTouched streams touched x)
-    (sym (c.remove_links.ensures.value goes (c.deref-2.ensures.value ∙ c.in_ok-gone.ensures)))
+    (sym (c.remove_links.ensures.value goes (c.deref.ensures.value ∙ c.in_ok-gone.ensures)))
     (touched_hungs streams touched (without_links old goes) streams.hungs
     (touched_without streams touched old goes
     (touched_by c.self.inside.drivers.items old c.self.inside.lists.streams streams touched
-    (rw (← c.deref.ensures.value) c.tells_existing.ensures) sound.swept c.remove_links.ensures.touched)))
+    (tells_inside c.self.inside c.args.self.now c.self.view_is c.self.invariant c.requires) sound.swept c.remove_links.ensures.touched)))
 
 pub returns : goal.returns
 returns c =
@@ -52,7 +56,7 @@ returns c =
     let old = configuration_of c.self.inside.lists in
     let u = c.remove_links.new.lists.streams in
     let sound = sound_inside c.self.inside c.args.self.now c.self.view_is c.requires in
-    let removed = c.remove_links.ensures.value goes (c.deref-2.ensures.value ∙ c.in_ok-gone.ensures) in
+    let removed = c.remove_links.ensures.value goes (c.deref.ensures.value ∙ c.in_ok-gone.ensures) in
     let links = ap (λ (x : Configuration). x.links) removed in
     let left = sweep_of_left ds (record (without_links old goes) { hungs = u.hungs }) u old.hungs
     (subst (λ (ls : List Link). AreHeld ls u) links c.remove_links.ensures.kept.held)
@@ -60,8 +64,8 @@ returns c =
     rw (sym c.mux_stream.ensures ∙ c.in_ok-stream.was, sym c.check_targets.ensures ∙ c.in_ok-check_targets.was)
     (accepted c.self.inside c.args.self.now _
     (λ m. done_outcome m.drivers m.configuration (without_links m.configuration goes)) _ c.self.view_is
-    (swept_is ds c.deref-3.result.now old (without_links old goes)
-    (record (without_links old goes) { hungs = u.hungs }) _ c.sweep_and_reply.result c.deref-3.ensures.value
-    (c.sweep_and_reply.ensures.value ∙ ap (after_sweep c.deref-3.result.now) removed) left
+    (swept_is ds c.deref-2.result.now old (without_links old goes)
+    (record (without_links old goes) { hungs = u.hungs }) _ c.sweep_and_reply.result c.deref-2.ensures.value
+    (c.sweep_and_reply.ensures.value ∙ ap (after_sweep c.deref-2.result.now) removed) left
     (c.sweep_and_reply.ensures.reply old.flow sound.serials.apart
-    (c.remove_links.ensures.dropped old.flow c.in_ok-room.ensures.none))))
+    (c.remove_links.ensures.dropped old.flow c.in_ok-reserve_for_sweep.ensures.none))))
