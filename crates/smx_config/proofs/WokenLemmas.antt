@@ -19,13 +19,13 @@ use Rattle.smx_types.specs.declared.stream.Place.{Place}
 use Rattle.smx_types.specs.declared.stream.Side.{Side}
 use Rattle.smx_types.specs.declared.stream.Side.TheVariants as side
 use Rattle.smx_types.specs.declared.stream.StreamId.{StreamId}
-use Rattle.smx_model.specs.Commands.{done_outcome, outcome, step}
+use Rattle.smx_model.specs.Commands.{after_outcome, done_outcome, outcome, step}
 use Rattle.smx_model.specs.Configuration.{Configuration, QueuedMessage, bind_before, route_before, same_place}
 use Rattle.smx_model.specs.Configuration.{same_side, same_stream, read_side, write_side}
 use Rattle.smx_model.specs.FreedPlaces.{FreesOnly, HaveFullPlacesMessages, freed_by}
 use Rattle.smx_model.specs.Lookups.{free_stream, live_leaf, live_stream, mux_stream, stream_of}
 use Rattle.smx_model.specs.Ordered.{with_inserted}
-use Rattle.smx_model.specs.Outcomes.{refuse}
+use Rattle.smx_model.specs.Outcomes.{Outcome, refuse}
 use Rattle.smx_model.specs.Queues.{after_leaving, first_message}
 use Rattle.smx_model.specs.Removal.{after_sweep}
 use Rattle.smx_model.specs.RunMarks.{TurnsOnly, asks_down, asks_up, either, has_addr, is_first_at, next_of_first}
@@ -46,6 +46,7 @@ use Rattle.smx_config.specs.declared.wakes.Wakes.{Wakes}
 use Rattle.smx_config.specs.declared.wakes.Wakes.TheVariants as wakes
 use Rattle.smx_model.specs.KeptConfigurations.{IsSound}
 use Rattle.smx_model.proofs.IdleSweepLemmas.{swept_idle}
+use Rattle.smx_model.proofs.KeptLemmas.{outcome_sound}
 use Rattle.smx_model.proofs.FreedPlaceLemmas.{few_freed}
 use Rattle.smx_model.proofs.TurningCommandLemmas.{outcomes_turn}
 use Rattle.smx_model.proofs.UndroppedLemmas.{undropped_if}
@@ -314,6 +315,32 @@ woken_if old new process k (Ok u) r w m n is refines tells sound filled marks wo
     IsWoken ds new.configuration (turned_under new.configuration w) (freed_under r w) m n) refines.0 woken)))
 woken_if old new process k (Err e) r w m n is refines tells sound filled marks woken =
     absurd (false≢true is)
+
+-- after a command that was performed, the configuration is sound
+pub sound_if : (old new : Machine) (process : ℕ) (k : Command) (answer : Result (Unit {0}) StepError) (r : Reply)
+    → is_ok answer ≡ true → Refines old new process k (answer_of answer r) → IsSound old.drivers old.configuration
+    → IsSound new.drivers new.configuration
+sound_if old new process k (Ok u) r is refines sound =
+    subst (λ (ds : List DriverSpec). IsSound ds new.configuration) (sym refines.0)
+    (of_accepted (λ (x : Configuration × Reply). IsSound old.drivers x.0)
+    (outcome old.drivers old.configuration process k) (new.configuration, r) refines.1
+    (outcome_sound old.drivers old.configuration process k sound))
+sound_if old new process k (Err e) r is refines sound = absurd (false≢true is)
+
+-- after a command that was performed, and the settling after it, the configuration is that of the step
+pub stepped : (old mid new : Machine) (process : ℕ) (k : Command) (answer : Result (Unit {0}) StepError) (r : Reply)
+    → is_ok answer ≡ true → Refines old mid process k (answer_of answer r)
+    → new ≡ record mid { configuration = after_settling mid.drivers mid.configuration }
+    → new ≡ record old { configuration = (step old.drivers old.configuration process k).0 }
+stepped old mid new process k (Ok u) r is refines settled =
+    settled ∙ ap moved refines.0
+    ∙ ap (λ (o : Outcome). with (after_outcome old.drivers old.configuration o).0) (sym refines.1) where
+      with : Configuration → Machine
+      with c = record { drivers = old.drivers; configuration = c }
+
+      moved : List DriverSpec → Machine
+      moved ds = record { drivers = ds; configuration = after_settling ds mid.configuration }
+stepped old mid new process k (Err e) r is refines settled = absurd (false≢true is)
 
 -- a command that was not accepted changes nothing
 pub unchanged : (old new : Machine) (process : ℕ) (k : Command) (result : Result Reply StepError)

@@ -25,10 +25,6 @@ use crate::settling::settle;
 use crate::wakes::wakes_of;
 use crate::waking::wake;
 use smx_commands::{StepError, Tables};
-use smx_model::laws_of_marks::full_places_have_messages;
-use smx_model::laws_of_steps::{
-    commands_keep, empty_is_kept, outcomes_are_sound, refusals_change_nothing,
-};
 use smx_types::{
     Command, ConfigView, DriverSpec, Link, Message, NoMemory, Place, Process, Reply, StreamId,
 };
@@ -75,8 +71,6 @@ impl Config {
         ensures empty { IfOk result (λ c. c.configuration ≡ empty) }
         ensures refused { IfErr result (RefusesDrivers drivers.now) }
     {
-        empty_is_kept();
-        full_places_have_messages();
         check_drivers(drivers)?;
         let tables = Tables::new(alloc, drivers)?;
         let count = tables.place_count();
@@ -129,10 +123,6 @@ impl Config {
         ensures in_place { IsTrue (takes_no_memory command.now) → IsOk result }
         ensures refused { IsErr (outcome self.old.drivers self.old.configuration process command.now) → IsOk result }
     {
-        commands_keep();
-        full_places_have_messages();
-        outcomes_are_sound();
-        refusals_change_nothing();
         let named = self.tables.message_stream(process, command);
         let wakes = wakes_of(&self.tables, process, command, named);
         let answer = self.tables.perform(process, command, named, reply);
@@ -213,7 +203,6 @@ impl Config {
     pub fn link_count(&self) -> u32
         ensures { result ≡ length self.now.configuration.links }
     {
-        self.tables.links().is_sound();
         self.tables.links().len() as u32
     }
 

@@ -11,7 +11,6 @@ ghost use Rattle.smx_config.specs.Verdicts.{IsVerdict};
 use crate::config::Config;
 use crate::config_fault::ConfigFault;
 use crate::verdict::Verdict;
-use smx_model::laws::one_entry_more;
 use smx_types::{ConfigView, DriverSpec, Entry, NoMemory, Same};
 use std::alloc::Global;
 
@@ -24,7 +23,6 @@ fn first_illegal(config: &mut Config, entries: &[Entry]) -> Result<Option<usize>
     ensures legal { IfOk result (λ o. IfNone o (IsLegal config.old.drivers entries.now)) }
     ensures after { IfOk result (λ o. IfNone o (config.new.configuration ≡ after config.old.drivers entries.now)) }
 {
-    one_entry_more();
     for (i, entry) in entries.iter().enumerate() {
         let reply = config.step(entry.process, &entry.command)?;
         if !reply.is_same(&entry.reply) {

@@ -175,11 +175,19 @@ nothing_reported judged t output h none =
     ]
 
 -- a legal transcript has an empty explanation, without a replay of it
-pub legal_unexplained : IsItsOwn → (t : Transcript) → IsAllowed t.version t → IsDriverList t.drivers
+pub legal_unexplained : (t : Transcript) → IsAllowed t.version t → IsDriverList t.drivers
     → IsVerdict t.drivers t.entries t.view Legal → IsExplanation t []
-legal_unexplained own t allowed valid verdict = record {
+legal_unexplained t allowed valid verdict = record {
   replay = t;
-  replays = own t valid verdict;
+  replays =
+      record {
+        version = refl;
+        drivers = refl;
+        valid_drivers = valid;
+        calls = refl;
+        legal = verdict.0;
+        shown = verdict.1;
+      };
   spellable = (allowed_spellable t.version t allowed).0;
   shown = inl (refl, refl);
 }

@@ -8,9 +8,7 @@ ghost use Rattle.smx_explain.specs.Explanations.{IsExplanation, difference_text}
 ghost use Rattle.smx_text.specs.TranscriptText.{SpellsTranscript};
 
 use smx_config::ConfigFault;
-use smx_text::laws::one_transcript_has_one_reading;
 use smx_text::next_line;
-use smx_trace::laws_of_replays::replays_can_be_expressed;
 use smx_trace::replay;
 use smx_types::{NoMemory, Transcript};
 use std::alloc::Global;
@@ -34,8 +32,6 @@ pub fn explain(alloc: Global, text: &[u8], transcript: Transcript) -> Result<Vec
     ensures told { IfOk result (λ told. IsExplanation transcript told.items) }
     ensures refused { IfErr result (RefusesDrivers transcript.drivers) }
 {
-    replays_can_be_expressed();
-    one_transcript_has_one_reading();
     let replayed = replay(alloc, transcript, Vec::new(alloc))?;
     match first_difference(text, replayed.as_slice()) {
         Some(difference) => Ok(difference_text(alloc, &difference)?),

@@ -20,7 +20,6 @@ use crate::refusal::{Refusal, kept_for};
 use crate::run::text_of_programs;
 use smx_config::{ConfigFault, Verdict};
 use smx_explain::explain;
-use smx_explain::laws_of_explanations::a_legal_transcript_needs_none;
 use smx_run::Gate;
 use smx_text::{read_programs, read_transcript};
 use smx_types::Transcript;
@@ -93,6 +92,7 @@ fn explained(alloc: Global, input: &[u8]) -> Result<(Verdict, Vec<u8>), MainFaul
 
 // Returns the explanation of a transcript. `input` is the text that spells it, and `verdict` the verdict on it. If the
 // verdict is `legal`, no replay is made.
+#[tactic(auto, using(smx_explain::proofs::ExplanationLemmas::legal_unexplained))]
 fn told_of(
     alloc: Global,
     input: &[u8],
@@ -105,7 +105,6 @@ fn told_of(
     ensures told { IfOk result (λ told. IsExplanation transcript told.items) }
     ensures refused { IfErr result (RefusesDrivers transcript.drivers) }
 {
-    a_legal_transcript_needs_none();
     match verdict {
         Verdict::Legal => Ok(Vec::new(alloc)),
         Verdict::Illegal { .. } | Verdict::ConfigDiffers => explain(alloc, input, transcript),

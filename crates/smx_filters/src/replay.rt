@@ -14,7 +14,6 @@ use crate::output::write_all;
 use crate::refusal::{Refusal, kept_for};
 use smx_run::RunFault;
 use smx_text::read_transcript;
-use smx_trace::laws_of_replays::{first_entries_are_allowed, replays_can_be_expressed};
 use smx_trace::{first_entries, replay};
 use smx_types::Transcript;
 use std::alloc::Global;
@@ -50,8 +49,6 @@ pub fn replay_text<F: Feed, S: Sink>(
 fn text_of_replay(alloc: Global, input: &[u8], at: Option<usize>) -> Result<Vec<u8>, MainFault>
     ensures { Answers (replaying at) input.now (items_of result) }
 {
-    replays_can_be_expressed();
-    first_entries_are_allowed();
     let transcript = read_transcript(alloc, input)?;
     let part = asked_part(transcript, at)?;
     let text = replay(alloc, part, Vec::new(alloc))?;

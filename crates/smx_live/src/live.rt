@@ -16,7 +16,6 @@ use crate::answers::answer;
 use crate::inbox::Inbox;
 use crate::talk::{Progress, Talk, shown_with};
 use smx_filters::{Feed, MAX_INPUT, MainFault, Refusal, Sink, write_all};
-use smx_model::laws::one_entry_more;
 use smx_run::RunFault;
 use smx_session::{Session, StartFault};
 use smx_types::NoMemory;
@@ -237,7 +236,6 @@ fn take_turn<S: Sink>(
         → TurnsOn explain read output ended talk.new.session talk.new.progress inbox.new.held.items
         (S.contents sink.old) (S.contents sink.new) (S.flushed sink.new) (S.failures sink.new) result }
 {
-    one_entry_more();
     match answer(alloc, sink, talk, &inbox.held[..n], explain) {
         Ok(false) => {
             inbox.drop_line(n);

@@ -1,4 +1,9 @@
 use Rattle.std.proofs.Common.{subst}
+use Rattle.smx_model.proofs.QuietHistoryLemmas.{quiet_replies, quiet_streams}
+use Rattle.smx_text.proofs.TranscriptGrammarLemmas.{versions}
+use Rattle.smx_text.proofs.VersionLemmas.{one_reading_of_all}
+use Rattle.smx_text.specs.TranscriptText.{transcript_grammar}
+use Rattle.smx_trace.proofs.QuietLemmas.{can_be_expressed}
 use Rattle.smx_explain.proofs.ExplanationLemmas.{reports_nothing}
 use Rattle.smx_explain.specs.Differences.{AreAlike}
 use Rattle.smx_explain.proofs.differences.explain.Goals as goal
@@ -8,4 +13,5 @@ returns-clause-told c =
     let text = c.args.text.now in
     let alike = subst (λ other. AreAlike text other) c.as_slice.ensures.value c.in-None.ensures in
     reports_nothing c.args.transcript text c.in_ok-replayed.replayed.items c.requires c.in_ok-replayed.ensures.written
-    c.one_transcript_has_one_reading.ensures c.replays_can_be_expressed.ensures _ alike c.new-in-None.ensures.items
+    (one_reading_of_all transcript_grammar versions) (can_be_expressed quiet_replies quiet_streams) _ alike
+    c.new-in-None.ensures.items

@@ -9,4 +9,4 @@ pub returns-clause-other : goal.returns-clause-other
 returns-clause-other c = nothing_reported c.replays_are_the_legal_transcripts.ensures.legal
 
 pub returns-clause-none : goal.returns-clause-none
-returns-clause-none c = legal_unexplained c.replays_are_the_legal_transcripts.ensures.own
+returns-clause-none c = legal_unexplained

@@ -1,5 +1,7 @@
 use Rattle.std.proofs.Common.{◌≡◌, ℕ, ◌<◌, length, subst, ap, ◌∙◌}
 use Rattle.smx_model.specs.Configuration.{empty}
+use Rattle.smx_model.proofs.FullPlaceLemmas.{empty_filled}
+use Rattle.smx_model.proofs.KeptLemmas.{empty_kept}
 use Rattle.smx_queues.specs.PlaceLists.{places_of}
 use Rattle.smx_queues.specs.Rings.{at}
 use Rattle.smx_commands.specs.Machine.{Machine}
@@ -12,8 +14,8 @@ invariant_of-result c =
     let many : c.place_count-count.result ≡ length (places_of c.args.drivers.now) =
     c.place_count-count.ensures.count ∙ ap (λ (m : Machine). length (places_of m.drivers)) c.in_ok-tables.ensures in
     record {
-      kept = rw c.in_ok-tables.ensures (c.empty_is_kept.ensures c.args.drivers.now);
-      filled = rw c.in_ok-tables.ensures c.full_places_have_messages.ensures.empty;
+      kept = rw c.in_ok-tables.ensures (empty_kept c.args.drivers.now);
+      filled = rw c.in_ok-tables.ensures empty_filled;
       marks = rw c.in_ok-tables.ensures (marks_at_first c.args.drivers.now c.in_ok-marks.marks
           (subst (λ (k : ℕ). AreFor k c.in_ok-marks.marks) many c.in_ok-marks.ensures.many)
           (subst (λ (k : ℕ). (n : ℕ) → n < k → at c.in_ok-marks.marks.waits.owners n ≡ 0) many

@@ -1,10 +1,14 @@
 use Rattle.std.proofs.Common.{rules, List, Result, sym, subst, ap, ◌∙◌}
 use Rattle.smx_types.specs.declared.driver.DriverSpec.{DriverSpec}
+use Rattle.smx_model.proofs.FullPlaceLemmas.{step_filled}
+use Rattle.smx_model.proofs.KeptLemmas.{step_keeps}
+use Rattle.smx_model.proofs.RefusalLemmas.{refused_same}
 use Rattle.smx_commands.specs.Refinement.{answer_of}
 use Rattle.smx_commands.specs.declared.step_error.StepError.{StepError}
 use Rattle.smx_config.specs.Marking.{AreOver}
 use Rattle.smx_config.proofs.WayLemmas.{performed}
-use Rattle.smx_config.proofs.WokenLemmas.{fault_keeps, is_ok_of, same_drivers, unchanged, woken_if}
+use Rattle.smx_config.proofs.WokenLemmas.{fault_keeps, is_ok_of, same_drivers, sound_if, stepped, unchanged}
+use Rattle.smx_config.proofs.WokenLemmas.{woken_if}
 use Rattle.smx_config.proofs.config.Config.perform.Goals as goal
 use Rattle.smx_config.proofs.config.Config.perform.Goals.{then-is_ok, else-is_ok}
 
@@ -16,6 +20,12 @@ wake-requires-clause-over c = subst (λ (ds : List DriverSpec). AreOver ds c.sel
 
 pub wake-requires-clause-listed : goal.wake-requires-clause-listed
 wake-requires-clause-listed c = c.self.invariant.marks.listed
+
+pub settle-requires-clause-sound : goal.settle-requires-clause-sound
+settle-requires-clause-sound c =
+    sound_if c.self.inside.tables c.perform-answer.new.self c.args.process c.args.command.now c.perform-answer.result
+    c.perform-answer.new.reply (sym c.is_ok.ensures.value ∙ c.if-is_ok.true) c.perform-answer.ensures.refines
+    c.self.invariant.kept.sound
 
 pub settle-requires-clause-marks : goal.settle-requires-clause-marks
 settle-requires-clause-marks c =
@@ -31,6 +41,22 @@ settle-requires-clause-hops c =
     c.perform-answer.new.reply c.forget_changed.new.hops (sym c.is_ok.ensures.value ∙ c.if-is_ok.true)
     c.perform-answer.ensures.refines (λ d is. c.forget_changed.ensures old.drivers old.configuration d c.args.process
     c.perform-answer.new.reply c.self.invariant.kept.sound.swept c.self.invariant.hops is)
+
+pub invariant_of-self : goal.invariant_of-self
+invariant_of-self c =
+    let old = c.self.inside.tables in
+    let there = stepped old c.perform-answer.new.self c.settle.new.tables c.args.process c.args.command.now
+    c.perform-answer.result c.perform-answer.new.reply (sym c.is_ok.ensures.value ∙ c.if-is_ok.true)
+    c.perform-answer.ensures.refines c.settle.ensures.value in
+    record {
+      kept = rw there (step_keeps old.drivers old.configuration c.args.process c.args.command.now
+          c.self.invariant.kept);
+      filled = rw there (step_filled old.drivers old.configuration c.args.process c.args.command.now
+          c.self.invariant.filled);
+      marks = c.settle.ensures.marks;
+      hops = c.settle.ensures.hops;
+      none = c.settle.ensures.none;
+    }
 
 pub invariant_of-self-else-is_ok : goal.invariant_of-self-else-is_ok
 invariant_of-self-else-is_ok c =
@@ -55,7 +81,7 @@ returns-in-Ok-clause-fault c = elim c.if-is_ok.branch [
       let accepted = ap (λ (a : Result (Unit {0}) StepError). answer_of a there) c.in-Ok.is in
       λ f fault. w.self-is ∙ (fault_keeps old c.perform-answer.new.self w.settle.new.tables c.args.process
       c.args.command.now (answer_of c.perform-answer.result there) there f accepted c.perform-answer.ensures.refines
-      w.settle.ensures.value (c.refusals_change_nothing.ensures old.drivers old.configuration c.args.process
+      w.settle.ensures.value (refused_same old.drivers old.configuration c.args.process
       c.args.command.now f) (sym c.shrink.ensures ∙ fault) ∙ c.self.view_is)
   | else-is_ok w ↦ search rules
 ]
