@@ -1,4 +1,5 @@
-//! Tests the answer of each call on queues that doesn't allocate, by number and by place.
+//! Tests the answers of the calls on queues: of `Queues`, where a call names a place by its number, and of `FlowTable`,
+//! where it may also name a place by its `Place`.
 
 use super::flow_tables::{DOWN, UP, fill, table};
 use super::queues::{adds, put};
