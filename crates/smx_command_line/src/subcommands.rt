@@ -141,7 +141,7 @@ fn at<'a>(alloc: Global) -> Arg<'a> {
 fn waits<'a>(alloc: Global) -> Arg<'a> {
     Arg::new(alloc, "waits")
         .long("waits")
-        .help("Write what waits below each entry too")
+        .help("Also write, below each entry, what waits then")
         .action(ArgAction::SetTrue)
 }
 

@@ -154,7 +154,7 @@ pub fn go_on(
     }
 }
 
-/// Returns whether a line may end in place of this choice.
+/// Returns whether a line may end where a word of this choice could come.
 pub fn may_end(choice: Choice) -> bool
     ensures { MatchBool result (MayEnd choice) (MayEnd choice → ⊥) }
 {

@@ -17,7 +17,8 @@ use std::process::Abort;
 use std::sync::Wait;
 use std::thread::Threads;
 
-/// A filter, a run or check that explains faults, or a live session. A run uses one worker.
+/// A task is one of these: a filter; a run or a check with `--explain`; a live session, with `--explain` or without. A
+/// run uses one worker.
 #[derive(Clone, Copy)]
 pub enum Task {
     Run,
@@ -108,7 +109,8 @@ pub struct Tried {
     pub flushed: bool,
 }
 
-/// Does a task. The read after `reads` reads fails with this kind of error, and the writer stops after `calls` calls.
+/// Does a task. The first `reads` reads succeed, and the next one fails with this kind of error. The writer stops after
+/// `calls` calls.
 pub fn outcome<R: AllocGlobal + Threads + Wait + Sync>(
     rt: &R,
     task: Task,
