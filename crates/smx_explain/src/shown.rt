@@ -43,7 +43,7 @@ fn begin(line: &[u8], told: usize) -> usize
     told.saturating_sub(BEFORE + 1).min(line.len())
 }
 
-// Returns the index at which a line that is shown from `from` on is cut.
+// The line is shown from index `from`. Returns the index at which it is cut.
 fn end(line: &[u8], from: usize) -> usize
     requires { from ≤ length line.now }
     ensures { result ≤ length line.now }

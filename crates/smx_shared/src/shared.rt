@@ -145,7 +145,8 @@ impl<K: EntrySink> Shared<K> {
     }
 
     /// Returns the system with its whole history, after all its callers have ended. Fails only if a turn was never
-    /// given back, as the front in the fault shows; the system is then dropped. Never fails for a seat that has met the
+    /// given back. The system is then dropped, and the fault has the front, with its mark that a seat has the turn.
+    /// Never fails for a seat that has met the
     /// seats of all other processes. Takes no memory.
     pub fn close(self, seat: Seat<K>) -> Result<System<K>, CloseFault>
         requires { seat.shared ≡ self.name }

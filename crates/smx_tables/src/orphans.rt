@@ -84,8 +84,8 @@ fn release_below(
 }
 
 // Calls `release_below` for each stream in `touched`, and for each stream that these calls add to it. Afterwards no
-// link is loose. Moves the examined streams from `touched` to `seen`, which has room for them. If the table of streams
-// has each stream of `touched`, no link is loose, and no stream is examined.
+// link is loose. Moves the examined streams from `touched` to `seen`, which has room for them. If every
+// stream in `touched` is still in the table of streams, then no link is loose, and the function examines no stream.
 pub fn release_orphans(
     streams: &mut Streams,
     links: &LinkTable,

@@ -1,4 +1,5 @@
-//! Seats: each says where the row of a part belongs.
+//! Seats. A seat is the position of a row of text in a picture: in the frame of which driver, in the column of which
+//! stream, and which kind of row.
 
 use smx_types::{Name, Side};
 
