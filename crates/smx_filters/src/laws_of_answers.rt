@@ -83,7 +83,8 @@ pub fn what_is_run_has_drivers()
 /// If a run writes a transcript, on any number of workers, a check finds this transcript legal. If the bytes that the
 /// run wrote spell a transcript, this transcript is in the version of the programs, and is a report that is promised
 /// for the programs. (A report is drivers, a history and the view after it. It is promised for programs if it has their
-/// drivers, and a legal history with the commands of each program, each once, in order.)
+/// drivers, which are valid, and a legal history with the commands of each program, each once, in order, and no
+/// others.)
 pub fn a_run_writes_one_legal_transcript()
     ensures legal { (workers : ℕ) (programs : ProgramLists) (output : List ℕ)
         → IsWrittenFor false workers programs output → (line : List ℕ) × GivesFor checking output Legal line }

@@ -49,8 +49,8 @@ pub fn wrong_commands()
     ensures no_word { AreWrongPrograms (with_line_4 []) 4 Form }
 {}
 
-/// Invalid programs texts. They break these rules. Each line must be allowed where it is. A text needs its header and
-/// the line `end`, and nothing may follow `end`.
+/// Invalid programs texts. They break rules such as these. Each line must be allowed where it is. A text needs its
+/// header and the line `end`, and nothing may follow `end`. There are at most 64 programs.
 pub fn wrong_programs()
     ensures nothing { AreWrongPrograms [] 1 Cut }
     ensures cut_header { AreWrongPrograms (codes "programs 1") 1 Cut }
