@@ -244,11 +244,13 @@ impl Streams {
     /// stream of the descriptor can cease to exist. Does not allocate.
     #[inline(always)]
     pub fn close_fd(&mut self, process: Process, fd: u32) -> Option<Closed>
+        // The descriptor and the stream.
         ensures stream { option_map (λ c. c.stream) result ≡ stream_at self.old.fds process fd }
         ensures rest { HasOneLess self.old process fd self.new }
         ensures last { IfSome result (λ c. c.last ≡ not (exists self.new c.stream)) }
         ensures went { (s : StreamId) → exists self.old s ≡ true → exists self.new s ≡ false
             → stream_at self.old.fds process fd ≡ Some s }
+        // The table: without the descriptor nothing changes, and two facts hold before each call.
         ensures unchanged { IfNone result (self.new ≡ self.old) }
         ensures sound { AreHungsSound self.old }
         ensures numbered { All (λ d. d.fd < MAX_DESCRIPTORS) self.old.fds }
