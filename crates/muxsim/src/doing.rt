@@ -141,8 +141,13 @@ fn written<R: Eprint>(
 {
     match outcome {
         Ok(()) => ended(rt, Ok(Done::Finished)),
-        Err(refusal) if explain => refused(rt, kind, refusal),
-        Err(Refusal { fault, .. }) => ended(rt, Err(fault)),
+        Err(refusal) => {
+            if explain {
+                refused(rt, kind, refusal)
+            } else {
+                ended(rt, Err(refusal.fault))
+            }
+        }
     }
 }
 
