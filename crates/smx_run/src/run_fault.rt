@@ -15,9 +15,9 @@ pub enum RunFault {
     /// `NoMemory` does. No contract knows whether a thread starts. So only tests show that a run then fails with
     /// `NoThread`, and not with `NoMemory`.
     NoThread,
-    /// In the history, the entries of this process are not those that its calls returned. By the law
+    /// In the history, the entries of the process with this number are not those that its calls returned. By the law
     /// `refusals_have_few_causes`, no run is refused for this.
-    Strange(Process),
+    Strange(u32),
     /// No configuration can have these drivers.
     ConfigFault(ConfigFault),
     /// The history is full.
@@ -129,7 +129,7 @@ impl fmt::Display for RunFault {
     fn fmt<W: fmt::Write>(&self, f: &mut fmt::Formatter<W>) -> fmt::Result {
         match self {
             RunFault::NoMemory | RunFault::NoThread => f.write_str("no memory"),
-            RunFault::Strange(process) => write!(f, "strange {}", process.get()),
+            RunFault::Strange(process) => write!(f, "strange {process}"),
             RunFault::ConfigFault(fault) => write!(f, "{fault}"),
             RunFault::HistoryFull => f.write_str("history full"),
             RunFault::Held => f.write_str("turn held"),
