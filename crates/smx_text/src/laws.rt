@@ -40,9 +40,9 @@ pub fn each_text_has_a_reading()
         × ReadsAny programs_grammar bytes r × IfErr r (λ f. f.cause ≢ NoMemory) }
 {}
 
-/// If a text has a fault, a reader may report out of memory only at an earlier line. So a reader that gets as far as the
-/// line of the fault reports the fault, and not out of memory. If a text spells some programs, a reader may report out
-/// of memory only at a line before `end`.
+/// If a text has a fault, a reader may report out of memory only at an earlier line. So a reader that gets as far as
+/// the line of the fault reports the fault, and not out of memory. If a text spells some programs, a reader may report
+/// out of memory only at a line before `end`.
 pub fn want_of_memory_comes_before()
     ensures { (version : Version) (bytes : List ℕ) (line : ℕ) (r : Result ProgramLists TextFault)
         → IsFault (programs_grammar version) bytes line NoMemory → ReadsAny programs_grammar bytes r
@@ -87,9 +87,9 @@ pub fn each_transcript_has_a_reading()
         × ReadsAny transcript_grammar bytes r × IfErr r (λ f. f.cause ≢ NoMemory) }
 {}
 
-/// If a text has a fault, a reader may report out of memory only at an earlier line. So a reader that gets as far as the
-/// line of the fault reports the fault, and not out of memory. If a text spells a transcript, a reader may report out of
-/// memory only at a line before `end`.
+/// If a text has a fault, a reader may report out of memory only at an earlier line. So a reader that gets as far as
+/// the line of the fault reports the fault, and not out of memory. If a text spells a transcript, a reader may report
+/// out of memory only at a line before `end`.
 pub fn transcript_want_of_memory_comes_before()
     ensures { (version : Version) (bytes : List ℕ) (line : ℕ) (r : Result Transcript TextFault)
         → IsFault (transcript_grammar version) bytes line NoMemory → ReadsAny transcript_grammar bytes r

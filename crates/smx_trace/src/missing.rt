@@ -51,8 +51,8 @@ pub fn write_marked<T: Spell>(out: &mut Vec<u8>, mark: &[u8], line: &T) -> Resul
 }
 
 // Appends a mark and then `line`, unless `others` has this line. `others` must be in rising order. Returns the rest of
-// `others`, in which the caller goes on to search for the lines that follow `line` in its own list. Fails only if out of
-// memory.
+// `others`, in which the caller goes on to search for the lines that follow `line` in its own list. Fails only if out
+// of memory.
 fn write_if_missing<'a, T: Ranked>(
     out: &mut Vec<u8>,
     drivers: &[DriverSpec],

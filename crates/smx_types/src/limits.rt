@@ -35,8 +35,8 @@ pub const NUMBER_END: u32 = 4_294_967_295;
 /// The maximum number of commands in the programs of all processes together.
 pub const MAX_COMMANDS: usize = 100_000;
 
-/// A law: the limits are these numbers. Contracts and code use the names above, so without this law a wrong number would
-/// be wrong in both.
+/// A law: the limits are these numbers. Contracts and code use the names above. So without this law, a wrong number
+/// would be wrong in both.
 pub fn the_limits_are_these()
     ensures drivers { (MAX_DRIVERS ≡ 128) × (MAX_DRIVERS_OF_VERSION_1 ≡ 64) × (MAX_MINORS ≡ 64) }
     ensures queues { (MAX_HIGH ≡ 4096) × (MAX_MESSAGE ≡ 1024) }

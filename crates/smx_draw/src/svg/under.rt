@@ -124,7 +124,7 @@ fn stream_template(is_closed: bool) -> &'static [u8]
     }
 }
 
-// Appends the gauge of a queue. The whole width of the gauge stands for the high water mark.
+// Appends the gauge of a queue. The whole width of the gauge shows the high water mark.
 fn put_gauge(out: &mut Vec<u8>, at: Area, bytes: u32, high: u32, low: u32) -> Result<(), NoMemory>
     ensures { OnOk result (out.new.items ≡ out.old.items ++ sized_gauge (at.right - at.left) bytes high low at) }
 {
