@@ -11,14 +11,11 @@ pub mod QueueTableLemmas
 pub mod PlaceLemmas
 pub mod NumberLemmas
 pub mod PlacesOfLemmas
-pub mod FlowLemmas
-pub mod PlacesWhereLemmas
-pub mod FlowTableLemmas
+pub mod ItemLemmas
 pub mod FindLemmas
-pub mod LeftLemmas
+pub mod FlowLemmas
 pub mod FlowCallLemmas
 pub mod SpecLemmas
-pub mod StepLemmas
 pub mod BitLemmas
 pub mod RingNodeLemmas
 pub mod RingLemmas

@@ -1,5 +1,5 @@
 -- Equal places, the order of places, and the numbers of places in order.
-use Rattle.std.proofs.Common.{◌≡◌, ◌≢◌, ℕ, zero, suc, true, false, ltb, List, [], ◌∷◌, Some, refl, sym, ap, ◌∙◌, subst}
+use Rattle.std.proofs.Common.{◌≡◌, ◌≢◌, ℕ, zero, suc, ◌<◌, true, false, ltb, List, [], ◌∷◌, length, Some, refl, sym, ap, ◌∙◌, subst}
 use Rattle.std.proofs.Common.{arith, inl, inr}
 use Rattle.std.specs.Prelude.{slice_get}
 use Rattle.std.specs.List.{list_any}
@@ -50,6 +50,12 @@ pub lower_minor : (driver m n : ℕ) (s t : Side) → ltb m n ≡ true
 lower_minor driver m n s t h = grind (arith, nat_tests)
 
 -- ---- the numbers of places
+
+-- each number below the count of places is the number of a place, and so for the elements of any list
+pub numbered : {X : Type 0} (places : List X) (i : ℕ) → i < length places → (p : X) × (slice_get places i ≡ Some p)
+numbered [] i lt = absurd (omega arith)
+numbered (x ∷ places) zero lt = (x, refl)
+numbered (x ∷ places) (suc i) lt = numbered places i (omega arith)
 
 -- a place that is found in a list has an index in it
 pub where_is : (p : Place) (places : List Place) → list_any (same_place p) places ≡ true

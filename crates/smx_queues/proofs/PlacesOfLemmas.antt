@@ -1,11 +1,11 @@
 -- The places of some drivers, and the number of each.
 use Rattle.std.proofs.Common.{◌≡◌, ℕ, zero, suc, ◌+◌, ◌-◌, ◌*◌, ◌<◌, ◌≤◌, true, false, List, [], ◌∷◌, length}
-use Rattle.std.proofs.Common.{Option, Some, None, refl, sym, ap, ◌∙◌, subst, arith, inl, inr}
+use Rattle.std.proofs.Common.{Option, Some, None, get_or, refl, sym, ap, ◌∙◌, subst, arith, inl, inr}
 use Rattle.std.specs.Prelude.{slice_get}
 use Rattle.std.specs.List.{All, list_any}
 use Rattle.std.proofs.lemmas.Bool.{cases_Bool, cases_lt, false≢true}
 use Rattle.std.proofs.lemmas.List.Elements.{All-head, All-tail}
-use Rattle.std.proofs.lemmas.Option.{same_Some, slice_get_within}
+use Rattle.std.proofs.lemmas.Option.{same_Some, slice_get-get_or, slice_get_within}
 use Rattle.smx_types.specs.declared.driver.DriverSpec.{DriverSpec}
 use Rattle.smx_types.specs.declared.stream.Place.{Place}
 use Rattle.smx_types.specs.declared.stream.Side.TheVariants as side
@@ -224,6 +224,11 @@ number_known drivers i p at =
       subst (λ (k : ℕ). k < length drivers) e f.1.1,
       subst (λ (k : ℕ). p.stream.minor < minors_of drivers k) e f.1.2,
     )
+
+-- the place of a number is a place of one of the drivers
+pub driver_at : (drivers : List DriverSpec) (i : ℕ) (d : Place) → i < length (places_of drivers)
+    → (get_or (places_of drivers) i d).stream.driver < length drivers
+driver_at drivers i d lt = (number_known drivers i _ (slice_get-get_or (places_of drivers) i d lt)).0
 
 -- the place of a stream that the drivers don't have has no number
 unknown_absent : (drivers : List DriverSpec) (p : Place) → (IsKnown drivers p.stream → ⊥)

@@ -1,6 +1,6 @@
 -- The queued messages and full marks of all places, by place, as contracts see them.
-use Rattle.std.specs.Prelude.{◌≡◌, ℕ, ◌&&◌, ◌||◌, not, nat_lt, nat_le, List, [], ◌∷◌, ◌++◌, map, filter}
-use Rattle.std.specs.Prelude.{Option, Some, None}
+use Rattle.std.specs.Prelude.{◌≡◌, ℕ, ◌&&◌, ◌||◌, not, nat_lt, nat_le, List, [], ◌∷◌, map, filter}
+use Rattle.std.specs.Prelude.{◌<◌, if◌then◌else◌, length, Option, Some, slice_get}
 use Rattle.std.specs.List.{list_any}
 use Rattle.smx_types.specs.declared.driver.DriverSpec.{DriverSpec}
 use Rattle.smx_types.specs.declared.message.Message.{Message}
@@ -9,8 +9,8 @@ use Rattle.smx_model.specs.Configuration.{QueuedMessage, is_at, queued_before, s
 use Rattle.smx_model.specs.DriverList.{high_of, low_of}
 use Rattle.smx_model.specs.Ordered.{with_inserted, without_first}
 use Rattle.smx_model.specs.Queues.{bytes_at, with_mark}
-use Rattle.smx_queues.specs.PlaceLists.{places_of, places_where}
-use Rattle.smx_queues.specs.QueueTable.{Queue}
+use Rattle.smx_queues.specs.PlaceLists.{by_place, places_of}
+use Rattle.smx_queues.specs.QueueTable.{IsPlace, Queue, queue_at}
 use Rattle.smx_queues.specs.Slots.{is_marked, messages_in}
 
 -- the drivers, and the model's flow and full places over them; and the number of messages that can arrive without an
@@ -21,9 +21,9 @@ pub record FlowLists : Type 0 where
   pub fulls : List Place
   pub spare : ℕ
 
--- messages that are queued at a place
-abbrev pub messages_at : Place → List Message → List QueuedMessage
-messages_at p messages = map (λ m. record { place = p; message = m }) messages
+-- the messages of the queue, if there is one, at this place
+abbrev pub queued_at : Place → Option Queue → List QueuedMessage
+queued_at p q = map (λ m. record { place = p; message = m }) (messages_in q)
 
 -- the message that leaves its place
 abbrev pub leaving_message : Place × Message → QueuedMessage
@@ -31,27 +31,23 @@ leaving_message m = record { place = m.0; message = m.1 }
 
 -- all messages, by place
 abbrev pub flow_of : List Place → List (Option Queue) → List QueuedMessage
-flow_of [] queues = []
-flow_of (p ∷ places) [] = []
-flow_of (p ∷ places) (q ∷ queues) = messages_at p (messages_in q) ++ flow_of places queues
+flow_of places queues = by_place queued_at places queues
+
+-- the place, if its queue is full
+abbrev pub marked_at : Place → Option Queue → List Place
+marked_at p q = if is_marked q then p ∷ [] else []
 
 -- the full places
 abbrev pub fulls_of : List Place → List (Option Queue) → List Place
-fulls_of places queues = places_where is_marked places queues
+fulls_of places queues = by_place marked_at places queues
 
--- a queue for each place, with the water marks of its driver
-abbrev pub AreQueuesOf : List DriverSpec → List Place → List (Option Queue) → Type 0
-AreQueuesOf drivers [] [] = Unit {0}
-AreQueuesOf drivers [] (q ∷ queues) = ⊥
-AreQueuesOf drivers (p ∷ places) [] = ⊥
-AreQueuesOf drivers (p ∷ places) (None ∷ queues) = ⊥
-AreQueuesOf drivers (p ∷ places) (Some q ∷ queues) =
-    (q.high ≡ high_of drivers p.stream.driver) × (q.low ≡ low_of drivers p.stream.driver)
-    × AreQueuesOf drivers places queues
-
--- each place has a queue
+-- each place has a queue, with the water marks of its driver
 pub record IsFlow (drivers : List DriverSpec) (all : List (Option Queue)) : Type 0 where
-  pub queues : AreQueuesOf drivers (places_of drivers) all
+  pub many : length all ≡ length (places_of drivers)
+  pub there : (i : ℕ) → i < length all → IsPlace all i
+  pub marks : (i : ℕ) (p : Place) → slice_get (places_of drivers) i ≡ Some p
+      → ((queue_at all i).high ≡ high_of drivers p.stream.driver)
+      × ((queue_at all i).low ≡ low_of drivers p.stream.driver)
 
 -- the drivers, and the flow and the full places that these queues of their places make
 abbrev pub lists_of : List DriverSpec → List (Option Queue) → ℕ → FlowLists

@@ -1,6 +1,6 @@
 -- The places of all streams that some drivers have, and their numbers.
-use Rattle.std.specs.Prelude.{◌≡◌, ℕ, zero, suc, ◌+◌, ◌*◌, Bool, List, [], ◌∷◌, ◌++◌, map}
-use Rattle.std.specs.Prelude.{if◌then◌else◌, Option, Some}
+use Rattle.std.specs.Prelude.{◌≡◌, ℕ, zero, suc, ◌+◌, ◌*◌, List, [], ◌∷◌, ◌++◌, map}
+use Rattle.std.specs.Prelude.{Option, Some}
 use Rattle.smx_types.specs.declared.driver.DriverSpec.{DriverSpec}
 use Rattle.smx_types.specs.declared.stream.Place.{Place}
 use Rattle.smx_types.specs.declared.stream.Side.{Side}
@@ -48,12 +48,11 @@ pub record ArePlaces (drivers : List DriverSpec) (rows : List DriverRow) (places
   pub rows_are : rows ≡ rows_of drivers
   pub places_are : places ≡ places_of drivers
 
--- the places whose numbers have elements that pass the test
-abbrev pub places_where : {X : Type 0} → (X → Bool) → List Place → List X → List Place
-places_where passes [] xs = []
-places_where passes (p ∷ places) [] = []
-places_where passes (p ∷ places) (x ∷ xs) =
-    if passes x then p ∷ places_where passes places xs else places_where passes places xs
+-- the items of all places, by place, where a place and the element of its number make the items of the place
+abbrev pub by_place : {X Y : Type 0} → (Place → X → List Y) → List Place → List X → List Y
+by_place items [] xs = []
+by_place items (p ∷ places) [] = []
+by_place items (p ∷ places) (x ∷ xs) = items p x ++ by_place items places xs
 
 -- a queue for each place, without messages, with the water marks of its driver
 abbrev pub new_queues : List DriverSpec → List Place → List (Option Queue)

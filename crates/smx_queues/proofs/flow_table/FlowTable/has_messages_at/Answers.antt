@@ -1,12 +1,13 @@
-use Rattle.std.proofs.Common.{ap, ◌∙◌}
+use Rattle.std.proofs.Common.{◌∙◌, ap, arith}
 use Rattle.std.specs.Prelude.{nat_lt}
-use Rattle.smx_queues.proofs.FlowCallLemmas.{first_is, number_there, place_seen, some_first}
+use Rattle.smx_queues.proofs.FlowLemmas.{first_is, some_first}
 use Rattle.smx_queues.proofs.flow_table.FlowTable.has_messages_at.Goals as goal
 
 pub message_count-requires : goal.message_count-requires
-message_count-requires c = number_there _ _ _ _ _ c.self.invariant c.self.view_is c.requires
+message_count-requires c =
+    c.self.invariant.there _ (omega (arith, c.self.invariant.many, rw (← c.self.view_is) at c.requires))
 
 pub returns : goal.returns
-returns c = λ p at. ap (nat_lt 0) c.message_count.ensures
-    ∙ some_first _ _ (first_is _ _ _ _ _ _ c.self.invariant c.self.view_is
-    (place_seen _ _ _ _ p _ c.self.view_is at))
+returns c = λ p at.
+    rw (← c.self.view_is, ← first_is _ _ c.self.invariant _ _ (rw (← c.self.view_is) at at))
+    (ap (nat_lt 0) c.message_count.ensures ∙ some_first _)

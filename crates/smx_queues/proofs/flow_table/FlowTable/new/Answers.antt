@@ -1,12 +1,13 @@
-use Rattle.smx_queues.proofs.FlowTableLemmas.{none_yet, open_yet, queues_yet}
-use Rattle.smx_queues.specs.PlaceLists.{places_of}
+use Rattle.std.proofs.Common.{ap}
+use Rattle.smx_queues.specs.FlowTables.{FlowLists}
+use Rattle.smx_queues.proofs.FlowLemmas.{seen_new}
 use Rattle.smx_queues.proofs.flow_table.FlowTable.new.Goals as goal
 
 pub invariant_of-result : goal.invariant_of-result
-invariant_of-result c = record { queues = rw c.in_ok-queues.ensures (queues_yet _ _) }
+invariant_of-result c = rw c.in_ok-queues.ensures (seen_new _).sound
 
 pub returns-clause-none : goal.returns-clause-none
-returns-clause-none c = rw c.in_ok-queues.ensures (none_yet c.in_ok-places.places (places_of c.in_ok-places.places))
+returns-clause-none c = rw c.in_ok-queues.ensures (ap (λ (t : FlowLists). t.flow) ((seen_new c.in_ok-places.places).is 0))
 
 pub returns-clause-open : goal.returns-clause-open
-returns-clause-open c = rw c.in_ok-queues.ensures (open_yet c.in_ok-places.places (places_of c.in_ok-places.places))
+returns-clause-open c = rw c.in_ok-queues.ensures (ap (λ (t : FlowLists). t.fulls) ((seen_new c.in_ok-places.places).is 0))

@@ -1,5 +1,5 @@
 use Rattle.std.proofs.Common.{length, ap, arith, ◌∙◌}
-use Rattle.smx_queues.proofs.StepLemmas.{driver_at}
+use Rattle.smx_queues.proofs.PlacesOfLemmas.{driver_at}
 use Rattle.smx_queues.proofs.places.Places.new_queues.Goals as goal
 
 pub marks_of-high-requires-clause-there : goal.marks_of-high-requires-clause-there
