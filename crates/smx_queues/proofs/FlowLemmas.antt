@@ -22,10 +22,11 @@ use Rattle.smx_model.proofs.TestLemmas.{any_filter}
 use Rattle.smx_queues.specs.FlowTables.{FlowLists, IsFlow, after_arrival, after_leaving, flow_of, fulls_of, lists_of}
 use Rattle.smx_queues.specs.FlowTables.{marked_at, queued_at, without_place}
 use Rattle.smx_queues.specs.PlaceLists.{new_queues, places_of}
-use Rattle.smx_queues.specs.QueueTable.{IsPlace, Queue, QueueTable, empty_queue, queue_at, with_arrival, with_queue, without_front}
-use Rattle.smx_queues.specs.QueueTable.{without_messages}
+use Rattle.smx_queues.specs.QueueTable.{IsPlace, Queue, QueueTable, empty_queue, queue_at, with_arrival}
+use Rattle.smx_queues.specs.QueueTable.{with_queue, without_front, without_messages}
 use Rattle.smx_queues.specs.Slots.{is_marked, message_total, messages_in}
-use Rattle.smx_queues.proofs.ItemLemmas.{IsSplit, inserted, items_from, kept_absent, kept_parts, no_items, removed, split}
+use Rattle.smx_queues.proofs.ItemLemmas.{IsSplit, inserted, items_from, kept_absent, kept_parts, no_items}
+use Rattle.smx_queues.proofs.ItemLemmas.{removed, split}
 use Rattle.smx_queues.proofs.PlaceLemmas.{apart, behind, numbered, place_self, same_turned}
 use Rattle.smx_queues.proofs.PlacesOfLemmas.{places_rise}
 use Rattle.smx_queues.proofs.QueueTableLemmas.{set_itself}
@@ -98,7 +99,8 @@ module _ (ds : List DriverSpec) (all : List (Option Queue)) (h : IsFlow ds all) 
 
   -- and the first one there is the first one of the place
   pub first_is : slice_get (queue_at all i).messages 0 ≡ first_message (flow_of (places_of ds) all) place
-  first_is = ap (λ (ms : List Message). slice_get ms 0) (sym queue_is) ∙ sym (front_is (flow_of (places_of ds) all) place)
+  first_is = ap (λ (ms : List Message). slice_get ms 0) (sym queue_is)
+      ∙ sym (front_is (flow_of (places_of ds) all) place)
 
   -- if the place has a first message, the queue has messages
   pub some_queued : IsSome (first_message (flow_of (places_of ds) all) place) → 0 < length (queue_at all i).messages
@@ -161,7 +163,8 @@ module _ (ds : List DriverSpec) (all : List (Option Queue)) (h : IsFlow ds all) 
       let flow : flow_of (places_of ds) (set all i (Some new))
       ≡ with_inserted queued_before (flow_of (places_of ds) all) (placed place m) = messages.whole (Some new)
       ∙ ap (λ (hs : List QueuedMessage). messages.front ++ hs)
-      (ap (λ (hs : List QueuedMessage). hs ++ messages.back) (map-append (placed place) (queue_at all i).messages (m ∷ []))
+      (ap (λ (hs : List QueuedMessage). hs ++ messages.back)
+      (map-append (placed place) (queue_at all i).messages (m ∷ []))
       ∙ append_assoc (queued_at place (Some (queue_at all i))) (placed place m ∷ []) messages.back)
       ∙ sym (rw same at (inserted (λ k. k.place) queued_at (places_of ds) all i place messages
       (Some (queue_at all i)) (placed place m) refl)) in
@@ -213,7 +216,8 @@ module _ (ds : List DriverSpec) (all : List (Option Queue)) (h : IsFlow ds all) 
   pub leaving_skips : (now : List QueuedMessage) → flow_of (drop i (places_of ds)) (drop i all) ≡ now
       → None ≡ slice_get (queue_at all i).messages 0
       → flow_of (drop (i + 1) (places_of ds)) (drop (i + 1) all) ≡ now
-  leaving_skips now seen none = rw (add-one i) (by (queue_at all i).messages (rw same at (flow_from (queue_at all i))) none)
+  leaving_skips now seen none = rw (add-one i)
+      (by (queue_at all i).messages (rw same at (flow_from (queue_at all i))) none)
     where
       rest : List QueuedMessage
       rest = flow_of (drop (suc i) (places_of ds)) (drop (suc i) all)
@@ -250,8 +254,8 @@ pub move_is : (ds : List DriverSpec) (all : List (Option Queue)) (n : ℕ) (from
 move_is ds all n from to i j m h at there differ first =
     let left : List (Option Queue) = with_queue all i (without_front (queue_at all i)) in
     let l = take_is ds all h from i at n m first in
-    let same : queue_at left j ≡ queue_at all j = rw (get_or-set_other all i j (Some (without_front (queue_at all i))) None
-    (λ e. differ (sym e))) refl in
+    let same : queue_at left j ≡ queue_at all j =
+    rw (get_or-set_other all i j (Some (without_front (queue_at all i))) None (λ e. differ (sym e))) refl in
     subst (λ (t : FlowLists). IsSeenAs ds (with_queue left j (with_arrival (queue_at all j) m)) (after_arrival t to m))
     (l.is n)
     (subst (λ (q : Queue). IsSeenAs ds (with_queue left j (with_arrival q m)) (after_arrival (lists_of ds left n) to m))
@@ -268,7 +272,8 @@ module _ (ds : List DriverSpec) (all : List (Option Queue)) (place : Place)
 
   -- so it has no first message
   pub first_none : None ≡ first_message (flow_of (places_of ds) all) place
-  first_none = ap (λ (ms : List Message). slice_get ms 0) (sym queue_none) ∙ sym (front_is (flow_of (places_of ds) all) place)
+  first_none = ap (λ (ms : List Message). slice_get ms 0) (sym queue_none)
+      ∙ sym (front_is (flow_of (places_of ds) all) place)
 
   -- it is not full
   pub mark_none : false ≡ list_any (same_place place) (fulls_of (places_of ds) all)

@@ -112,7 +112,8 @@ module _ {X Y : Type 0} (of : Y → Place) (items : Place → X → List Y)
         own = own p;
         earlier = each_append (λ y. place_before (of y) p ≡ true) (items r old) s.front
             (each_map (λ y. of y ≡ r) (λ y. place_before (of y) p ≡ true) (items r old)
-            (λ y e. ap (λ (q : Place). place_before q p) e ∙ first_before r p places i rise.0 at) (own r old)) s.earlier;
+            (λ y e. ap (λ (q : Place). place_before q p) e ∙ first_before r p places i rise.0 at) (own r old))
+            s.earlier;
         later = s.later;
       }
 
@@ -151,7 +152,8 @@ module _ {X Y : Type 0} (of : Y → Place) (items : Place → X → List Y) (pla
         skip_inserted before y s.front (items p x ++ s.back)
             (each_map _ (λ z. before y z ≡ false) s.front (λ z h. rw is (not_after (of z) p h)) s.earlier),
         skip_inserted before y (items p x) s.back
-            (each_map _ (λ z. before y z ≡ false) (items p x) (λ z e. rw e (ap (λ (q : Place). place_before q p) is ∙ not_before p)) (s.own x)),
+            (each_map _ (λ z. before y z ≡ false) (items p x)
+            (λ z e. rw e (ap (λ (q : Place). place_before q p) is ∙ not_before p)) (s.own x)),
         first_inserted before y s.back (each_map _ (λ z. before y z ≡ true) s.back (λ z h. rw is h) s.later),
       ) refl
 

@@ -10,4 +10,5 @@ returns-in-Some c = rw (← c.self.view_is) (c.is_full.ensures ∙ mark_is _ _ c
 
 pub returns-in-None : goal.returns-in-None
 returns-in-None c =
-    rw (← c.self.view_is) (mark_none c.self.inside.places c.self.inside.queues.queues c.args.place c.in-None.ensures.none)
+    rw (← c.self.view_is)
+    (mark_none c.self.inside.places c.self.inside.queues.queues c.args.place c.in-None.ensures.none)

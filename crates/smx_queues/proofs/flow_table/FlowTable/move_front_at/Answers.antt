@@ -39,4 +39,5 @@ returns c = λ p q m at there first.
     let from = rw (← c.self.view_is) at at in
     let front = first_is _ _ c.self.invariant _ _ from ∙ rw (← c.self.view_is) at first in
     rw (← c.self.view_is, c.move_front.ensures.moved m front, c.move_front.ensures.spare)
-    ((move_is _ _ c.self.inside.queues.spare _ _ _ _ m c.self.invariant from (rw (← c.self.view_is) at there) c.requires.differ front).is _)
+    ((move_is _ _ c.self.inside.queues.spare _ _ _ _ m c.self.invariant from (rw (← c.self.view_is) at there)
+    c.requires.differ front).is _)

@@ -20,4 +20,5 @@ invariant_of-self c =
 
 pub returns : goal.returns
 returns c =
-    rw (← c.self.view_is, c.put.ensures.put) ((put_is _ _ c.self.invariant _ _ (rw c.unwrap-p.ensures at c.number.ensures.found) 0 _).is _)
+    rw (← c.self.view_is, c.put.ensures.put)
+    ((put_is _ _ c.self.invariant _ _ (rw c.unwrap-p.ensures at c.number.ensures.found) 0 _).is _)

@@ -16,9 +16,11 @@ returns-in-Some-clause-taken c =
 
 pub returns-in-Some-clause-left : goal.returns-in-Some-clause-left
 returns-in-Some-clause-left c =
-    rw (← c.self.view_is) (taken_by _ c.self.inside.queues c.take.new.self _ _ _ c.self.invariant c.in-Some.ensures.found
+    rw (← c.self.view_is)
+    (taken_by _ c.self.inside.queues c.take.new.self _ _ _ c.self.invariant c.in-Some.ensures.found
     c.take.ensures.taken c.take.ensures.left c.take.ensures.none).1
 
 pub returns-in-None-clause-taken : goal.returns-in-None-clause-taken
 returns-in-None-clause-taken c =
-    rw (← c.self.view_is) (first_none c.self.inside.places c.self.inside.queues.queues c.args.place c.in-None.ensures.none)
+    rw (← c.self.view_is)
+    (first_none c.self.inside.places c.self.inside.queues.queues c.args.place c.in-None.ensures.none)
