@@ -1,37 +1,17 @@
 -- Properties of every accepted command, by the rows of the command table.
-use Rattle.std.proofs.Common.{◌≡◌, ℕ, ◌+◌, Bool, false, ◌&&◌, ◌||◌, not, eqb, leb, List, [], ◌∷◌, ◌++◌, length, filter}
-use Rattle.std.proofs.Common.{Some, Ok, refl, rules}
-use Rattle.std.specs.List.{list_any}
-use Rattle.smx_types.specs.declared.link.Binding.{Binding}
-use Rattle.smx_types.specs.declared.command.Command.{Command}
+use Rattle.smx_model.proofs.Common.{◌≡◌, ℕ, ◌+◌, Bool, false, ◌&&◌, ◌||◌, not, eqb, leb, List, [], ◌∷◌, ◌++◌, length}
+use Rattle.smx_model.proofs.Common.{filter, Some, Ok, refl, rules, list_any, Binding, Command, Which, DriverSpec}
+use Rattle.smx_model.proofs.Common.{MAX_LINKS, NUMBER_END, Link, LinkKind, Route, Message, Reply, Descriptor, Place}
+use Rattle.smx_model.proofs.Common.{StreamId, outcome, done_outcome, unlink_outcome, with_fd, Configuration}
+use Rattle.smx_model.proofs.Common.{bind_before, route_before, minors_of, with_hung, driver_of, stream_of, free_fd}
+use Rattle.smx_model.proofs.Common.{free_minor, free_stream, live_stream, mux_stream, leaf_stream, live_leaf, Outcome}
+use Rattle.smx_model.proofs.Common.{with_inserted, reaches, is_full, first_message, after_arrival, after_leaving}
+use Rattle.smx_model.proofs.Common.{without_queues_at, without_links, is_below}
 use Rattle.smx_types.specs.declared.command.Command.TheVariants as command
 use Rattle.smx_types.specs.declared.command.Sides.{Sides}
-use Rattle.smx_types.specs.declared.command.Which.{Which}
 use Rattle.smx_types.specs.declared.command.Which.TheVariants as which
-use Rattle.smx_types.specs.declared.driver.DriverSpec.{DriverSpec}
-use Rattle.smx_types.specs.declared.limits.TheConstants.{MAX_LINKS, NUMBER_END}
-use Rattle.smx_types.specs.declared.link.Link.{Link}
-use Rattle.smx_types.specs.declared.link.LinkKind.{LinkKind}
-use Rattle.smx_types.specs.declared.link.Route.{Route}
-use Rattle.smx_types.specs.declared.message.Message.{Message}
-use Rattle.smx_types.specs.declared.reply.Reply.{Reply}
 use Rattle.smx_types.specs.declared.reply.Reply.TheVariants as reply
-use Rattle.smx_types.specs.declared.stream.Descriptor.{Descriptor}
-use Rattle.smx_types.specs.declared.stream.Place.{Place}
 use Rattle.smx_types.specs.declared.stream.Side.TheVariants as side
-use Rattle.smx_types.specs.declared.stream.StreamId.{StreamId}
-use Rattle.smx_model.specs.Commands.{outcome, done_outcome, unlink_outcome, with_fd}
-use Rattle.smx_model.specs.Configuration.{Configuration, bind_before, route_before}
-use Rattle.smx_model.specs.DriverList.{minors_of}
-use Rattle.smx_model.specs.Hangups.{with_hung}
-use Rattle.smx_model.specs.Lookups.{driver_of, stream_of, free_fd, free_minor, free_stream, live_stream, mux_stream}
-use Rattle.smx_model.specs.Lookups.{leaf_stream, live_leaf}
-use Rattle.smx_model.specs.Outcomes.{Outcome}
-use Rattle.smx_model.specs.Ordered.{with_inserted}
-use Rattle.smx_model.specs.Paths.{reaches}
-use Rattle.smx_model.specs.Queues.{is_full, first_message, after_arrival, after_leaving}
-use Rattle.smx_model.specs.Removal.{without_queues_at, without_links}
-use Rattle.smx_model.specs.Standing.{is_below}
 use Rattle.smx_model.proofs.OutcomeLemmas.{IfAccepted, at_ok, after_ok, after_test, after_some, after_choice}
 
 -- the configuration with one more message at a place, under the next serial

@@ -1,26 +1,14 @@
 -- Each accepted message is delivered, dropped or queued.
-use Rattle.std.proofs.Common.{◌≡◌, ℕ, zero, suc, ◌+◌, ◌<◌, ◌≤◌, Bool, cond, eqb, List, [], ◌∷◌, ◌++◌, length, filter}
-use Rattle.std.proofs.Common.{Some, Ok, Err, refl, rules, sym, ap, ◌∙◌, subst, arith, inl, inr}
-use Rattle.std.proofs.Common.{length-append}
-use Rattle.std.specs.List.{range_with_len}
-use Rattle.std.proofs.lemmas.Bool.{cases_Bool, cases_lt, cases_eq, ne_eqb, eq-eqb}
-use Rattle.smx_types.specs.declared.command.Command.{Command}
-use Rattle.smx_types.specs.declared.command.Entry.{Entry}
-use Rattle.smx_types.specs.declared.reply.Reply.{Reply}
+use Rattle.smx_model.proofs.Common.{◌≡◌, ℕ, zero, suc, ◌+◌, ◌<◌, ◌≤◌, Bool, cond, eqb, List, [], ◌∷◌, ◌++◌, length}
+use Rattle.smx_model.proofs.Common.{filter, Some, Ok, Err, refl, rules, sym, ap, ◌∙◌, subst, arith, inl, inr}
+use Rattle.smx_model.proofs.Common.{length-append, range_with_len, cases_Bool, cases_lt, cases_eq, ne_eqb, eq-eqb}
+use Rattle.smx_model.proofs.Common.{Command, Entry, Reply, DriverSpec, Message, Place, outcome, step, after_outcome}
+use Rattle.smx_model.proofs.Common.{done_outcome, Configuration, QueuedMessage, empty, is_at, queued_before, after_from}
+use Rattle.smx_model.proofs.Common.{after, IsLegalFrom, IsLegal, delivered_by, dropped_by, taken_serials, with_inserted}
+use Rattle.smx_model.proofs.Common.{without_first, Outcome, first_message, after_leaving, after_sweep, serials}
+use Rattle.smx_model.proofs.Common.{after_settling_within, after_move}
 use Rattle.smx_types.specs.declared.reply.Reply.TheVariants as reply
-use Rattle.smx_types.specs.declared.driver.DriverSpec.{DriverSpec}
-use Rattle.smx_types.specs.declared.message.Message.{Message}
-use Rattle.smx_types.specs.declared.stream.Place.{Place}
-use Rattle.smx_model.specs.Commands.{outcome, step, after_outcome, done_outcome}
-use Rattle.smx_model.specs.Configuration.{Configuration, QueuedMessage, empty, is_at, queued_before}
-use Rattle.smx_model.specs.Histories.{after_from, after, IsLegalFrom, IsLegal}
-use Rattle.smx_model.specs.LawfulHistories.{taken_by, delivered_by, dropped_by, taken_serials, delivered_serials}
-use Rattle.smx_model.specs.LawfulHistories.{dropped_serials, AreMessagesConserved}
-use Rattle.smx_model.specs.Ordered.{with_inserted, without_first}
-use Rattle.smx_model.specs.Outcomes.{Outcome}
-use Rattle.smx_model.specs.Queues.{first_message, after_leaving}
-use Rattle.smx_model.specs.Removal.{after_sweep, serials}
-use Rattle.smx_model.specs.Settling.{after_settling_within, after_move}
+use Rattle.smx_model.specs.LawfulHistories.{taken_by, delivered_serials, dropped_serials, AreMessagesConserved}
 use Rattle.smx_model.proofs.SettledLemmas.{moved_by, settled_by}
 use Rattle.smx_model.proofs.CountLemmas.{times, times_append, times_gone, permuted}
 use Rattle.smx_model.proofs.AcceptedLemmas.{of_rows, taken}

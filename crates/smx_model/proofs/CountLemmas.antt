@@ -1,12 +1,11 @@
 -- The number of occurrences of a number in a list.
-use Rattle.std.proofs.Common.{◌≡◌, ℕ, ◌+◌, ◌≤◌, Bool, true, false, not, cond, eqb, ltb, List, [], ◌∷◌, ◌++◌, filter}
-use Rattle.std.proofs.Common.{refl, sym, ap, ◌∙◌, subst, arith, inl, inr}
-use Rattle.std.specs.List.{list_any}
-use Rattle.std.specs.List.Sorted.{IsPermutation}
-use Rattle.std.proofs.lemmas.Bool.{cases_Bool, cases_eq, eqb-true, eq-eqb, ne_eqb, false≢true, or_cases, or_parts}
+use Rattle.smx_model.proofs.Common.{◌≡◌, ℕ, ◌+◌, ◌≤◌, Bool, true, false, not, cond, eqb, List, [], ◌∷◌, ◌++◌, filter}
+use Rattle.smx_model.proofs.Common.{refl, sym, ap, ◌∙◌, subst, arith, inl, inr, list_any, IsPermutation, cases_Bool}
+use Rattle.smx_model.proofs.Common.{cases_eq, eqb-true, eq-eqb, ne_eqb, false≢true, or_cases, or_parts, with_inserted}
+use Rattle.smx_model.proofs.Common.{in_rising_order, without_first}
+use Rattle.std.proofs.Common.{ltb}
 use Rattle.std.proofs.lemmas.List.Sorted.{IsPermutation-refl, IsPermutation-cons, IsPermutation-trans}
 use Rattle.std.proofs.lemmas.List.Sorted.{IsPermutation-sym, IsPermutation-to_front, IsPermutation-append_left}
-use Rattle.smx_model.specs.Ordered.{with_inserted, in_rising_order, without_first}
 
 -- the number of occurrences of n in a list
 abbrev pub times : ℕ → List ℕ → ℕ

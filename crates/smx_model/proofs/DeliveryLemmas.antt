@@ -1,31 +1,17 @@
 -- Messages keep their serial, address and bytes from acceptance to delivery.
-use Rattle.std.proofs.Common.{◌≡◌, ◌⊎◌, ℕ, Bool, List, [], ◌∷◌, ◌++◌, Some, Ok, Err, refl}
-use Rattle.std.proofs.Common.{rules, ap, sym, ◌∙◌, subst, inl, inr}
-use Rattle.std.specs.List.{All}
-use Rattle.std.proofs.lemmas.Bool.{cases_Bool}
-use Rattle.smx_types.specs.declared.command.Command.{Command}
+use Rattle.smx_model.proofs.Common.{◌≡◌, ◌⊎◌, ℕ, Bool, List, [], ◌∷◌, ◌++◌, Some, Ok, Err, refl, rules, ap, sym, ◌∙◌}
+use Rattle.smx_model.proofs.Common.{subst, inl, inr, All, cases_Bool, Command, Entry, DriverSpec, Message, Reply, Place}
+use Rattle.smx_model.proofs.Common.{outcome, step, after_outcome, done_outcome, Configuration, QueuedMessage, empty}
+use Rattle.smx_model.proofs.Common.{is_at, queued_before, after, after_from, IsLegal, IsLegalFrom, without_first}
+use Rattle.smx_model.proofs.Common.{Outcome, first_message, after_leaving, delivered_by, IsTakenIn, Sends}
+use Rattle.smx_model.proofs.Common.{after_settling, AllByRecursion, All-from_recursion}
 use Rattle.smx_types.specs.declared.command.Command.TheVariants as command
-use Rattle.smx_types.specs.declared.command.Entry.{Entry}
-use Rattle.smx_types.specs.declared.driver.DriverSpec.{DriverSpec}
-use Rattle.smx_types.specs.declared.message.Message.{Message}
-use Rattle.smx_types.specs.declared.reply.Reply.{Reply}
 use Rattle.smx_types.specs.declared.reply.Reply.TheVariants as reply
-use Rattle.smx_types.specs.declared.stream.Place.{Place}
-use Rattle.smx_model.specs.Commands.{outcome, step, after_outcome, done_outcome}
-use Rattle.smx_model.specs.Configuration.{Configuration, QueuedMessage, empty, is_at, queued_before}
-use Rattle.smx_model.specs.Histories.{after, after_from, IsLegal, IsLegalFrom}
-use Rattle.smx_model.specs.Ordered.{without_first}
-use Rattle.smx_model.specs.Outcomes.{Outcome}
-use Rattle.smx_model.specs.Queues.{first_message, after_leaving}
-use Rattle.smx_model.specs.LawfulHistories.{delivered_by, IsTakenIn, Sends}
-use Rattle.smx_model.specs.Settling.{after_settling}
 use Rattle.smx_model.proofs.SettledLemmas.{MovesKeep, moved_by, settled_by}
 use Rattle.smx_model.proofs.EachLemmas.{each_filter, each_map, each_placed}
 use Rattle.smx_model.proofs.MemberLemmas.{is_first, is_later}
 use Rattle.smx_model.proofs.AcceptedLemmas.{of_rows, taken}
 use Rattle.smx_model.proofs.OutcomeLemmas.{IfAccepted}
-use Rattle.std.specs.List.{AllByRecursion}
-use Rattle.std.proofs.lemmas.List.Elements.{All-from_recursion}
 
 -- P holds of each queued message
 abbrev OfEach : (Message → Type 0) → List QueuedMessage → Type 0

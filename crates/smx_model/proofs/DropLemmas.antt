@@ -1,28 +1,13 @@
 -- The commands that drop messages.
-use Rattle.std.proofs.Common.{◌≡◌, ℕ, Bool, true, false, not, eqb, List, [], ◌∷◌, filter, Ok, Err, refl, rules}
-use Rattle.std.proofs.Common.{sym, ap, ◌∙◌, inl, inr}
-use Rattle.std.specs.List.{list_any, list_all}
-use Rattle.std.proofs.lemmas.Bool.{cases_Bool, and_parts, and_from, or_left, or_right, eq-eqb, false≢true}
-use Rattle.std.specs.List.{AllByRecursion}
-use Rattle.std.proofs.lemmas.List.Elements.{All-from_recursion}
-use Rattle.smx_types.specs.declared.command.Command.{Command}
-use Rattle.smx_types.specs.declared.command.Entry.{Entry}
-use Rattle.smx_types.specs.declared.driver.DriverSpec.{DriverSpec}
-use Rattle.smx_types.specs.declared.reply.Fault.TheVariants.{NotMux}
+use Rattle.smx_model.proofs.Common.{◌≡◌, ℕ, Bool, true, false, not, eqb, List, [], ◌∷◌, filter, Ok, Err, refl, rules}
+use Rattle.smx_model.proofs.Common.{sym, ap, ◌∙◌, inl, inr, list_any, list_all, cases_Bool, and_parts, and_from}
+use Rattle.smx_model.proofs.Common.{or_left, or_right, eq-eqb, false≢true, AllByRecursion, All-from_recursion, Command}
+use Rattle.smx_model.proofs.Common.{Entry, DriverSpec, NotMux, StreamId, outcome, step, after_outcome, done_outcome}
+use Rattle.smx_model.proofs.Common.{Configuration, QueuedMessage, empty, stream_before, is_mux, IsLegal, IsLegalFrom}
+use Rattle.smx_model.proofs.Common.{IsKept, dropped_by, AreDropsAllowed, free_stream, mux_stream, in_rising_order}
+use Rattle.smx_model.proofs.Common.{Outcome, serials_that_left, serials, exists, IsSwept, is_hung, with_hung}
 use Rattle.smx_types.specs.declared.reply.Reply.TheVariants.{Done}
-use Rattle.smx_types.specs.declared.stream.StreamId.{StreamId}
-use Rattle.smx_model.specs.Commands.{outcome, step, after_outcome, done_outcome}
-use Rattle.smx_model.specs.Configuration.{Configuration, QueuedMessage, empty, stream_before}
-use Rattle.smx_model.specs.DriverList.{is_mux}
-use Rattle.smx_model.specs.Histories.{IsLegal, IsLegalFrom}
-use Rattle.smx_model.specs.KeptConfigurations.{IsKept}
-use Rattle.smx_model.specs.LawfulHistories.{dropped_by, may_drop, AreDropsAllowed}
-use Rattle.smx_model.specs.Lookups.{free_stream, mux_stream}
-use Rattle.smx_model.specs.Ordered.{in_rising_order}
-use Rattle.smx_model.specs.Outcomes.{Outcome}
-use Rattle.smx_model.specs.Removal.{serials_that_left, serials}
-use Rattle.smx_model.specs.Standing.{exists}
-use Rattle.smx_model.specs.Swept.{IsSwept}
+use Rattle.smx_model.specs.LawfulHistories.{may_drop}
 use Rattle.smx_model.proofs.IdleSweepLemmas.{swept_idle}
 use Rattle.smx_model.proofs.KeptLemmas.{empty_kept, step_keeps}
 use Rattle.smx_model.proofs.AcceptedLemmas.{of_rows, at_none}
@@ -30,7 +15,6 @@ use Rattle.smx_model.proofs.LookupLemmas.{tested}
 use Rattle.smx_model.proofs.OutcomeLemmas.{IfAccepted, at_ok}
 use Rattle.smx_model.proofs.SweptLemmas.{free_exists, leaf_exists}
 use Rattle.smx_model.proofs.TestLemmas.{all_filter, all_placed}
-use Rattle.smx_model.specs.Hangups.{is_hung, with_hung}
 
 -- if all numbers are in a list, none is left without those of the list
 all_there : (ms ns : List ℕ) → list_all (λ n. list_any (λ m. eqb n m) ms) ns ≡ true

@@ -1,10 +1,7 @@
 -- Properties of all elements of a list, and of each with all later ones, by recursion.
-use Rattle.std.proofs.Common.{◌≡◌, suc, Bool, false, arith, List, [], ◌∷◌, ◌++◌, filter, find, Some, subst, inl}
-use Rattle.std.proofs.Common.{inr, true}
-use Rattle.std.specs.List.{list_any, AllByRecursion, AllPairs, list_all}
-use Rattle.std.proofs.lemmas.Bool.{cases_Bool, and_parts, or_parts}
-use Rattle.std.proofs.lemmas.List.Elements.{recursion_from_All}
-use Rattle.smx_model.specs.Ordered.{AllLater, with_inserted, without_first}
+use Rattle.smx_model.proofs.Common.{◌≡◌, suc, Bool, false, arith, List, [], ◌∷◌, ◌++◌, filter, find, Some, subst, inl}
+use Rattle.smx_model.proofs.Common.{inr, true, list_any, AllByRecursion, AllPairs, list_all, cases_Bool, and_parts}
+use Rattle.smx_model.proofs.Common.{or_parts, recursion_from_All, AllLater, with_inserted, without_first}
 
 -- a property of all elements holds of all that a filter keeps
 pub each_filter : {X : Type 0} (P : X → Type 0) (test : X → Bool) (xs : List X) → AllByRecursion P xs

@@ -1,41 +1,21 @@
 -- With fewer links, routes, bindings and messages, and more hung-up streams, no place is turned.
-use Rattle.std.proofs.Common.{◌≡◌, ℕ, Bool, true, false, ◌&&◌, not, eqb, List, [], filter, find, Option}
-use Rattle.std.proofs.Common.{Some, None, refl, sym, ap, ◌∙◌, inl, inr, rules, ◌<◌, length}
-use Rattle.std.specs.Prelude.{slice_get}
-use Rattle.std.proofs.lemmas.Bool.{both_ways, cases_Bool}
-use Rattle.std.proofs.lemmas.Bool.{false_from_ne_true}
-use Rattle.smx_types.specs.declared.driver.DriverSpec.{DriverSpec}
-use Rattle.smx_types.specs.declared.link.Binding.{Binding}
-use Rattle.smx_types.specs.declared.link.Link.{Link}
-use Rattle.smx_types.specs.declared.link.Route.{Route}
-use Rattle.smx_types.specs.declared.message.Message.{Message}
-use Rattle.smx_types.specs.declared.stream.Place.{Place}
-use Rattle.smx_types.specs.declared.stream.Side.{Side}
+use Rattle.smx_model.proofs.Common.{◌≡◌, ℕ, Bool, true, false, ◌&&◌, not, eqb, List, [], filter, find, Option, Some}
+use Rattle.smx_model.proofs.Common.{None, refl, sym, ap, ◌∙◌, inl, inr, rules, ◌<◌, length, slice_get, both_ways}
+use Rattle.smx_model.proofs.Common.{cases_Bool, false_from_ne_true, DriverSpec, Binding, Link, Route, Message, Place}
+use Rattle.smx_model.proofs.Common.{Side, StreamId, Configuration, QueuedMessage, same_stream, is_mux, first_message}
+use Rattle.smx_model.proofs.Common.{queue, without_queues_at, without_links, without_dead_streams, after_sweep}
+use Rattle.smx_model.proofs.Common.{live_write_side, is_persistent, exists, AreLinksSound, next_of, nowhere, TurnsOnly}
+use Rattle.smx_model.proofs.Common.{is_hung, AllByRecursion, AllLater}
 use Rattle.smx_types.specs.declared.stream.Side.TheVariants as side
-use Rattle.smx_types.specs.declared.stream.StreamId.{StreamId}
-use Rattle.smx_model.specs.Configuration.{Configuration, QueuedMessage, same_stream}
-use Rattle.smx_model.specs.DriverList.{is_mux}
-use Rattle.smx_model.specs.Queues.{first_message, queue}
-use Rattle.smx_model.specs.Removal.{without_queues_at, without_links, without_dead_streams, after_sweep}
-use Rattle.smx_model.specs.Settling.{live_write_side}
-use Rattle.smx_model.specs.Standing.{is_persistent, exists}
-use Rattle.smx_model.specs.SoundLinks.{AreLinksSound}
 use Rattle.smx_model.proofs.EachLemmas.{later_filter, each_filter}
 use Rattle.smx_model.proofs.TestLemmas.{any_filter}
 use Rattle.smx_model.proofs.QueueLemmas.{emptied_queue, front_is}
-use Rattle.smx_model.specs.RunMarks.{next_of}
-use Rattle.smx_model.specs.RunMarks.{nowhere}
-use Rattle.smx_model.specs.RunMarks.{TurnsOnly}
 use Rattle.smx_model.proofs.WaitingLemmas.{next_by}
-use Rattle.smx_model.specs.Hangups.{is_hung}
 use Rattle.smx_model.proofs.SoundLemmas.{sound_filter}
 use Rattle.smx_model.proofs.StandingLemmas.{swept_is}
 use Rattle.smx_model.proofs.SweptLemmas.{AreKeepingLowers, lower_exists}
-use Rattle.smx_model.proofs.FindLemmas.{Finds, finds_by, finds_kept, same_finds}
-use Rattle.smx_model.proofs.FindLemmas.{no_other_number, no_other_pair}
+use Rattle.smx_model.proofs.FindLemmas.{Finds, finds_by, finds_kept, same_finds, no_other_number, no_other_pair}
 use Rattle.smx_model.proofs.TurningLemmas.{bound_side, down_by, lower_side, up_by, stays_by, same_stream_is, turns_then}
-use Rattle.std.specs.List.{AllByRecursion}
-use Rattle.smx_model.specs.Ordered.{AllLater}
 
 -- ---- fewer links, routes, bindings and messages, and more hung-up streams
 

@@ -1,17 +1,10 @@
 -- Searches in lists: with fewer elements, with one more, and by keys that differ.
-use Rattle.std.proofs.Common.{◌≡◌, ℕ, Bool, true, false, ◌&&◌, eqb, List, [], ◌∷◌, ◌++◌, filter, find, Option}
-use Rattle.std.proofs.Common.{Some, None, refl, ap, ◌∙◌, inl, inr, arith}
-use mathlib.Core.Logic.{◌⊎◌}
-use Rattle.std.specs.List.{list_any}
-use Rattle.std.proofs.lemmas.Bool.{cases_Bool}
-use Rattle.std.proofs.lemmas.Bool.{false≢true}
-use Rattle.std.proofs.lemmas.Bool.Decides.{nat_tests}
-use Rattle.smx_model.specs.Ordered.{with_inserted}
+use Rattle.smx_model.proofs.Common.{◌≡◌, ℕ, Bool, true, false, ◌&&◌, eqb, List, [], ◌∷◌, ◌++◌, filter, find, Option}
+use Rattle.smx_model.proofs.Common.{Some, None, refl, ap, ◌∙◌, inl, inr, arith, ◌⊎◌, list_any, cases_Bool, false≢true}
+use Rattle.smx_model.proofs.Common.{nat_tests, with_inserted, AllByRecursion, AllLater}
 use Rattle.smx_model.proofs.EachLemmas.{each_filter, each_map}
 use Rattle.std.specs.Option.{option_or}
 use Rattle.std.proofs.lemmas.List.Folds.{find-append}
-use Rattle.std.specs.List.{AllByRecursion}
-use Rattle.smx_model.specs.Ordered.{AllLater}
 
 -- ---- lists with fewer elements find the same, or nothing
 

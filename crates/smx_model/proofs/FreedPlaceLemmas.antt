@@ -1,30 +1,14 @@
 -- The places that commands free.
-use Rattle.std.proofs.Common.{◌≡◌, ℕ, Bool, true, false, ◌+◌, ◌&&◌, not, cond, List, [], filter, None}
-use Rattle.std.proofs.Common.{refl, rules, sym, ap, ◌∙◌, subst, inl, inr}
-use mathlib.Core.Logic.{◌⊎◌}
-use Rattle.std.specs.Prelude.{slice_get, IfOk}
-use Rattle.std.specs.List.{list_any}
-use Rattle.std.proofs.lemmas.Bool.{both_ways, cases_Bool, and_parts, false≢true}
-use Rattle.smx_types.specs.declared.command.Command.{Command}
+use Rattle.smx_model.proofs.Common.{◌≡◌, ℕ, Bool, true, false, ◌+◌, ◌&&◌, not, cond, List, [], filter, None, refl}
+use Rattle.smx_model.proofs.Common.{rules, sym, ap, ◌∙◌, subst, inl, inr, ◌⊎◌, slice_get, IfOk, list_any, both_ways}
+use Rattle.smx_model.proofs.Common.{cases_Bool, and_parts, false≢true, Command, DriverSpec, Link, LinkKind, Message}
+use Rattle.smx_model.proofs.Common.{Descriptor, Place, StreamId, outcome, done_outcome, link_outcome, send_outcome}
+use Rattle.smx_model.proofs.Common.{receive_outcome, with_fd, Configuration, QueuedMessage, same_place, read_side}
+use Rattle.smx_model.proofs.Common.{write_side, FreesOnly, IsSound, free_stream, live_stream, live_leaf, after_arrival}
+use Rattle.smx_model.proofs.Common.{after_leaving, first_message, is_full, queue, after_sweep, is_read_below}
+use Rattle.smx_model.proofs.Common.{without_links, without_queues_at, nowhere, exists, is_persistent, IsSwept}
 use Rattle.smx_types.specs.declared.command.Command.TheVariants as command
-use Rattle.smx_types.specs.declared.driver.DriverSpec.{DriverSpec}
-use Rattle.smx_types.specs.declared.link.Link.{Link}
-use Rattle.smx_types.specs.declared.link.LinkKind.{LinkKind}
-use Rattle.smx_types.specs.declared.message.Message.{Message}
-use Rattle.smx_types.specs.declared.stream.Descriptor.{Descriptor}
-use Rattle.smx_types.specs.declared.stream.Place.{Place}
-use Rattle.smx_types.specs.declared.stream.StreamId.{StreamId}
-use Rattle.smx_model.specs.Commands.{outcome, done_outcome, link_outcome, send_outcome, receive_outcome}
-use Rattle.smx_model.specs.Commands.{with_fd}
-use Rattle.smx_model.specs.Configuration.{Configuration, QueuedMessage, same_place, read_side, write_side}
-use Rattle.smx_model.specs.FreedPlaces.{FreesOnly, freed_by, is_empty_at, is_side_of}
-use Rattle.smx_model.specs.KeptConfigurations.{IsSound}
-use Rattle.smx_model.specs.Lookups.{free_stream, live_stream, live_leaf}
-use Rattle.smx_model.specs.Queues.{after_arrival, after_leaving, first_message, is_full, queue}
-use Rattle.smx_model.specs.Removal.{after_sweep, is_read_below, without_links, without_queues_at}
-use Rattle.smx_model.specs.RunMarks.{nowhere}
-use Rattle.smx_model.specs.Standing.{exists, is_persistent}
-use Rattle.smx_model.specs.Swept.{IsSwept}
+use Rattle.smx_model.specs.FreedPlaces.{freed_by, is_empty_at, is_side_of}
 use Rattle.smx_model.proofs.DropLemmas.{mux_exists, hung_swept}
 use Rattle.smx_model.proofs.IdleSweepLemmas.{swept_idle}
 use Rattle.smx_model.proofs.AcceptedLemmas.{unlinked}

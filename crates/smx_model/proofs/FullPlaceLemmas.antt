@@ -1,23 +1,14 @@
 -- A full place has messages.
-use Rattle.std.proofs.Common.{◌≡◌, ℕ, ◌<◌, Bool, true, false, ◌&&◌, ◌||◌, not, cond, leb, ltb, arith}
-use Rattle.std.proofs.Common.{List, [], ◌∷◌, length, filter, Ok, Err, None, refl, rules, sym, ap, ◌∙◌, subst}
-use Rattle.std.proofs.Common.{inl, inr}
-use Rattle.std.specs.Prelude.{slice_get}
-use Rattle.std.specs.List.{list_any}
-use Rattle.std.proofs.lemmas.Bool.{and_parts, cases_Bool, false≢true, ltb-true}
-use Rattle.smx_types.specs.declared.command.Command.{Command}
-use Rattle.smx_types.specs.declared.driver.DriverSpec.{DriverSpec}
-use Rattle.smx_types.specs.declared.link.Link.{Link}
-use Rattle.smx_types.specs.declared.message.Message.{Message}
-use Rattle.smx_types.specs.declared.stream.Place.{Place}
-use Rattle.smx_model.specs.Commands.{after_outcome, done_outcome, outcome, step}
-use Rattle.smx_model.specs.Configuration.{Configuration, QueuedMessage, empty, is_at, queued_before, same_place}
+use Rattle.smx_model.proofs.Common.{◌≡◌, ℕ, ◌<◌, Bool, true, false, ◌&&◌, ◌||◌, not, cond, leb, arith, List, [], ◌∷◌}
+use Rattle.smx_model.proofs.Common.{length, filter, Ok, Err, None, refl, rules, sym, ap, ◌∙◌, subst, inl, inr}
+use Rattle.smx_model.proofs.Common.{slice_get, list_any, and_parts, cases_Bool, false≢true, ltb-true, Command}
+use Rattle.smx_model.proofs.Common.{DriverSpec, Link, Message, Place, after_outcome, done_outcome, outcome, step}
+use Rattle.smx_model.proofs.Common.{Configuration, QueuedMessage, empty, is_at, queued_before, same_place}
+use Rattle.smx_model.proofs.Common.{HaveFullPlacesMessages, with_inserted, without_first, Outcome, after_arrival}
+use Rattle.smx_model.proofs.Common.{after_leaving, is_full, queue, without_links, without_queues_at}
+use Rattle.std.proofs.Common.{ltb}
 use Rattle.smx_model.specs.DriverList.{high_of, low_of}
-use Rattle.smx_model.specs.FreedPlaces.{HaveFullPlacesMessages}
-use Rattle.smx_model.specs.Ordered.{with_inserted, without_first}
-use Rattle.smx_model.specs.Outcomes.{Outcome}
-use Rattle.smx_model.specs.Queues.{after_arrival, after_leaving, bytes_at, bytes_of, is_full, queue}
-use Rattle.smx_model.specs.Removal.{without_links, without_queues_at}
+use Rattle.smx_model.specs.Queues.{bytes_at, bytes_of}
 use Rattle.smx_model.proofs.AcceptedLemmas.{of_rows}
 use Rattle.smx_model.proofs.OrderLemmas.{queue_elsewhere, same_self}
 use Rattle.smx_model.proofs.OutcomeLemmas.{IfAccepted}

@@ -1,15 +1,9 @@
 -- Legal histories: their prefixes, their replies are determined, and they are lawful.
-use Rattle.std.proofs.Common.{◌≡◌, ◌≢◌, ℕ, List, [], ◌∷◌, ◌++◌, length, map, refl, sym, ap, ◌∙◌, subst, arith}
-use Rattle.std.specs.List.{AllPairs, range_with_len}
+use Rattle.smx_model.proofs.Common.{◌≡◌, ◌≢◌, ℕ, List, [], ◌∷◌, ◌++◌, length, map, refl, sym, ap, ◌∙◌, subst, arith}
+use Rattle.smx_model.proofs.Common.{AllPairs, range_with_len, Command, Entry, DriverSpec, Reply, step, Configuration}
+use Rattle.smx_model.proofs.Common.{empty, after, after_from, call_of, IsLegal, IsLegalFrom, taken_serials, IsLawful}
+use Rattle.smx_model.proofs.Common.{IsLawfulThroughout}
 use Rattle.std.proofs.lemmas.List.FromFn.{get_or-range_with_len, length-range_with_len}
-use Rattle.smx_types.specs.declared.command.Command.{Command}
-use Rattle.smx_types.specs.declared.command.Entry.{Entry}
-use Rattle.smx_types.specs.declared.driver.DriverSpec.{DriverSpec}
-use Rattle.smx_types.specs.declared.reply.Reply.{Reply}
-use Rattle.smx_model.specs.Commands.{step}
-use Rattle.smx_model.specs.Configuration.{Configuration, empty}
-use Rattle.smx_model.specs.Histories.{after, after_from, call_of, IsLegal, IsLegalFrom}
-use Rattle.smx_model.specs.LawfulHistories.{taken_serials, IsLawful, IsLawfulThroughout}
 use Rattle.smx_model.proofs.ConservationLemmas.{conserving, numbered_from_one}
 use Rattle.smx_model.proofs.KeptLemmas.{always_is_kept}
 

@@ -1,12 +1,8 @@
 -- Lists of hung-up streams are determined by their streams.
-use Rattle.std.proofs.Common.{◌≡◌, ℕ, Bool, true, false, ◌&&◌, ◌||◌, eqb, List, [], ◌∷◌, filter, refl, sym, ap, ◌∙◌}
-use Rattle.std.proofs.Common.{arith, inl, inr}
-use Rattle.std.proofs.lemmas.Bool.{both_ways, cases_Bool, false≢true, or_from, or_left}
-use Rattle.std.proofs.lemmas.Bool.Decides.{nat_tests}
-use Rattle.smx_types.specs.declared.stream.StreamId.{StreamId}
-use Rattle.smx_model.specs.Configuration.{pair_before, same_stream, stream_before}
-use Rattle.smx_model.specs.Hangups.{is_hung, with_hung}
-use Rattle.smx_model.specs.Ordered.{ComesBefore, IsRising}
+use Rattle.smx_model.proofs.Common.{◌≡◌, ℕ, Bool, true, false, ◌&&◌, ◌||◌, eqb, List, [], ◌∷◌, filter, refl, sym, ap}
+use Rattle.smx_model.proofs.Common.{◌∙◌, arith, inl, inr, both_ways, cases_Bool, false≢true, or_from, or_left}
+use Rattle.smx_model.proofs.Common.{nat_tests, StreamId, pair_before, same_stream, stream_before, is_hung, with_hung}
+use Rattle.smx_model.proofs.Common.{ComesBefore, IsRising}
 use Rattle.smx_model.proofs.EachLemmas.{each_map}
 use Rattle.smx_model.proofs.RisingLemmas.{stream_trans}
 use Rattle.smx_model.proofs.SweptLemmas.{stream_self}

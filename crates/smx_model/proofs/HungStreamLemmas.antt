@@ -1,28 +1,12 @@
 -- The hung-up streams after a command.
-use Rattle.std.proofs.Common.{◌≡◌, ℕ, true, false, List, [], filter, Option, Some, None, Result, Ok, Err, refl}
-use Rattle.std.proofs.Common.{rules, sym, ap, ◌∙◌, inl, inr, ◌*◌, length}
-use mathlib.Core.Logic.{◌⊎◌}
-use Rattle.std.specs.Option.{is_some}
-use Rattle.std.proofs.lemmas.Bool.{false≢true}
-use Rattle.smx_types.specs.Versions.{is_hangup}
-use Rattle.smx_types.specs.declared.command.Command.{Command}
+use Rattle.smx_model.proofs.Common.{◌≡◌, ℕ, true, false, List, [], filter, Option, Some, None, Result, Ok, Err, refl}
+use Rattle.smx_model.proofs.Common.{rules, sym, ap, ◌∙◌, inl, inr, ◌*◌, length, ◌⊎◌, is_some, false≢true, is_hangup}
+use Rattle.smx_model.proofs.Common.{Command, DriverSpec, Fault, Place, StreamId, outcome, step, after_outcome}
+use Rattle.smx_model.proofs.Common.{done_outcome, Configuration, is_hung, with_hung, IsKept, leaf_stream, Outcome}
+use Rattle.smx_model.proofs.Common.{without_links, next_of_first, Stays, IsSettled, exists, IsSwept}
 use Rattle.smx_types.specs.declared.command.Command.TheVariants as command
-use Rattle.smx_types.specs.declared.driver.DriverSpec.{DriverSpec}
-use Rattle.smx_types.specs.declared.reply.Fault.{Fault}
 use Rattle.smx_types.specs.declared.reply.Reply.TheVariants as reply
-use Rattle.smx_types.specs.declared.stream.Place.{Place}
-use Rattle.smx_types.specs.declared.stream.StreamId.{StreamId}
-use Rattle.smx_model.specs.Commands.{outcome, step, after_outcome, done_outcome}
-use Rattle.smx_model.specs.Configuration.{Configuration}
-use Rattle.smx_model.specs.Hangups.{is_hung, with_hung}
-use Rattle.smx_model.specs.KeptConfigurations.{IsKept}
-use Rattle.smx_model.specs.Lookups.{leaf_stream}
-use Rattle.smx_model.specs.Outcomes.{Outcome, ◌>>=◌}
-use Rattle.smx_model.specs.Removal.{without_links}
-use Rattle.smx_model.specs.RunMarks.{next_of_first, Stays}
-use Rattle.smx_model.specs.Settling.{IsSettled}
-use Rattle.smx_model.specs.Standing.{exists}
-use Rattle.smx_model.specs.Swept.{IsSwept}
+use Rattle.smx_model.specs.Outcomes.{◌>>=◌}
 use Rattle.smx_model.proofs.DropLemmas.{done_idle, hung_swept}
 use Rattle.smx_model.proofs.AcceptedLemmas.{of_rows, at_none}
 use Rattle.smx_model.proofs.OutcomeLemmas.{IfAccepted}
@@ -32,7 +16,6 @@ use Rattle.smx_model.proofs.SweptLemmas.{leaf_exists, swept_accepted}
 use Rattle.smx_model.proofs.TestLemmas.{keep_all}
 use Rattle.smx_model.proofs.TurningCommandLemmas.{more_hung_turn_none}
 use Rattle.smx_model.proofs.WaitingLemmas.{if_open, movable_by}
-use Rattle.smx_types.specs.declared.reply.Reply.{Reply}
 
 -- each command other than a hangup keeps the hung-up streams that exist
 

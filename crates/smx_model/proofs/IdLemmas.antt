@@ -1,9 +1,7 @@
 -- Rising ids of links.
-use Rattle.std.proofs.Common.{ℕ, ◌<◌, ◌≤◌, ◌+◌, Bool, List, [], ◌∷◌, ◌++◌, filter, arith}
-use Rattle.std.proofs.lemmas.Bool.{lt-ltb}
-use Rattle.std.proofs.lemmas.List.Elements.{All-nil, All-push, All-filter, recursion_from_All}
-use Rattle.smx_types.specs.declared.link.Link.{Link}
-use Rattle.smx_model.specs.SoundLinks.{AreIdsRising}
+use Rattle.smx_model.proofs.Common.{ℕ, ◌<◌, ◌≤◌, ◌+◌, Bool, List, [], ◌∷◌, ◌++◌, filter, arith, lt-ltb, All-nil}
+use Rattle.smx_model.proofs.Common.{All-filter, recursion_from_All, Link, AreIdsRising}
+use Rattle.std.proofs.lemmas.List.Elements.{All-push}
 use Rattle.smx_model.proofs.EachLemmas.{each_map, later_filter, later_push}
 
 -- without links, ids rise below 1 as the next id

@@ -1,18 +1,10 @@
 -- Sweeping a swept configuration changes nothing.
-use Rattle.std.proofs.Common.{arith, ◌≡◌, Bool, true, false, ◌&&◌, ◌||◌, not, eqb, List, [], filter, refl, ap, ◌∙◌}
-use Rattle.std.specs.List.{list_any, list_all}
-use Rattle.smx_types.specs.declared.link.Binding.{Binding}
-use Rattle.smx_types.specs.declared.driver.DriverSpec.{DriverSpec}
-use Rattle.smx_types.specs.declared.link.Link.{Link}
-use Rattle.smx_types.specs.declared.stream.Place.{Place}
-use Rattle.smx_types.specs.declared.link.Route.{Route}
-use Rattle.smx_types.specs.declared.stream.Side.{Side}
+use Rattle.smx_model.proofs.Common.{arith, ◌≡◌, Bool, true, false, ◌&&◌, ◌||◌, not, eqb, List, [], filter, refl, ap}
+use Rattle.smx_model.proofs.Common.{◌∙◌, list_any, list_all, Binding, DriverSpec, Link, Place, Route, Side, StreamId}
+use Rattle.smx_model.proofs.Common.{Configuration, QueuedMessage, same_side, after_sweep, without_links}
+use Rattle.smx_model.proofs.Common.{without_queues_at, without_dead_streams, is_read_below, is_persistent, exists}
+use Rattle.smx_model.proofs.Common.{IsSwept}
 use Rattle.smx_types.specs.declared.stream.Side.TheVariants as side
-use Rattle.smx_types.specs.declared.stream.StreamId.{StreamId}
-use Rattle.smx_model.specs.Configuration.{Configuration, QueuedMessage, same_side}
-use Rattle.smx_model.specs.Removal.{after_sweep, without_links, without_queues_at, without_dead_streams, is_read_below}
-use Rattle.smx_model.specs.Standing.{is_persistent, exists}
-use Rattle.smx_model.specs.Swept.{IsSwept}
 use Rattle.smx_model.proofs.TestLemmas.{keep_all, all_same, all_true, none_kept}
 
 -- two tests don't both fail exactly if one of them passes

@@ -1,18 +1,12 @@
 -- A history is legal or has one first illegal entry; the first illegal entry of an example.
-use Rattle.std.proofs.Common.{◌≡◌, ◌≢◌, ℕ, zero, suc, ◌+◌, ◌<◌, ◌⊎◌, inl, inr, List, [], ◌∷◌, length, take, Some, refl}
-use Rattle.std.proofs.Common.{sym, subst, arith}
-use Rattle.std.specs.Prelude.{slice_get}
-use Rattle.std.proofs.lemmas.Bool.{cases_Bool, cases_order}
+use Rattle.smx_model.proofs.Common.{◌≡◌, ◌≢◌, ℕ, zero, suc, ◌+◌, ◌<◌, ◌⊎◌, inl, inr, List, [], ◌∷◌, length, take, Some}
+use Rattle.smx_model.proofs.Common.{refl, sym, subst, arith, slice_get, cases_Bool, Entry, DriverSpec, Reply, step}
+use Rattle.smx_model.proofs.Common.{Configuration, empty, after_from, IsLegal, IsLegalFrom}
+use Rattle.std.proofs.lemmas.Bool.{cases_order}
 use Rattle.std.proofs.lemmas.Bool.Decides.{not_from_Decides}
 use Rattle.std.proofs.lemmas.List.{take_all}
 use Rattle.std.proofs.lemmas.Option.{slice_get_within}
 use Rattle.smx_types.specs.SameLemmas.{reply_tells}
-use Rattle.smx_types.specs.declared.command.Entry.{Entry}
-use Rattle.smx_types.specs.declared.driver.DriverSpec.{DriverSpec}
-use Rattle.smx_types.specs.declared.reply.Reply.{Reply}
-use Rattle.smx_model.specs.Commands.{step}
-use Rattle.smx_model.specs.Configuration.{Configuration, empty}
-use Rattle.smx_model.specs.Histories.{after_from, IsLegal, IsLegalFrom}
 use Rattle.smx_model.specs.IllegalEntries.{IsFirstIllegal}
 use Rattle.smx_model.specs.Worked.Common.{Fd}
 use Rattle.smx_model.specs.Worked.SecondIsIllegal as second

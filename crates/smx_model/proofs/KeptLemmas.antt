@@ -1,33 +1,18 @@
 -- Each command preserves the invariant of configurations.
-use Rattle.std.proofs.Common.{◌≡◌, ◌↔◌, ℕ, zero, suc, ◌+◌, ◌<◌, Ok, Err, true, ◌≤◌, List, [], ◌∷◌}
-use Rattle.std.proofs.Common.{length, get_or, refl, sym, ◌∙◌, subst, arith, inl, inr}
-use Rattle.std.specs.Prelude.{IfOk}
-use Rattle.std.specs.List.{All, AllPairs}
-use Rattle.std.proofs.lemmas.Bool.{cases_eq, cases_lt, eq-eqb, ltb-true, ne_eqb}
-use Rattle.std.proofs.lemmas.List.Elements.{recursion_from_All}
-use Rattle.smx_types.specs.declared.command.Command.{Command}
-use Rattle.smx_types.specs.declared.command.Entry.{Entry}
-use Rattle.smx_types.specs.declared.driver.DriverSpec.{DriverSpec}
-use Rattle.smx_model.specs.Commands.{outcome, step, after_outcome}
-use Rattle.smx_model.specs.Configuration.{Configuration, empty}
-use Rattle.smx_model.specs.DriverList.{IsDriverList}
-use Rattle.smx_model.specs.Histories.{after, after_from}
-use Rattle.smx_model.specs.KeptConfigurations.{IsKept, IsSound}
-use Rattle.smx_model.specs.KnownStreams.{AreStreamsKnown, IsKnown}
-use Rattle.smx_model.specs.Outcomes.{Outcome}
-use Rattle.smx_model.specs.Removal.{serials}
-use Rattle.smx_model.specs.Settling.{after_move, after_settling}
-use Rattle.smx_model.specs.SoundLinks.{AreIdsRising, AreRoutesSound, AreLinksSound}
-use Rattle.smx_model.specs.Standing.{exists, Stands}
-use Rattle.smx_model.specs.Swept.{IsSwept}
-use Rattle.smx_model.specs.Views.{view}
+use Rattle.smx_model.proofs.Common.{◌≡◌, ℕ, zero, suc, ◌+◌, ◌<◌, Ok, Err, true, ◌≤◌, List, [], ◌∷◌, length, get_or}
+use Rattle.smx_model.proofs.Common.{refl, sym, ◌∙◌, subst, arith, inl, inr, IfOk, All, AllPairs, cases_eq, cases_lt}
+use Rattle.smx_model.proofs.Common.{eq-eqb, ltb-true, ne_eqb, recursion_from_All, Command, Entry, DriverSpec, outcome}
+use Rattle.smx_model.proofs.Common.{step, after_outcome, Configuration, empty, IsDriverList, after, after_from, IsKept}
+use Rattle.smx_model.proofs.Common.{IsSound, AreStreamsKnown, IsKnown, Outcome, serials, after_move, after_settling}
+use Rattle.smx_model.proofs.Common.{AreIdsRising, AreRoutesSound, AreLinksSound, exists, Stands, IsSwept, view}
+use Rattle.smx_model.proofs.Common.{AreListsOrdered, Place, StreamId}
+use Rattle.std.proofs.Common.{◌↔◌}
 use Rattle.smx_model.proofs.SettledLemmas.{settled_by}
 use Rattle.smx_model.proofs.ConservationLemmas.{IsNumbered, Goes, goes_accepted, moved_same, moved_next, numbered_empty}
 use Rattle.smx_model.proofs.ConservationLemmas.{numbered_goes}
 use Rattle.smx_model.proofs.CountLemmas.{times}
 use Rattle.smx_model.proofs.OutcomeLemmas.{IfAccepted, if_ok}
 use Rattle.smx_model.proofs.RangeLemmas.{AreNamed, named_accepted, named_moved}
-use Rattle.smx_model.specs.OrderedParts.{AreListsOrdered}
 use Rattle.smx_model.proofs.RisingLemmas.{rising_accepted, rising_empty, rising_moved}
 use Rattle.smx_model.proofs.RouteLemmas.{AreRouted, rising_ids, routed_accepted, routed_empty, routed_moved}
 use Rattle.smx_model.proofs.RouteLemmas.{sound_routes}
@@ -35,10 +20,7 @@ use Rattle.smx_model.proofs.SettlingLemmas.{settled_is}
 use Rattle.smx_model.proofs.SoundLemmas.{sound_accepted, sound_empty, sound_moved}
 use Rattle.smx_model.proofs.SweptLemmas.{stands_exists, swept_accepted, swept_moved}
 use Rattle.smx_model.proofs.ViewLemmas.{EachKnown, each_known, known_of_each, one_configuration}
-use Rattle.smx_types.specs.declared.stream.Place.{Place}
-use Rattle.smx_types.specs.declared.stream.StreamId.{StreamId}
-use Rattle.smx_model.proofs.EachLemmas.{each_both, later_map}
-use Rattle.smx_model.proofs.EachLemmas.{each_map}
+use Rattle.smx_model.proofs.EachLemmas.{each_both, later_map, each_map}
 
 -- numbers in a list, by index and by count
 

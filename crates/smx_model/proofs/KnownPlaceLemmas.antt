@@ -1,15 +1,7 @@
 -- The drivers have the streams of places with messages, and of next places.
-use Rattle.std.proofs.Common.{List, [], ◌∷◌, None, refl, subst}
-use Rattle.std.proofs.Common.{inl, inr}
-use Rattle.std.specs.Prelude.{◌≢◌}
-use Rattle.std.proofs.lemmas.Bool.{cases_Bool}
-use Rattle.std.specs.List.{AllByRecursion}
-use Rattle.std.proofs.lemmas.List.Elements.{recursion_from_All}
-use Rattle.smx_types.specs.declared.driver.DriverSpec.{DriverSpec}
-use Rattle.smx_types.specs.declared.stream.Place.{Place}
-use Rattle.smx_model.specs.Configuration.{Configuration, QueuedMessage, is_at}
-use Rattle.smx_model.specs.KnownStreams.{AreStreamsKnown, IsKnown}
-use Rattle.smx_model.specs.Queues.{first_message}
+use Rattle.smx_model.proofs.Common.{List, [], ◌∷◌, None, refl, subst, inl, inr, ◌≢◌, cases_Bool, AllByRecursion}
+use Rattle.smx_model.proofs.Common.{recursion_from_All, DriverSpec, Place, Configuration, QueuedMessage, is_at}
+use Rattle.smx_model.proofs.Common.{AreStreamsKnown, IsKnown, first_message}
 use Rattle.smx_model.proofs.SettlingLemmas.{same_place_is}
 
 -- if the drivers have the streams of all messages, they have the stream of a place with a message

@@ -1,18 +1,9 @@
 -- The least marked place and the least movable one, and settling move by move.
-use Rattle.std.proofs.Common.{◌≡◌, ℕ, zero, suc, Bool, true, false, List, [], ◌∷◌, find, Option, Some}
-use Rattle.std.proofs.Common.{None, refl}
-use Rattle.std.proofs.Common.{ap, inl, inr}
-use Rattle.std.specs.Option.{option_map}
-use Rattle.std.proofs.lemmas.Bool.{both_ways, cases_Bool}
-use Rattle.smx_types.specs.declared.driver.DriverSpec.{DriverSpec}
-use Rattle.smx_types.specs.declared.stream.Place.{Place}
-use Rattle.smx_model.specs.Configuration.{Configuration, QueuedMessage, place_before, same_place}
-use Rattle.smx_model.specs.FlowOrder.{IsInOrder}
-use Rattle.smx_model.specs.LeastMovable.{IsLeastMovable}
-use Rattle.smx_model.specs.RunMarks.{AreMarked}
-use Rattle.smx_model.specs.Settling.{IsSettled, after_move, after_settling_within, is_movable}
-use Rattle.smx_model.specs.Settling.{least_movable}
-use Rattle.smx_model.specs.RunMarks.{IsLeastMarked}
+use Rattle.smx_model.proofs.Common.{◌≡◌, ℕ, zero, suc, Bool, true, false, List, [], ◌∷◌, find, Option, Some, None, refl}
+use Rattle.smx_model.proofs.Common.{ap, inl, inr, option_map, both_ways, cases_Bool, DriverSpec, Place, Configuration}
+use Rattle.smx_model.proofs.Common.{QueuedMessage, place_before, same_place, IsInOrder, IsLeastMovable, IsSettled}
+use Rattle.smx_model.proofs.Common.{after_move, after_settling_within, is_movable, least_movable}
+use Rattle.smx_model.specs.RunMarks.{AreMarked, IsLeastMarked}
 use Rattle.smx_model.proofs.OrderLemmas.{place_either}
 use Rattle.smx_model.proofs.QueueLemmas.{least_is}
 use Rattle.smx_model.proofs.SettlingLemmas.{same_place_is}

@@ -1,25 +1,13 @@
 -- Limits: of links, of descriptors of each process, and of numbers.
-use Rattle.std.proofs.Common.{◌≡◌, ℕ, ◌+◌, ◌<◌, ◌≤◌, Bool, true, false, ◌||◌, not, leb, eqb, arith, List, []}
-use Rattle.std.proofs.Common.{◌∷◌, ◌++◌, length, filter, Ok, rules, subst, inl}
-use Rattle.std.proofs.Common.{inr}
-use Rattle.std.specs.List.{count_by, list_any}
-use Rattle.std.proofs.lemmas.Bool.{cases_Bool, eqb-true, leb-false, or_parts}
+use Rattle.smx_model.proofs.Common.{◌≡◌, ℕ, ◌+◌, ◌<◌, ◌≤◌, Bool, true, false, ◌||◌, not, leb, eqb, arith, List, [], ◌∷◌}
+use Rattle.smx_model.proofs.Common.{◌++◌, length, filter, Ok, rules, subst, inl, inr, list_any, cases_Bool, eqb-true}
+use Rattle.smx_model.proofs.Common.{or_parts, nat_tests, AllByRecursion, Command, Entry, DriverSpec, MAX_DESCRIPTORS}
+use Rattle.smx_model.proofs.Common.{MAX_LINKS, NUMBER_END, Link, TooManyDescriptors, Descriptor, outcome, Configuration}
+use Rattle.smx_model.proofs.Common.{empty, fd_before, is_fd, pair_before, after, free_fd, ComesBefore, IsRising}
+use Rattle.std.specs.List.{count_by}
+use Rattle.std.proofs.lemmas.Bool.{leb-false}
 use Rattle.std.proofs.lemmas.List.{length_push}
 use Rattle.std.proofs.lemmas.List.Sums.{count_by-le-length, length-filter}
-use Rattle.std.proofs.lemmas.Bool.Decides.{nat_tests}
-use Rattle.std.specs.List.{AllByRecursion}
-use Rattle.smx_types.specs.declared.command.Command.{Command}
-use Rattle.smx_types.specs.declared.command.Entry.{Entry}
-use Rattle.smx_types.specs.declared.driver.DriverSpec.{DriverSpec}
-use Rattle.smx_types.specs.declared.limits.TheConstants.{MAX_DESCRIPTORS, MAX_LINKS, NUMBER_END}
-use Rattle.smx_types.specs.declared.link.Link.{Link}
-use Rattle.smx_types.specs.declared.reply.Fault.TheVariants.{TooManyDescriptors}
-use Rattle.smx_types.specs.declared.stream.Descriptor.{Descriptor}
-use Rattle.smx_model.specs.Commands.{outcome}
-use Rattle.smx_model.specs.Configuration.{Configuration, empty, fd_before, is_fd, pair_before}
-use Rattle.smx_model.specs.Histories.{after}
-use Rattle.smx_model.specs.Lookups.{free_fd}
-use Rattle.smx_model.specs.Ordered.{ComesBefore, IsRising}
 use Rattle.smx_model.proofs.SettledLemmas.{MovesKeep, after_by, moved_by}
 use Rattle.smx_model.proofs.EachLemmas.{each_filter, each_map, each_of_every, each_placed}
 use Rattle.smx_model.proofs.KeptLemmas.{always_is_kept}

@@ -1,19 +1,12 @@
 -- The result of a look-up that is not refused.
-use Rattle.std.proofs.Common.{◌≡◌, ℕ, Bool, true, false, List, Option, Some, None, Result, Ok, Err, refl, sym, ap, ◌∙◌}
-use Rattle.std.specs.List.{find}
-use Rattle.std.specs.Option.{option_map, ok_or}
-use Rattle.smx_types.specs.declared.driver.DriverSpec.{DriverSpec}
-use Rattle.smx_types.specs.declared.reply.Fault.{Fault}
+use Rattle.smx_model.proofs.Common.{◌≡◌, ℕ, Bool, true, false, List, Option, Some, None, Result, Ok, Err, refl, sym, ap}
+use Rattle.smx_model.proofs.Common.{◌∙◌, find, option_map, DriverSpec, Fault, Place, StreamId, Descriptor}
+use Rattle.smx_model.proofs.Common.{Configuration, is_fd, is_hung, free_stream, leaf_stream, live_leaf, live_stream}
+use Rattle.smx_model.proofs.Common.{stream_of, refuse, live_write_side}
+use Rattle.std.specs.Option.{ok_or}
 use Rattle.smx_types.specs.declared.reply.Fault.TheVariants.{BadDescriptor, HungUp}
-use Rattle.smx_types.specs.declared.stream.Place.{Place}
 use Rattle.smx_types.specs.declared.stream.Side.TheVariants as side
-use Rattle.smx_types.specs.declared.stream.StreamId.{StreamId}
-use Rattle.smx_types.specs.declared.stream.Descriptor.{Descriptor}
-use Rattle.smx_model.specs.Configuration.{Configuration, is_fd}
-use Rattle.smx_model.specs.Hangups.{is_hung}
-use Rattle.smx_model.specs.Lookups.{free_stream, leaf_stream, live_leaf, live_stream, stream_of}
-use Rattle.smx_model.specs.Outcomes.{◌>>=◌, refuse}
-use Rattle.smx_model.specs.Settling.{live_write_side}
+use Rattle.smx_model.specs.Outcomes.{◌>>=◌}
 
 -- if a missing value would be a fault and there is no fault, the value exists
 pub there_is : {A : Type 0} (f : Fault) (o : Option A) (x : A) → ok_or o f ≡ Ok x → o ≡ Some x

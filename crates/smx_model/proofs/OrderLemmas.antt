@@ -1,17 +1,8 @@
 -- The queues of a flow in order determine it.
-use Rattle.std.proofs.Common.{◌≡◌, true, false, List, [], ◌∷◌, ◌++◌, refl, sym}
-use Rattle.std.proofs.Common.{ap, ◌∙◌, subst, arith, inl, inr}
-use Rattle.std.specs.List.{AllByRecursion}
-use Rattle.std.proofs.lemmas.Bool.{both_ways, cases_Bool}
-use Rattle.std.proofs.lemmas.Bool.Decides.{nat_tests}
-use Rattle.smx_types.specs.declared.message.Message.{Message}
-use Rattle.smx_types.specs.declared.stream.Place.{Place}
-use Rattle.smx_types.specs.declared.driver.DriverSpec.{DriverSpec}
-use Rattle.smx_model.specs.Configuration.{Configuration, QueuedMessage, is_at, queued_before, place_before, same_place}
-use Rattle.smx_model.specs.FlowOrder.{IsInOrder}
-use Rattle.smx_model.specs.Ordered.{with_inserted}
-use Rattle.smx_model.specs.Queues.{queue}
-use Rattle.smx_model.specs.Settling.{after_move}
+use Rattle.smx_model.proofs.Common.{◌≡◌, true, false, List, [], ◌∷◌, ◌++◌, refl, sym, ap, ◌∙◌, subst, arith, inl, inr}
+use Rattle.smx_model.proofs.Common.{AllByRecursion, both_ways, cases_Bool, nat_tests, Message, Place, DriverSpec}
+use Rattle.smx_model.proofs.Common.{Configuration, QueuedMessage, is_at, queued_before, place_before, same_place}
+use Rattle.smx_model.proofs.Common.{IsInOrder, with_inserted, queue, after_move}
 use Rattle.smx_model.proofs.EachLemmas.{each_of_every, later_placed, later_without_first}
 use Rattle.smx_model.proofs.SettledLemmas.{moved_by}
 use Rattle.smx_model.proofs.SettlingLemmas.{same_place_is}

@@ -1,12 +1,11 @@
 -- Paths, and the test for them.
-use Rattle.std.proofs.Common.{◌≡◌, ℕ, zero, suc, ◌<◌, Bool, true, false, ◌&&◌, ◌||◌, eqb, List, [], ◌∷◌, ◌++◌, length}
-use Rattle.std.proofs.Common.{get_or, refl, ◌∙◌, sym, subst, arith, inl, inr, length-append, find, Some}
+use Rattle.smx_model.proofs.Common.{◌≡◌, ℕ, zero, suc, ◌<◌, Bool, true, false, ◌&&◌, ◌||◌, eqb, List, [], ◌∷◌, ◌++◌}
+use Rattle.smx_model.proofs.Common.{length, get_or, refl, ◌∙◌, sym, subst, arith, inl, inr, length-append, find, Some}
+use Rattle.smx_model.proofs.Common.{false_from_ne_true, cases_Bool, false≢true, both_ways, or_cases, and_parts}
+use Rattle.smx_model.proofs.Common.{and_from, or_left, or_right, eqb-true, eq-eqb, Link, HasNoCycle, reaches}
 use Rattle.std.specs.List.{Contains}
-use Rattle.std.proofs.lemmas.Bool.{false_from_ne_true, cases_Bool, false≢true, both_ways, or_cases, and_parts, and_from}
-use Rattle.std.proofs.lemmas.Bool.{or_left, or_right, eqb-true, eq-eqb}
 use Rattle.std.proofs.lemmas.List.Elements.{Contains-append_cases, Contains-append_left, Contains-append_right}
-use Rattle.smx_types.specs.declared.link.Link.{Link}
-use Rattle.smx_model.specs.Paths.{IsPath, Path, HasNoCycle, reaches}
+use Rattle.smx_model.specs.Paths.{IsPath, Path}
 use Rattle.smx_model.proofs.MemberLemmas.{is_first, is_later}
 
 -- driver a is driver b, or reaches it

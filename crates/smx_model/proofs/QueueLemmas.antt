@@ -1,26 +1,16 @@
 -- Changes of single queues and full marks, the least movable place, and the dropped serials.
-use Rattle.std.proofs.Common.{◌≡◌, ℕ, Bool, true, false, ◌||◌, not, cond, eqb, List, [], ◌∷◌, ◌++◌}
-use Rattle.std.proofs.Common.{filter, find, drop, Option, Some, None, refl, sym, ap, ◌∙◌, subst, inl}
-use Rattle.std.proofs.Common.{inr}
-use Rattle.std.specs.Prelude.{slice_get}
-use Rattle.std.specs.List.{AllPairs, list_any}
-use Rattle.std.proofs.lemmas.Bool.{both_ways, cases_Bool, eq-eqb, eqb-true, false_from_ne_true, ne_eqb}
-use Rattle.smx_types.specs.declared.driver.DriverSpec.{DriverSpec}
-use Rattle.smx_types.specs.declared.message.Message.{Message}
-use Rattle.smx_types.specs.declared.stream.Place.{Place}
-use Rattle.smx_model.specs.Configuration.{Configuration, QueuedMessage, queued_before, is_at, place_before, same_place}
-use Rattle.smx_model.specs.FlowOrder.{IsInOrder}
-use Rattle.smx_model.specs.LeastMovable.{IsLeastMovable}
-use Rattle.smx_model.specs.Ordered.{with_inserted, in_rising_order, without_first}
-use Rattle.smx_model.specs.Queues.{first_message, with_mark, queue}
-use Rattle.smx_model.specs.Removal.{serials_that_left, serials}
-use Rattle.smx_model.specs.Settling.{is_movable, least_movable}
+use Rattle.smx_model.proofs.Common.{◌≡◌, ℕ, Bool, true, false, ◌||◌, not, cond, eqb, List, [], ◌∷◌, ◌++◌, filter, find}
+use Rattle.smx_model.proofs.Common.{Option, Some, None, refl, sym, ap, ◌∙◌, subst, inl, inr, slice_get, AllPairs}
+use Rattle.smx_model.proofs.Common.{list_any, both_ways, cases_Bool, eq-eqb, eqb-true, false_from_ne_true, ne_eqb}
+use Rattle.smx_model.proofs.Common.{DriverSpec, Message, Place, Configuration, QueuedMessage, queued_before, is_at}
+use Rattle.smx_model.proofs.Common.{place_before, same_place, IsInOrder, IsLeastMovable, with_inserted, in_rising_order}
+use Rattle.smx_model.proofs.Common.{without_first, first_message, with_mark, queue, serials_that_left, serials}
+use Rattle.smx_model.proofs.Common.{is_movable, least_movable, AllByRecursion, AllLater}
+use Rattle.std.proofs.Common.{drop}
 use Rattle.smx_model.proofs.OrderLemmas.{queue_elsewhere, queue_placed, same_self, same_not_before}
 use Rattle.smx_model.proofs.SettlingLemmas.{no_front, none_least, same_place_is, some_least}
 use Rattle.smx_model.proofs.EachLemmas.{later_pairs}
 use Rattle.smx_model.proofs.TestLemmas.{find_passes, any_of_placed}
-use Rattle.std.specs.List.{AllByRecursion}
-use Rattle.smx_model.specs.Ordered.{AllLater}
 
 -- equal places have the same equalities with a third
 same_places : (p q r : Place) → same_place p q ≡ true → same_place p r ≡ same_place q r

@@ -1,43 +1,28 @@
 -- A history without a hangup reports none.
-use Rattle.std.proofs.Common.{◌≡◌, ℕ, zero, suc, Bool, true, false, ◌&&◌, ◌||◌, not, eqb, ltb, List, [], ◌∷◌, length}
-use Rattle.std.proofs.Common.{filter, Option, Some, None, Result, Ok, Err, refl, rules, sym, ap, ◌∙◌, inl, inr}
-use Rattle.std.specs.Prelude.{slice_index_or, if◌then◌else◌}
-use Rattle.std.specs.List.{list_any}
-use Rattle.std.specs.Option.{is_some, ok_or}
-use Rattle.std.proofs.lemmas.Bool.{both_ways, cases_Bool, and_from, eq-eqb, false_from_ne_true, false≢true, or_cases}
-use Rattle.std.proofs.lemmas.Bool.{or_from, or_left, or_parts, or_right}
-use Rattle.smx_types.specs.ProgramLists.{ProgramLists}
-use Rattle.smx_types.specs.Versions.{are_more_drivers, is_hangup, is_of_hangup, least_of_programs}
+use Rattle.smx_model.proofs.Common.{◌≡◌, ℕ, zero, suc, Bool, true, false, ◌&&◌, ◌||◌, not, eqb, List, [], ◌∷◌, length}
+use Rattle.smx_model.proofs.Common.{filter, Option, Some, None, Result, Ok, Err, refl, rules, sym, ap, ◌∙◌, inl, inr}
+use Rattle.smx_model.proofs.Common.{if◌then◌else◌, list_any, is_some, both_ways, cases_Bool, and_from, eq-eqb}
+use Rattle.smx_model.proofs.Common.{false_from_ne_true, false≢true, or_cases, or_from, or_left, or_parts, or_right}
+use Rattle.smx_model.proofs.Common.{ProgramLists, is_hangup, Command, Entry, Which, DriverSpec, Link, LinkKind, Fault}
+use Rattle.smx_model.proofs.Common.{Place, StreamId, Transcript, outcome, step, after_outcome, done_outcome}
+use Rattle.smx_model.proofs.Common.{link_outcome, receive_outcome, unlink_outcome, Configuration, empty, is_hung}
+use Rattle.smx_model.proofs.Common.{IsReportOf, after, after_from, HoldsPrograms, IsLegal, IsLegalFrom, IsKept}
+use Rattle.smx_model.proofs.Common.{free_stream, live_leaf, live_stream, mux_stream, Outcome, refuse, first_message}
+use Rattle.smx_model.proofs.Common.{without_links, exists}
+use Rattle.std.proofs.Common.{ltb}
+use Rattle.std.specs.Prelude.{slice_index_or}
+use Rattle.std.specs.Option.{ok_or}
+use Rattle.smx_types.specs.Versions.{are_more_drivers, is_of_hangup, least_of_programs}
 use Rattle.smx_types.specs.Versions.{least_of_transcript, tells_of_hangup, version_2_where}
-use Rattle.smx_types.specs.declared.command.Command.{Command}
 use Rattle.smx_types.specs.declared.command.Command.TheVariants as command
-use Rattle.smx_types.specs.declared.command.Entry.{Entry}
-use Rattle.smx_types.specs.declared.command.Which.{Which}
 use Rattle.smx_types.specs.declared.command.Which.TheVariants as which
-use Rattle.smx_types.specs.declared.driver.DriverSpec.{DriverSpec}
-use Rattle.smx_types.specs.declared.link.Link.{Link}
-use Rattle.smx_types.specs.declared.link.LinkKind.{LinkKind}
-use Rattle.smx_types.specs.declared.reply.Fault.{Fault}
 use Rattle.smx_types.specs.declared.reply.Fault.TheVariants as fault
 use Rattle.smx_types.specs.declared.reply.Reply.TheVariants as reply
-use Rattle.smx_types.specs.declared.stream.Place.{Place}
 use Rattle.smx_types.specs.declared.stream.Side.TheVariants as side
-use Rattle.smx_types.specs.declared.stream.StreamId.{StreamId}
-use Rattle.smx_types.specs.declared.transcript.Transcript.{Transcript}
 use Rattle.smx_types.specs.declared.version.Version.TheVariants.{V1}
-use Rattle.smx_model.specs.Commands.{outcome, step, after_outcome, done_outcome, link_outcome, read_outcome}
-use Rattle.smx_model.specs.Commands.{receive_outcome, unlink_outcome}
-use Rattle.smx_model.specs.Configuration.{Configuration, empty}
-use Rattle.smx_model.specs.Hangups.{is_hung}
-use Rattle.smx_model.specs.Headline.{IsReportOf}
-use Rattle.smx_model.specs.Histories.{after, after_from, commands_of, HoldsPrograms, IsLegal, IsLegalFrom}
-use Rattle.smx_model.specs.KeptConfigurations.{IsKept}
-use Rattle.smx_model.specs.Lookups.{free_stream, live_leaf, live_stream}
-use Rattle.smx_model.specs.Lookups.{mux_stream}
-use Rattle.smx_model.specs.Outcomes.{Outcome, ◌>>=◌, refuse}
-use Rattle.smx_model.specs.Queues.{first_message}
-use Rattle.smx_model.specs.Removal.{without_links}
-use Rattle.smx_model.specs.Standing.{exists}
+use Rattle.smx_model.specs.Commands.{read_outcome}
+use Rattle.smx_model.specs.Histories.{commands_of}
+use Rattle.smx_model.specs.Outcomes.{◌>>=◌}
 use Rattle.smx_model.proofs.HungStreamLemmas.{others_leave_hungs}
 use Rattle.smx_model.proofs.KeptLemmas.{empty_kept, step_keeps}
 

@@ -1,25 +1,13 @@
 -- The drivers have the streams of descriptors and links.
-use Rattle.std.proofs.Common.{◌≡◌, ℕ, zero, suc, ◌+◌, ◌<◌, Bool, false, not, leb, arith, List, [], ◌∷◌, length}
-use Rattle.std.proofs.Common.{find, Some, Ok, rules, subst, inl, inr}
+use Rattle.smx_model.proofs.Common.{◌≡◌, ℕ, zero, suc, ◌+◌, ◌<◌, Bool, false, not, leb, arith, List, [], ◌∷◌, length}
+use Rattle.smx_model.proofs.Common.{find, Some, Ok, rules, subst, inl, inr, range_with_len, cases_Bool, AllByRecursion}
+use Rattle.smx_model.proofs.Common.{Command, NoDriver, NoMinor, DriverSpec, Link, Place, StreamId, outcome}
+use Rattle.smx_model.proofs.Common.{Configuration, is_fd, minors_of, IsKnown, driver_of, stream_of, free_minor}
+use Rattle.smx_model.proofs.Common.{after_move, exists}
 use Rattle.std.specs.Prelude.{position}
 use Rattle.std.specs.Str.{bytes_eq}
-use Rattle.std.specs.List.{range_with_len}
-use Rattle.std.proofs.lemmas.Bool.{cases_Bool, leb-false}
+use Rattle.std.proofs.lemmas.Bool.{leb-false}
 use Rattle.std.proofs.lemmas.List.Quantifiers.{position-Some}
-use Rattle.std.specs.List.{AllByRecursion}
-use Rattle.smx_types.specs.declared.command.Command.{Command}
-use Rattle.smx_types.specs.declared.reply.Fault.TheVariants.{NoDriver, NoMinor}
-use Rattle.smx_types.specs.declared.driver.DriverSpec.{DriverSpec}
-use Rattle.smx_types.specs.declared.link.Link.{Link}
-use Rattle.smx_types.specs.declared.stream.Place.{Place}
-use Rattle.smx_types.specs.declared.stream.StreamId.{StreamId}
-use Rattle.smx_model.specs.Commands.{outcome}
-use Rattle.smx_model.specs.Configuration.{Configuration, is_fd}
-use Rattle.smx_model.specs.DriverList.{minors_of}
-use Rattle.smx_model.specs.KnownStreams.{IsKnown}
-use Rattle.smx_model.specs.Lookups.{driver_of, stream_of, free_minor}
-use Rattle.smx_model.specs.Settling.{after_move}
-use Rattle.smx_model.specs.Standing.{exists}
 use Rattle.smx_model.proofs.SettledLemmas.{moved_by}
 use Rattle.smx_model.proofs.AcceptedLemmas.{of_rows}
 use Rattle.smx_model.proofs.LookupLemmas.{descriptor_of, there_is}

@@ -1,14 +1,8 @@
 -- No accepted outcome has a fault as its reply.
-use Rattle.std.proofs.Common.{◌≡◌, ℕ, Bool, true, false, List, Ok, Err, refl, rules, sym, ap, ◌∙◌}
-use Rattle.std.proofs.lemmas.Bool.{false≢true}
-use Rattle.smx_types.specs.declared.command.Command.{Command}
-use Rattle.smx_types.specs.declared.driver.DriverSpec.{DriverSpec}
-use Rattle.smx_types.specs.declared.reply.Fault.{Fault}
-use Rattle.smx_types.specs.declared.reply.Reply.{Reply}
+use Rattle.smx_model.proofs.Common.{◌≡◌, ℕ, Bool, true, false, List, Ok, Err, refl, rules, sym, ap, ◌∙◌, false≢true}
+use Rattle.smx_model.proofs.Common.{Command, DriverSpec, Fault, Reply, outcome, step, after_outcome, done_outcome}
+use Rattle.smx_model.proofs.Common.{Configuration, Outcome}
 use Rattle.smx_types.specs.declared.reply.Reply.TheVariants as reply
-use Rattle.smx_model.specs.Commands.{outcome, step, after_outcome, done_outcome}
-use Rattle.smx_model.specs.Configuration.{Configuration}
-use Rattle.smx_model.specs.Outcomes.{Outcome}
 use Rattle.smx_model.proofs.AcceptedLemmas.{of_rows}
 use Rattle.smx_model.proofs.OutcomeLemmas.{IfAccepted}
 

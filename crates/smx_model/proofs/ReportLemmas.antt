@@ -1,19 +1,9 @@
 -- Reports of the same programs in the same order are equal; the example, and transcripts that are not reports.
-use Rattle.std.proofs.Common.{◌≡◌, zero, suc, false, List, [], ◌∷◌, map, refl, sym, ap, ◌∙◌, length, arith}
-use Rattle.std.specs.Prelude.{◌==◌, Ok}
-use Rattle.std.proofs.lemmas.Bool.Decides.{nat_tests}
-use Rattle.std.proofs.lemmas.List.Elements.{All-from_recursion}
+use Rattle.smx_model.proofs.Common.{◌≡◌, zero, suc, false, List, [], ◌∷◌, map, refl, sym, ap, ◌∙◌, length, arith, ◌==◌}
+use Rattle.smx_model.proofs.Common.{Ok, nat_tests, All-from_recursion, ProgramLists, Command, Entry, DriverSpec}
+use Rattle.smx_model.proofs.Common.{Transcript, ConfigView, IsDriverList, IsReportOf, after, call_of, HoldsPrograms}
+use Rattle.smx_model.proofs.Common.{IsLegal, view}
 use Rattle.smx_types.specs.Drivers.{spec_check}
-use Rattle.smx_types.specs.ProgramLists.{ProgramLists}
-use Rattle.smx_types.specs.declared.command.Command.{Command}
-use Rattle.smx_types.specs.declared.command.Entry.{Entry}
-use Rattle.smx_types.specs.declared.driver.DriverSpec.{DriverSpec}
-use Rattle.smx_types.specs.declared.transcript.Transcript.{Transcript}
-use Rattle.smx_types.specs.declared.view.ConfigView.{ConfigView}
-use Rattle.smx_model.specs.DriverList.{IsDriverList}
-use Rattle.smx_model.specs.Headline.{IsReportOf}
-use Rattle.smx_model.specs.Histories.{after, call_of, HoldsPrograms, IsLegal}
-use Rattle.smx_model.specs.Views.{view}
 use Rattle.smx_model.specs.Worked.Common.{OpenClone, Dup, CloseAll, Fd, Fault, BadDescriptor, ip}
 use Rattle.smx_model.specs.Worked.Reports.{another_exited, copied, drivers, exited, once_more, one, opened, programs}
 use Rattle.smx_model.specs.Worked.Reports.{report_with, three, too_early, two}

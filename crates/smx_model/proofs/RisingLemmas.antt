@@ -1,29 +1,13 @@
 -- Descriptors, bindings, routes, full places and hung-up streams stay in their order.
-use Rattle.std.proofs.Common.{◌≡◌, ℕ, Bool, true, false, ◌&&◌, ◌||◌, not, eqb, List, filter}
-use Rattle.std.proofs.Common.{Ok, refl, rules, arith}
-use Rattle.std.specs.List.{list_any, range_with_len}
+use Rattle.smx_model.proofs.Common.{◌≡◌, ℕ, Bool, true, false, ◌&&◌, ◌||◌, not, eqb, List, filter, Ok, refl, rules}
+use Rattle.smx_model.proofs.Common.{arith, list_any, range_with_len, nat_tests, AllByRecursion, Command, DriverSpec}
+use Rattle.smx_model.proofs.Common.{MAX_DESCRIPTORS, TooManyDescriptors, Place, StreamId, outcome, with_fd}
+use Rattle.smx_model.proofs.Common.{Configuration, empty, is_fd, fd_before, bind_before, route_before, place_before}
+use Rattle.smx_model.proofs.Common.{pair_before, same_place, same_stream, stream_before, is_hung, with_hung, free_fd}
+use Rattle.smx_model.proofs.Common.{with_inserted, IsRising, with_mark, after_move, AreListsOrdered}
 use Rattle.std.proofs.lemmas.Bool.{not-true}
-use Rattle.std.proofs.lemmas.Bool.Decides.{nat_tests}
-use Rattle.std.specs.List.{AllByRecursion}
-use Rattle.smx_types.specs.declared.command.Command.{Command}
-use Rattle.smx_types.specs.declared.driver.DriverSpec.{DriverSpec}
-use Rattle.smx_types.specs.declared.limits.TheConstants.{MAX_DESCRIPTORS}
-use Rattle.smx_types.specs.declared.reply.Fault.TheVariants.{TooManyDescriptors}
-use Rattle.smx_types.specs.declared.stream.Place.{Place}
-use Rattle.smx_types.specs.declared.stream.StreamId.{StreamId}
-use Rattle.smx_model.specs.Commands.{outcome}
-use Rattle.smx_model.specs.Commands.{with_fd}
-use Rattle.smx_model.specs.Configuration.{Configuration, empty, is_fd, fd_before, bind_before, route_before}
-use Rattle.smx_model.specs.Configuration.{place_before, pair_before, same_place, same_stream, stream_before}
-use Rattle.smx_model.specs.Hangups.{is_hung, with_hung}
-use Rattle.smx_model.specs.Lookups.{free_fd}
-use Rattle.smx_model.specs.Ordered.{with_inserted, IsRising}
-use Rattle.smx_model.specs.Queues.{with_mark}
-use Rattle.smx_model.specs.Settling.{after_move}
-use Rattle.smx_model.specs.OrderedParts.{AreListsOrdered}
 use Rattle.smx_model.proofs.SettledLemmas.{ChangesQueuesAlone, moved_alone, moved_by}
-use Rattle.smx_model.proofs.OrderLemmas.{order_moved, order_placed}
-use Rattle.smx_model.proofs.OrderLemmas.{place_before_trans, place_either}
+use Rattle.smx_model.proofs.OrderLemmas.{order_moved, order_placed, place_before_trans, place_either}
 use Rattle.smx_model.proofs.AcceptedLemmas.{of_rows}
 use Rattle.smx_model.proofs.LookupLemmas.{there_is}
 use Rattle.smx_model.proofs.OutcomeLemmas.{IfAccepted}

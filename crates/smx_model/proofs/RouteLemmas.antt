@@ -1,34 +1,17 @@
 -- Ids of links rise, and routes name links of their own upper driver.
-use Rattle.std.proofs.Common.{◌≡◌, ℕ, ◌+◌, ◌<◌, ◌≤◌, Bool, true, false, ◌&&◌, ◌||◌, not, eqb, List, [], ◌∷◌, ◌++◌}
-use Rattle.std.proofs.Common.{filter, Ok, refl, rules, sym, ◌∙◌, subst, arith, inl, inr}
-use Rattle.std.specs.List.{list_any}
-use Rattle.std.proofs.lemmas.Bool.{lt-ltb, cases_Bool, eqb-true, and_parts, not-false, or_cases, or_left, or_right}
-use Rattle.std.proofs.lemmas.Bool.{false≢true}
-use Rattle.std.specs.List.{AllByRecursion}
-use Rattle.std.proofs.lemmas.List.Elements.{All-from_recursion}
-use Rattle.smx_types.specs.declared.command.Command.{Command}
-use Rattle.smx_types.specs.declared.driver.DriverSpec.{DriverSpec}
-use Rattle.smx_types.specs.declared.link.Link.{Link}
-use Rattle.smx_types.specs.declared.link.LinkKind.{LinkKind}
-use Rattle.smx_types.specs.declared.link.Route.{Route}
-use Rattle.smx_types.specs.declared.reply.Fault.TheVariants.{NotMux}
-use Rattle.smx_types.specs.declared.stream.Place.{Place}
-use Rattle.smx_types.specs.declared.stream.StreamId.{StreamId}
-use Rattle.smx_model.specs.Commands.{outcome, done_outcome}
-use Rattle.smx_model.specs.Configuration.{Configuration, empty, route_before}
-use Rattle.smx_model.specs.DriverList.{is_mux}
-use Rattle.smx_model.specs.Lookups.{free_stream, mux_stream}
-use Rattle.smx_model.specs.Ordered.{with_inserted}
-use Rattle.smx_model.specs.Removal.{without_links}
-use Rattle.smx_model.specs.Settling.{after_move}
-use Rattle.smx_model.specs.SoundLinks.{AreIdsRising, AreRoutesSound}
+use Rattle.smx_model.proofs.Common.{◌≡◌, ℕ, ◌+◌, ◌<◌, ◌≤◌, Bool, true, false, ◌&&◌, ◌||◌, not, eqb, List, [], ◌∷◌, ◌++◌}
+use Rattle.smx_model.proofs.Common.{filter, Ok, refl, rules, sym, ◌∙◌, subst, arith, inl, inr, list_any, lt-ltb}
+use Rattle.smx_model.proofs.Common.{cases_Bool, eqb-true, and_parts, not-false, or_cases, or_left, or_right, false≢true}
+use Rattle.smx_model.proofs.Common.{AllByRecursion, All-from_recursion, Command, DriverSpec, Link, LinkKind, Route}
+use Rattle.smx_model.proofs.Common.{NotMux, Place, StreamId, outcome, done_outcome, Configuration, empty, route_before}
+use Rattle.smx_model.proofs.Common.{is_mux, free_stream, mux_stream, with_inserted, without_links, after_move}
+use Rattle.smx_model.proofs.Common.{AreIdsRising, AreRoutesSound, AllLater}
 use Rattle.smx_model.proofs.SettledLemmas.{moved_by}
 use Rattle.smx_model.proofs.AcceptedLemmas.{of_rows}
 use Rattle.smx_model.proofs.LookupLemmas.{tested}
 use Rattle.smx_model.proofs.OutcomeLemmas.{IfAccepted}
 use Rattle.smx_model.proofs.EachLemmas.{each_filter, each_placed, each_push, each_map, later_filter, later_map}
 use Rattle.smx_model.proofs.EachLemmas.{later_push}
-use Rattle.smx_model.specs.Ordered.{AllLater}
 
 -- each id is below those of the later links
 abbrev pub Rising : List Link → Type 0

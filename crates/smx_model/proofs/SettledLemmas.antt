@@ -1,16 +1,8 @@
 -- Properties that moves and settling preserve, and parts that they don't change.
-use Rattle.std.proofs.Common.{◌≡◌, ℕ, zero, suc, List, [], ◌∷◌, Option, Some, None, Ok, Err, refl, ◌∙◌}
-use Rattle.smx_types.specs.declared.command.Command.{Command}
-use Rattle.smx_types.specs.declared.command.Entry.{Entry}
-use Rattle.smx_types.specs.declared.driver.DriverSpec.{DriverSpec}
-use Rattle.smx_types.specs.declared.message.Message.{Message}
-use Rattle.smx_types.specs.declared.stream.Place.{Place}
-use Rattle.smx_model.specs.Configuration.{Configuration}
-use Rattle.smx_model.specs.Queues.{after_arrival, after_leaving, first_message}
-use Rattle.smx_model.specs.Commands.{after_outcome, outcome, step}
-use Rattle.smx_model.specs.Histories.{after_from}
-use Rattle.smx_model.specs.Outcomes.{Outcome}
-use Rattle.smx_model.specs.Settling.{after_move, after_move_to, after_settling_within, least_movable, next_open_place}
+use Rattle.smx_model.proofs.Common.{◌≡◌, ℕ, zero, suc, List, [], ◌∷◌, Option, Some, None, Ok, Err, refl, ◌∙◌, Command}
+use Rattle.smx_model.proofs.Common.{Entry, DriverSpec, Message, Place, Configuration, after_arrival, after_leaving}
+use Rattle.smx_model.proofs.Common.{first_message, after_outcome, outcome, step, after_from, Outcome, after_move}
+use Rattle.smx_model.proofs.Common.{after_move_to, after_settling_within, least_movable, next_open_place}
 use Rattle.smx_model.proofs.OutcomeLemmas.{IfAccepted}
 
 -- a property that holds before a move, and after a first message left and arrived at another place, holds

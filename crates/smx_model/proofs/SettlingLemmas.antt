@@ -1,30 +1,17 @@
 -- Settling ends: each move lowers a rank.
-use Rattle.std.proofs.Common.{◌≡◌, ℕ, zero, suc, ◌+◌, ◌*◌, ◌<◌, ◌≤◌, Bool, true, false, ◌&&◌, cond, eqb, List, [], ◌∷◌}
-use Rattle.std.proofs.Common.{length, find, Option, Some, None, refl, sym, ap, ◌∙◌, subst, arith, inl, inr}
-use Rattle.std.specs.Option.{is_some, option_map}
-use Rattle.std.proofs.lemmas.Bool.{cases_Bool, cases_eq, eqb-true, and_parts, false≢true, false_from_ne_true}
-use Rattle.std.specs.List.{AllByRecursion}
-use Rattle.smx_types.specs.declared.link.Binding.{Binding}
-use Rattle.smx_types.specs.declared.driver.DriverSpec.{DriverSpec}
-use Rattle.smx_types.specs.declared.link.Link.{Link}
-use Rattle.smx_types.specs.declared.message.Message.{Message}
-use Rattle.smx_types.specs.declared.stream.Place.{Place}
-use Rattle.smx_types.specs.declared.link.Route.{Route}
-use Rattle.smx_types.specs.declared.stream.Side.{Side}
+use Rattle.smx_model.proofs.Common.{◌≡◌, ℕ, zero, suc, ◌+◌, ◌*◌, ◌<◌, ◌≤◌, Bool, true, false, ◌&&◌, cond, eqb, List, []}
+use Rattle.smx_model.proofs.Common.{◌∷◌, length, find, Option, Some, None, refl, sym, ap, ◌∙◌, subst, arith, inl, inr}
+use Rattle.smx_model.proofs.Common.{is_some, option_map, cases_Bool, cases_eq, eqb-true, and_parts, false≢true}
+use Rattle.smx_model.proofs.Common.{false_from_ne_true, AllByRecursion, Binding, DriverSpec, Link, Message, Place}
+use Rattle.smx_model.proofs.Common.{Route, Side, StreamId, Configuration, QueuedMessage, is_at, queued_before}
+use Rattle.smx_model.proofs.Common.{same_place, same_stream, same_side, is_mux, with_inserted, without_first}
+use Rattle.smx_model.proofs.Common.{HasNoCycle, reaches, first_message, after_leaving, is_full, after_settling}
+use Rattle.smx_model.proofs.Common.{after_settling_within, least_movable, after_move, next_open_place, is_movable}
+use Rattle.smx_model.proofs.Common.{next_place, live_write_side, place_below, place_above, IsSettled, AreLinksSound}
 use Rattle.smx_types.specs.declared.stream.Side.TheVariants as side
-use Rattle.smx_types.specs.declared.stream.StreamId.{StreamId}
-use Rattle.smx_model.specs.Configuration.{Configuration, QueuedMessage, is_at, queued_before, same_place, same_stream}
-use Rattle.smx_model.specs.Configuration.{same_side}
-use Rattle.smx_model.specs.DriverList.{is_mux}
-use Rattle.smx_model.specs.Ordered.{with_inserted, without_first}
-use Rattle.smx_model.specs.Paths.{HasNoCycle, reaches}
-use Rattle.smx_model.specs.Queues.{first_message, after_leaving, is_full}
-use Rattle.smx_model.specs.Settling.{◌>>=◌, after_settling, after_settling_within, least_movable, after_move}
-use Rattle.smx_model.specs.Settling.{next_open_place, is_movable, next_place, live_write_side}
-use Rattle.smx_model.specs.Settling.{place_below, place_above, IsSettled}
+use Rattle.smx_model.specs.Settling.{◌>>=◌}
 use Rattle.smx_model.proofs.SettledLemmas.{moved_by}
 use Rattle.smx_model.proofs.LookupLemmas.{live_is_side}
-use Rattle.smx_model.specs.SoundLinks.{AreLinksSound}
 use Rattle.smx_model.proofs.PathLemmas.{reaches_path, reaches_trans, reaches_link}
 use Rattle.smx_model.proofs.RangeLemmas.{links_below, AreNamed}
 use Rattle.smx_model.proofs.RouteLemmas.{AreRouted, routes_lead, routed_moved}

@@ -1,19 +1,10 @@
 -- The streams that exist within some climbs, and the result of a sweep.
-use Rattle.std.proofs.Common.{◌≡◌, ℕ, zero, suc, ◌<◌, ◌≤◌, Bool, true, ◌&&◌, ◌||◌, not, eqb, List, length}
-use Rattle.std.proofs.Common.{filter, refl, sym, ap, ◌∙◌, subst, arith, inl, inr}
-use Rattle.std.specs.List.{list_any}
-use Rattle.std.proofs.lemmas.Bool.{cases_lt, eqb-true, and_parts, or_cases, or_left, or_right, and_from}
-use Rattle.std.proofs.lemmas.Bool.{not-false, not-true}
-use Rattle.std.specs.List.{AllByRecursion}
-use Rattle.smx_types.specs.declared.stream.Descriptor.{Descriptor}
-use Rattle.smx_types.specs.declared.driver.DriverSpec.{DriverSpec}
-use Rattle.smx_types.specs.declared.link.Link.{Link}
-use Rattle.smx_types.specs.declared.stream.StreamId.{StreamId}
-use Rattle.smx_model.specs.Configuration.{Configuration, same_stream}
-use Rattle.smx_model.specs.Paths.{HasNoCycle, reaches}
-use Rattle.smx_model.specs.Removal.{after_sweep, without_links}
-use Rattle.smx_model.specs.Standing.{is_persistent, is_named, stands_within, exists}
-use Rattle.smx_model.specs.Swept.{IsSwept}
+use Rattle.smx_model.proofs.Common.{◌≡◌, ℕ, zero, suc, ◌<◌, ◌≤◌, Bool, true, ◌&&◌, ◌||◌, not, eqb, List, length, filter}
+use Rattle.smx_model.proofs.Common.{refl, sym, ap, ◌∙◌, subst, arith, inl, inr, list_any, cases_lt, eqb-true, and_parts}
+use Rattle.smx_model.proofs.Common.{or_cases, or_left, or_right, and_from, not-false, AllByRecursion, Descriptor}
+use Rattle.smx_model.proofs.Common.{DriverSpec, Link, StreamId, Configuration, same_stream, HasNoCycle, reaches}
+use Rattle.smx_model.proofs.Common.{after_sweep, without_links, is_persistent, is_named, stands_within, exists, IsSwept}
+use Rattle.std.proofs.lemmas.Bool.{not-true}
 use Rattle.smx_model.proofs.SettlingLemmas.{count, count_le, up_less}
 use Rattle.smx_model.proofs.TestLemmas.{any_same, any_filter, all_passes, any_found, any_more_each}
 

@@ -1,21 +1,15 @@
 -- Each configuration is swept.
-use Rattle.std.proofs.Common.{◌≡◌, ℕ, zero, suc, ◌<◌, Bool, true, false, ◌&&◌, ◌||◌, not, eqb, List, [], ◌∷◌, ◌++◌}
-use Rattle.std.proofs.Common.{length, find, Option, Some, None, Ok, refl, rules, sym, ap, ◌∙◌, subst, arith, inl}
-use Rattle.std.proofs.Common.{inr}
-use Rattle.std.specs.Prelude.{Result, IfOk}
-use Rattle.smx_model.specs.Commands.{outcome, done_outcome}
-use Rattle.smx_model.specs.Commands.{with_fd}
-use Rattle.smx_model.specs.Configuration.{Configuration, QueuedMessage, is_at, queued_before, fd_before, same_stream}
-use Rattle.smx_model.specs.Configuration.{place_before, is_fd}
-use Rattle.smx_model.specs.DriverList.{is_mux}
-use Rattle.smx_model.specs.Lookups.{driver_of, stream_of, free_stream, leaf_stream, live_leaf, live_stream}
-use Rattle.smx_model.specs.Paths.{HasNoCycle}
-use Rattle.smx_model.specs.Ordered.{without_first}
-use Rattle.smx_model.specs.Queues.{first_message, with_mark}
-use Rattle.smx_model.specs.Removal.{after_sweep}
-use Rattle.smx_model.specs.Settling.{after_move, after_move_to, next_open_place, next_place}
-use Rattle.smx_model.specs.Standing.{is_persistent, is_named, stands_within, exists, is_below, Stands}
-use Rattle.smx_model.specs.Swept.{IsSwept}
+use Rattle.smx_model.proofs.Common.{◌≡◌, ℕ, zero, suc, ◌<◌, Bool, true, false, ◌&&◌, ◌||◌, not, eqb, List, [], ◌∷◌}
+use Rattle.smx_model.proofs.Common.{◌++◌, length, find, Option, Some, None, Ok, refl, rules, sym, ap, ◌∙◌, subst, arith}
+use Rattle.smx_model.proofs.Common.{inl, inr, Result, IfOk, outcome, done_outcome, with_fd, Configuration}
+use Rattle.smx_model.proofs.Common.{QueuedMessage, is_at, queued_before, fd_before, same_stream, place_before, is_fd}
+use Rattle.smx_model.proofs.Common.{is_mux, driver_of, stream_of, free_stream, leaf_stream, live_leaf, live_stream}
+use Rattle.smx_model.proofs.Common.{HasNoCycle, without_first, first_message, with_mark, after_sweep, after_move}
+use Rattle.smx_model.proofs.Common.{after_move_to, next_open_place, next_place, is_persistent, is_named, stands_within}
+use Rattle.smx_model.proofs.Common.{exists, is_below, Stands, IsSwept, list_any, cases_Bool, not-false, eq-eqb}
+use Rattle.smx_model.proofs.Common.{and_parts, or_cases, or_left, or_right, and_from, Command, Fault, NoDriver}
+use Rattle.smx_model.proofs.Common.{Descriptor, DriverSpec, Link, Message, Place, Side, StreamId, list_all, NoMinor}
+use Rattle.smx_model.proofs.Common.{AllByRecursion}
 use Rattle.smx_model.proofs.IdleSweepLemmas.{swept_idle}
 use Rattle.smx_model.proofs.AcceptedLemmas.{of_rows}
 use Rattle.smx_model.proofs.OutcomeLemmas.{IfAccepted, if_ok}
@@ -24,25 +18,11 @@ use Rattle.smx_model.proofs.PathLemmas.{reaches_at}
 use Rattle.smx_model.proofs.RangeLemmas.{AreNamed}
 use Rattle.smx_model.proofs.SettlingLemmas.{same_place_is, below_link, above_binding, open_next}
 use Rattle.smx_model.proofs.StandingLemmas.{swept_is, stands_more, IsLinkIn, climbs_suffice}
-use Rattle.std.specs.List.{list_any}
-use Rattle.std.proofs.lemmas.Bool.{cases_Bool, not-false, eq-eqb, and_parts, or_cases, or_left, or_right, and_from}
-use Rattle.smx_types.specs.declared.command.Command.{Command}
-use Rattle.smx_types.specs.declared.reply.Fault.{Fault}
-use Rattle.smx_types.specs.declared.reply.Fault.TheVariants.{NoDriver}
-use Rattle.smx_types.specs.declared.stream.Descriptor.{Descriptor}
-use Rattle.smx_types.specs.declared.driver.DriverSpec.{DriverSpec}
-use Rattle.smx_types.specs.declared.link.Link.{Link}
-use Rattle.smx_types.specs.declared.message.Message.{Message}
-use Rattle.smx_types.specs.declared.stream.Place.{Place}
-use Rattle.smx_types.specs.declared.stream.Side.{Side}
 use Rattle.smx_types.specs.declared.stream.Side.TheVariants as side
-use Rattle.smx_types.specs.declared.stream.StreamId.{StreamId}
-use Rattle.std.specs.List.{list_all}
-use Rattle.smx_types.specs.declared.reply.Fault.TheVariants.{Below, NoMinor}
+use Rattle.smx_types.specs.declared.reply.Fault.TheVariants.{Below}
 use Rattle.smx_model.proofs.EachLemmas.{each_map}
 use Rattle.smx_model.proofs.TestLemmas.{any_more, all_more, all_push, all_placed, all_filter, all_without, any_placed}
 use Rattle.smx_model.proofs.TestLemmas.{any_push, found_any, found_all}
-use Rattle.std.specs.List.{AllByRecursion}
 
 -- with more descriptors or links more streams exist
 

@@ -1,12 +1,9 @@
 -- Tests over lists: some element passes, all elements pass, the first element that passes.
-use Rattle.std.proofs.Common.{◌≡◌, Bool, true, false, ◌||◌, not, List, [], ◌∷◌, filter, refl, sym, ap, ◌∙◌, inl, inr}
-use Rattle.std.proofs.Common.{arith, ◌++◌, find, Some}
-use Rattle.std.specs.List.{list_any, list_all}
-use Rattle.std.proofs.lemmas.Bool.{cases_Bool, and_parts, or_cases, or_left, or_right, and_from, false≢true, both_ways}
-use Rattle.std.proofs.lemmas.Bool.{false_from_ne_true}
+use Rattle.smx_model.proofs.Common.{◌≡◌, Bool, true, false, ◌||◌, not, List, [], ◌∷◌, filter, refl, sym, ap, ◌∙◌, inl}
+use Rattle.smx_model.proofs.Common.{inr, arith, ◌++◌, find, Some, list_any, list_all, cases_Bool, and_parts, or_cases}
+use Rattle.smx_model.proofs.Common.{or_left, or_right, and_from, false≢true, both_ways, false_from_ne_true}
+use Rattle.smx_model.proofs.Common.{AllByRecursion, with_inserted, without_first}
 use Rattle.std.proofs.lemmas.List.Folds.{list_all-append, list_any-append}
-use Rattle.std.specs.List.{AllByRecursion}
-use Rattle.smx_model.specs.Ordered.{with_inserted, without_first}
 
 -- if two tests agree on all values, some element passes the one exactly if some element passes the other
 pub any_same : {X : Type 0} (t u : X → Bool) (xs : List X) → ((x : X) → t x ≡ u x) → list_any t xs ≡ list_any u xs

@@ -1,51 +1,29 @@
 -- The places that commands turn.
-use Rattle.std.proofs.Common.{◌≡◌, ℕ, ◌+◌, Bool, true, false, ◌&&◌, ◌||◌, not, eqb, List, [], ◌∷◌, ◌++◌}
-use Rattle.std.proofs.Common.{filter, Result, Ok, Err, refl, rules, ◌∙◌, inl, inr, arith}
-use Rattle.std.specs.Prelude.{nat_lt, IfOk}
-use Rattle.std.specs.List.{list_any}
-use Rattle.std.proofs.lemmas.Bool.{cases_Bool}
-use Rattle.std.proofs.lemmas.Bool.{not-true, or_right}
-use Rattle.std.proofs.lemmas.Bool.Decides.{nat_tests}
-use Rattle.std.specs.List.{AllByRecursion}
-use Rattle.std.proofs.lemmas.List.Elements.{recursion_from_All}
-use Rattle.smx_types.specs.declared.command.Command.{Command}
+use Rattle.smx_model.proofs.Common.{◌≡◌, ℕ, ◌+◌, Bool, true, false, ◌&&◌, ◌||◌, not, eqb, List, [], ◌∷◌, ◌++◌, filter}
+use Rattle.smx_model.proofs.Common.{Result, Ok, Err, refl, rules, ◌∙◌, inl, inr, arith, nat_lt, IfOk, list_any}
+use Rattle.smx_model.proofs.Common.{cases_Bool, or_right, nat_tests, AllByRecursion, recursion_from_All, Command}
+use Rattle.smx_model.proofs.Common.{DriverSpec, Binding, LinkKind, Route, Message, Fault, Descriptor, Place, StreamId}
+use Rattle.smx_model.proofs.Common.{outcome, done_outcome, link_outcome, send_outcome, receive_outcome, with_fd}
+use Rattle.smx_model.proofs.Common.{Configuration, same_place, pair_before, bind_before, route_before, same_stream}
+use Rattle.smx_model.proofs.Common.{read_side, write_side, IsSound, stream_of, free_stream, mux_stream, live_stream}
+use Rattle.smx_model.proofs.Common.{live_leaf, with_inserted, Outcome, after_arrival, after_sweep, asks_down, asks_up}
+use Rattle.smx_model.proofs.Common.{nowhere, is_first_at, TurnsOnly, is_hung, with_hung, IsKnown, AllLater}
+use Rattle.std.proofs.lemmas.Bool.{not-true}
 use Rattle.smx_types.specs.declared.command.Command.TheVariants as command
-use Rattle.smx_types.specs.declared.driver.DriverSpec.{DriverSpec}
-use Rattle.smx_types.specs.declared.link.Binding.{Binding}
-use Rattle.smx_types.specs.declared.link.LinkKind.{LinkKind}
 use Rattle.smx_types.specs.declared.link.LinkKind.TheVariants as kind
-use Rattle.smx_types.specs.declared.link.Route.{Route}
-use Rattle.smx_types.specs.declared.message.Message.{Message}
-use Rattle.smx_types.specs.declared.reply.Fault.{Fault}
-use Rattle.smx_types.specs.declared.stream.Descriptor.{Descriptor}
-use Rattle.smx_types.specs.declared.stream.Place.{Place}
-use Rattle.smx_types.specs.declared.stream.StreamId.{StreamId}
-use Rattle.smx_model.specs.Commands.{outcome, done_outcome, link_outcome, send_outcome, receive_outcome}
-use Rattle.smx_model.specs.Commands.{with_fd}
-use Rattle.smx_model.specs.Configuration.{Configuration, same_place, pair_before, bind_before, route_before}
-use Rattle.smx_model.specs.Configuration.{same_stream, read_side, write_side}
-use Rattle.smx_model.specs.KeptConfigurations.{IsSound}
-use Rattle.smx_model.specs.Lookups.{stream_of, free_stream, mux_stream, live_stream, live_leaf}
-use Rattle.smx_model.specs.Ordered.{with_inserted}
-use Rattle.smx_model.specs.Outcomes.{Outcome, ◌>>=◌}
-use Rattle.smx_model.specs.Queues.{after_arrival}
-use Rattle.smx_model.specs.Removal.{after_sweep}
+use Rattle.smx_model.specs.Outcomes.{◌>>=◌}
 use Rattle.smx_model.proofs.EachLemmas.{each_placed, later_filter, later_pairs, later_map}
 use Rattle.smx_model.proofs.EachLemmas.{none_passes, kept_passes, each_map}
 use Rattle.smx_model.proofs.AcceptedLemmas.{unlinked}
 use Rattle.smx_model.proofs.HungListLemmas.{hung_with}
 use Rattle.smx_model.proofs.OutcomeLemmas.{IfAccepted, at_ok, after_ok, after_test, after_some, after_choice, if_ok}
-use Rattle.smx_model.specs.RunMarks.{asks_down, asks_up, nowhere, is_first_at, TurnsOnly}
 use Rattle.smx_model.specs.TurnedPlaces.{of_stream, turned_by}
 use Rattle.smx_model.proofs.FindLemmas.{not_same_pair_turned, same_finds}
 use Rattle.smx_model.proofs.FewerLemmas.{AreRooted, IsKeyed, binds_find, fewer_turns, keyed_removed, rooted_filter}
 use Rattle.smx_model.proofs.FewerLemmas.{routes_find, turns_emptied, turns_removed, turns_swept}
 use Rattle.smx_model.proofs.TurningLemmas.{bound, routed, turns_arrived, turns_bound, turns_left, turns_linked}
 use Rattle.smx_model.proofs.TurningLemmas.{turns_routed, turns_then, turns_unchanged}
-use Rattle.smx_model.specs.Hangups.{is_hung, with_hung}
 use Rattle.smx_model.proofs.RisingLemmas.{bind_other}
-use Rattle.smx_model.specs.KnownStreams.{IsKnown}
-use Rattle.smx_model.specs.Ordered.{AllLater}
 
 -- ---- each key occurs once
 

@@ -1,39 +1,22 @@
 -- The places that changes turn.
-use Rattle.std.proofs.Common.{◌≡◌, ℕ, Bool, true, false, ◌&&◌, not, eqb, List, [], ◌∷◌, ◌++◌, filter, find, Option}
-use Rattle.std.proofs.Common.{Some, None, refl, sym, ap, ◌∙◌, subst, inl}
-use Rattle.std.specs.List.{list_any}
-use Rattle.std.proofs.lemmas.Bool.{both_ways, and_parts, and_from, or_parts}
-use Rattle.std.proofs.lemmas.Bool.{false_from_ne_true, eqb-true, eq-eqb}
-use Rattle.smx_types.specs.declared.driver.DriverSpec.{DriverSpec}
-use Rattle.smx_types.specs.declared.link.Binding.{Binding}
-use Rattle.smx_types.specs.declared.link.Link.{Link}
-use Rattle.smx_types.specs.declared.link.Route.{Route}
-use Rattle.smx_types.specs.declared.message.Message.{Message}
-use Rattle.smx_types.specs.declared.stream.Place.{Place}
-use Rattle.smx_types.specs.declared.stream.Side.{Side}
+use Rattle.smx_model.proofs.Common.{◌≡◌, ℕ, Bool, true, false, ◌&&◌, not, eqb, List, [], ◌∷◌, ◌++◌, filter, find}
+use Rattle.smx_model.proofs.Common.{Option, Some, None, refl, sym, ap, ◌∙◌, subst, inl, list_any, both_ways, and_parts}
+use Rattle.smx_model.proofs.Common.{and_from, or_parts, false_from_ne_true, eqb-true, eq-eqb, DriverSpec, Binding, Link}
+use Rattle.smx_model.proofs.Common.{Route, Message, Place, Side, StreamId, Configuration, QueuedMessage, is_at}
+use Rattle.smx_model.proofs.Common.{same_place, same_side, same_stream, bind_before, route_before, IsInOrder}
+use Rattle.smx_model.proofs.Common.{with_inserted, first_message, after_arrival, after_leaving, after_move}
+use Rattle.smx_model.proofs.Common.{next_open_place, next_place, live_write_side, AreRoutesSound, next_of, asks_down}
+use Rattle.smx_model.proofs.Common.{asks_up, is_first_at, nowhere, Stays, TurnsOnly, or_from, AllByRecursion}
+use Rattle.smx_model.proofs.Common.{recursion_from_All}
 use Rattle.smx_types.specs.declared.stream.Side.TheVariants as side
-use Rattle.smx_types.specs.declared.stream.StreamId.{StreamId}
-use Rattle.smx_model.specs.Configuration.{Configuration, QueuedMessage, is_at, same_place, same_side, same_stream}
-use Rattle.smx_model.specs.Configuration.{bind_before, route_before}
-use Rattle.smx_model.specs.FlowOrder.{IsInOrder}
-use Rattle.smx_model.specs.Ordered.{with_inserted}
-use Rattle.smx_model.specs.Queues.{first_message, after_arrival, after_leaving}
-use Rattle.smx_model.specs.Settling.{◌>>=◌, after_move, next_open_place, next_place, live_write_side}
-use Rattle.smx_model.specs.SoundLinks.{AreRoutesSound}
-use Rattle.smx_model.proofs.EachLemmas.{each_find}
+use Rattle.smx_model.specs.Settling.{◌>>=◌}
+use Rattle.smx_model.proofs.EachLemmas.{each_find, later_without_first}
 use Rattle.smx_model.proofs.TestLemmas.{found_any, find_passes, any_more}
 use Rattle.smx_model.proofs.SettlingLemmas.{open_next}
-use Rattle.smx_model.specs.RunMarks.{next_of, asks_down, asks_up, has_addr}
-use Rattle.smx_model.specs.RunMarks.{is_first_at, either, nowhere}
-use Rattle.smx_model.specs.RunMarks.{Stays, TurnsOnly}
+use Rattle.smx_model.specs.RunMarks.{has_addr, either}
 use Rattle.smx_model.proofs.WaitingLemmas.{next_by, next_is, next_of_same, first_left, first_arrived}
-use Rattle.smx_model.proofs.FindLemmas.{finds_then, find_placed}
-use Rattle.smx_model.proofs.FindLemmas.{find_filter, find_push_found, find_push_other}
+use Rattle.smx_model.proofs.FindLemmas.{finds_then, find_placed, find_filter, find_push_found, find_push_other}
 use Rattle.smx_model.proofs.FindLemmas.{not_same_pair_turned}
-use Rattle.std.proofs.lemmas.Bool.{or_from}
-use Rattle.std.specs.List.{AllByRecursion}
-use Rattle.std.proofs.lemmas.List.Elements.{recursion_from_All}
-use Rattle.smx_model.proofs.EachLemmas.{later_without_first}
 
 -- ---- the parts of a next place
 

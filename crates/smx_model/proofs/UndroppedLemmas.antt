@@ -1,23 +1,11 @@
 -- A command that is done with no message dropped frees no place.
-use Rattle.std.proofs.Common.{◌≡◌, ℕ, Bool, true, ◌&&◌, not, List, [], ◌∷◌, filter, arith}
-use Rattle.std.proofs.Common.{refl, sym, ap, ◌∙◌, inl, inr}
-use Rattle.std.specs.Prelude.{IfOk}
-use Rattle.std.specs.List.{AllPairs}
-use Rattle.std.proofs.lemmas.Bool.{and_parts, cases_Bool, eq-eqb}
-use Rattle.smx_types.specs.declared.command.Command.{Command}
-use Rattle.smx_types.specs.declared.driver.DriverSpec.{DriverSpec}
-use Rattle.smx_types.specs.declared.link.Link.{Link}
-use Rattle.smx_types.specs.declared.reply.Reply.{Reply}
+use Rattle.smx_model.proofs.Common.{◌≡◌, ℕ, Bool, true, ◌&&◌, not, List, [], ◌∷◌, filter, arith, refl, sym, ap, ◌∙◌}
+use Rattle.smx_model.proofs.Common.{inl, inr, IfOk, AllPairs, and_parts, cases_Bool, eq-eqb, Command, DriverSpec, Link}
+use Rattle.smx_model.proofs.Common.{Reply, Place, done_outcome, outcome, Configuration, QueuedMessage, FreesOnly}
+use Rattle.smx_model.proofs.Common.{HaveFullPlacesMessages, in_rising_order, first_message, is_full, after_sweep}
+use Rattle.smx_model.proofs.Common.{serials, serials_that_left, without_links, without_queues_at, nowhere}
 use Rattle.smx_types.specs.declared.reply.Reply.TheVariants as reply
-use Rattle.smx_types.specs.declared.stream.Place.{Place}
-use Rattle.smx_model.specs.Commands.{done_outcome, outcome}
-use Rattle.smx_model.specs.Configuration.{Configuration, QueuedMessage}
-use Rattle.smx_model.specs.FreedPlaces.{FreesOnly, HaveFullPlacesMessages}
 use Rattle.smx_model.specs.KeptConfigurations.{AreSerialsSound}
-use Rattle.smx_model.specs.Ordered.{in_rising_order}
-use Rattle.smx_model.specs.Queues.{first_message, is_full}
-use Rattle.smx_model.specs.Removal.{after_sweep, serials, serials_that_left, without_links, without_queues_at}
-use Rattle.smx_model.specs.RunMarks.{nowhere}
 use Rattle.smx_model.proofs.AcceptedLemmas.{of_rows}
 use Rattle.smx_model.proofs.CountLemmas.{times, times_rising}
 use Rattle.smx_model.proofs.FreedPlaceLemmas.{KeepsOrEmpties, emptied_keeps, keeps_then, never_freed, removed_keeps}

@@ -1,16 +1,12 @@
 -- The fault of each unlawful example, and of drivers that no configuration can have.
-use Rattle.std.proofs.Common.{◌≡◌, ℕ, zero, suc, ◌<◌, true, false, Ok, Err, List, [], ◌∷◌, get_or, refl, sym, ap, ◌∙◌}
-use Rattle.std.proofs.Common.{subst, inl, inr, arith}
+use Rattle.smx_model.proofs.Common.{◌≡◌, ℕ, zero, suc, ◌<◌, true, false, Ok, Err, List, [], ◌∷◌, get_or, refl, sym, ap}
+use Rattle.smx_model.proofs.Common.{◌∙◌, subst, inl, inr, arith, Entry, DriverSpec, Message, IsDriverList}
+use Rattle.smx_model.proofs.Common.{AreDropsAllowed, IsLawful, IsLawfulThroughout, IsTakenIn, Sends}
 use Rattle.std.proofs.lemmas.List.FromFn.{get_or-map-range_with_len}
 use Rattle.std.proofs.lemmas.List.Sorted.{IsPermutation-refl, length_permutation, sum_by-IsPermutation}
-use Rattle.smx_types.specs.declared.command.Entry.{Entry}
-use Rattle.smx_types.specs.declared.driver.DriverSpec.{DriverSpec}
 use Rattle.smx_types.specs.declared.driver.SpecFault.TheVariants.{BadMinors}
-use Rattle.smx_types.specs.declared.message.Message.{Message}
 use Rattle.smx_types.specs.declared.reply.Reply.TheVariants as reply
-use Rattle.smx_model.specs.DriverList.{IsDriverList}
-use Rattle.smx_model.specs.LawfulHistories.{AreDropsAllowed, IsLawful, IsLawfulEnd, IsLawfulThroughout}
-use Rattle.smx_model.specs.LawfulHistories.{IsTakenIn, Sends}
+use Rattle.smx_model.specs.LawfulHistories.{IsLawfulEnd}
 use Rattle.smx_model.specs.Worked.Common.{eth, leaf, Write}
 use Rattle.smx_model.specs.Worked.DriverLists as drivers
 use Rattle.smx_model.specs.Worked.Unlawful as example

@@ -1,37 +1,24 @@
 -- The drivers have the stream of each part of a configuration, so the view determines the configuration.
-use Rattle.std.proofs.Common.{◌≡◌, ℕ, zero, suc, ◌<◌, Bool, true, false, ◌&&◌, not, eqb, slice_index_or, List, [], ◌∷◌}
-use Rattle.std.proofs.Common.{length, map, Option, refl, sym, ap, ◌∙◌, subst, arith, inl, inr}
-use Rattle.std.specs.List.{list_any}
+use Rattle.smx_model.proofs.Common.{◌≡◌, ℕ, zero, suc, ◌<◌, Bool, true, false, ◌&&◌, not, eqb, List, [], ◌∷◌, length}
+use Rattle.smx_model.proofs.Common.{map, Option, refl, sym, ap, ◌∙◌, subst, arith, inl, inr, list_any, cases_lt}
+use Rattle.smx_model.proofs.Common.{eqb-true, and_parts, or_cases, false≢true, AllByRecursion, All-from_recursion}
+use Rattle.smx_model.proofs.Common.{DriverSpec, Binding, Link, LinkKind, Route, Message, Descriptor, Place, Side}
+use Rattle.smx_model.proofs.Common.{StreamId, ConfigView, Configuration, QueuedMessage, same_stream, IsDriverList}
+use Rattle.smx_model.proofs.Common.{is_mux, minors_of, AreStreamsKnown, IsKnown, is_named, is_persistent, stands_within}
+use Rattle.smx_model.proofs.Common.{IsSwept, view}
+use Rattle.std.proofs.Common.{slice_index_or}
 use Rattle.std.specs.Option.{option_map_or}
-use Rattle.std.proofs.lemmas.Bool.{cases_lt, eqb-true, and_parts, or_cases, false≢true}
 use Rattle.std.proofs.lemmas.Option.{slice_get_past, slice_get-get_or}
-use Rattle.std.specs.List.{AllByRecursion}
-use Rattle.std.proofs.lemmas.List.Elements.{All-from_recursion}
 use Rattle.smx_types.specs.declared.driver.DriverKind.TheVariants.{Leaf}
-use Rattle.smx_types.specs.declared.driver.DriverSpec.{DriverSpec}
-use Rattle.smx_types.specs.declared.link.Binding.{Binding}
-use Rattle.smx_types.specs.declared.link.Link.{Link}
-use Rattle.smx_types.specs.declared.link.LinkKind.{LinkKind}
-use Rattle.smx_types.specs.declared.link.Route.{Route}
-use Rattle.smx_types.specs.declared.message.Message.{Message}
-use Rattle.smx_types.specs.declared.stream.Descriptor.{Descriptor}
-use Rattle.smx_types.specs.declared.stream.Place.{Place}
-use Rattle.smx_types.specs.declared.stream.Side.{Side}
-use Rattle.smx_types.specs.declared.stream.StreamId.{StreamId}
 use Rattle.smx_types.specs.declared.view.BindingLine.{BindingLine}
-use Rattle.smx_types.specs.declared.view.ConfigView.{ConfigView}
 use Rattle.smx_types.specs.declared.view.DescriptorLine.{DescriptorLine}
 use Rattle.smx_types.specs.declared.view.FullLine.{FullLine}
 use Rattle.smx_types.specs.declared.view.HungLine.{HungLine}
 use Rattle.smx_types.specs.declared.view.LinkLine.{LinkLine}
 use Rattle.smx_types.specs.declared.view.MessageLine.{MessageLine}
 use Rattle.smx_types.specs.declared.view.RouteLine.{RouteLine}
-use Rattle.smx_model.specs.Configuration.{Configuration, QueuedMessage, same_stream}
-use Rattle.smx_model.specs.DriverList.{IsDriverList, is_mux, minors_of, name_of}
-use Rattle.smx_model.specs.KnownStreams.{AreStreamsKnown, IsKnown}
-use Rattle.smx_model.specs.Standing.{is_named, is_persistent, stands_within}
-use Rattle.smx_model.specs.Swept.{IsSwept}
-use Rattle.smx_model.specs.Views.{view, view_of_fd, view_of_link, view_of_bind, view_of_route, view_of_message}
+use Rattle.smx_model.specs.DriverList.{name_of}
+use Rattle.smx_model.specs.Views.{view_of_fd, view_of_link, view_of_bind, view_of_route, view_of_message}
 use Rattle.smx_model.specs.Views.{view_of_full, view_of_hung}
 use Rattle.smx_model.proofs.RangeLemmas.{AreNamed}
 use Rattle.smx_model.proofs.RouteLemmas.{AreRouted}

@@ -1,24 +1,13 @@
 -- Waiting places, and changes that keep a place waiting.
-use Rattle.std.proofs.Common.{◌≡◌, ℕ, Bool, true, false, ◌&&◌, not, List, [], ◌∷◌, ◌++◌, Option, Some, None, refl}
-use Rattle.std.proofs.Common.{sym, ap, ◌∙◌, inl, inr}
-use Rattle.std.specs.Option.{is_some}
-use Rattle.std.specs.Prelude.{slice_get, if◌then◌else◌}
-use Rattle.std.proofs.lemmas.Bool.{cases_Bool, and_parts, false≢true}
-use Rattle.std.proofs.lemmas.Bool.{not-false}
-use Rattle.smx_types.specs.declared.driver.DriverSpec.{DriverSpec}
-use Rattle.smx_types.specs.declared.message.Message.{Message}
-use Rattle.smx_types.specs.declared.stream.Place.{Place}
-use Rattle.smx_types.specs.declared.stream.Side.{Side}
+use Rattle.smx_model.proofs.Common.{◌≡◌, ℕ, Bool, true, false, ◌&&◌, not, List, [], ◌∷◌, ◌++◌, Option, Some, None, refl}
+use Rattle.smx_model.proofs.Common.{sym, ap, ◌∙◌, inl, inr, is_some, slice_get, if◌then◌else◌, cases_Bool, and_parts}
+use Rattle.smx_model.proofs.Common.{false≢true, not-false, DriverSpec, Message, Place, Side, StreamId, Configuration}
+use Rattle.smx_model.proofs.Common.{QueuedMessage, queued_before, is_at, same_place, is_mux, IsInOrder, with_inserted}
+use Rattle.smx_model.proofs.Common.{without_first, first_message, is_full, queue, next_of, next_of_first, is_movable}
+use Rattle.smx_model.proofs.Common.{next_place, place_above, place_below}
 use Rattle.smx_types.specs.declared.stream.Side.TheVariants as side
-use Rattle.smx_types.specs.declared.stream.StreamId.{StreamId}
-use Rattle.smx_model.specs.Configuration.{Configuration, QueuedMessage, queued_before, is_at, same_place}
-use Rattle.smx_model.specs.DriverList.{is_mux}
-use Rattle.smx_model.specs.FlowOrder.{IsInOrder}
-use Rattle.smx_model.specs.Ordered.{with_inserted, without_first}
-use Rattle.smx_model.specs.Queues.{first_message, is_full, queue}
 use Rattle.smx_model.specs.RunMarks.{is_held_up, is_waiting}
-use Rattle.smx_model.specs.RunMarks.{next_of, next_of_first}
-use Rattle.smx_model.specs.Settling.{◌>>=◌, is_movable, next_place, place_above, place_below}
+use Rattle.smx_model.specs.Settling.{◌>>=◌}
 use Rattle.smx_model.proofs.QueueLemmas.{arrived_queue, left_queue, front_is}
 use Rattle.smx_model.proofs.SettlingLemmas.{same_place_is}
 
