@@ -10,7 +10,7 @@ pub use Rattle.std.proofs.lemmas.Bool.Decides.{nat_tests}
 pub use Rattle.std.proofs.lemmas.List.{get_or_past, take_more}
 pub use Rattle.std.proofs.lemmas.List.Elements.{recursion_from_All, All-from_recursion, All-nil, All-filter}
 pub use Rattle.std.proofs.lemmas.Option.{same_Some}
-pub use Rattle.std.specs.List.{list_any, AllByRecursion, AllPairs, list_all, range_with_len, All, IsDistinct}
+pub use Rattle.std.specs.List.{list_any, AllByRecursion, AllPairs, list_all, range_with_len, All}
 pub use Rattle.std.specs.List.Sorted.{IsPermutation}
 pub use Rattle.std.specs.Map.{lookup, values_of, keys_of}
 pub use Rattle.std.specs.Option.{option_map, is_some}
