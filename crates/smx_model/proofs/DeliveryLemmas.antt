@@ -1,10 +1,10 @@
 -- Messages keep their serial, address and bytes from acceptance to delivery.
-use Rattle.smx_model.proofs.Common.{◌≡◌, ◌⊎◌, ℕ, Bool, List, [], ◌∷◌, ◌++◌, Some, Ok, Err, refl, rules, ap, sym, ◌∙◌}
-use Rattle.smx_model.proofs.Common.{subst, inl, inr, All, cases_Bool, Command, Entry, DriverSpec, Message, Reply, Place}
+use Rattle.smx_model.proofs.Common.{◌≡◌, ◌⊎◌, ℕ, Bool, List, [], ◌∷◌, ◌++◌, Some, Ok, Err, refl, rules, ap, ◌∙◌}
+use Rattle.smx_model.proofs.Common.{subst, inl, inr, All, Command, Entry, DriverSpec, Message, Reply, Place}
 use Rattle.smx_model.proofs.Common.{outcome, step, after_outcome, done_outcome, Configuration, QueuedMessage, empty}
 use Rattle.smx_model.proofs.Common.{is_at, queued_before, after, after_from, IsLegal, IsLegalFrom, without_first}
 use Rattle.smx_model.proofs.Common.{Outcome, first_message, after_leaving, delivered_by, IsTakenIn, Sends}
-use Rattle.smx_model.proofs.Common.{after_settling, AllByRecursion, All-from_recursion}
+use Rattle.smx_model.proofs.Common.{after_settling, AllByRecursion, All-from_recursion, arith}
 use Rattle.smx_types.specs.declared.command.Command.TheVariants as command
 use Rattle.smx_types.specs.declared.reply.Reply.TheVariants as reply
 use Rattle.smx_model.proofs.SettledLemmas.{MovesKeep, moved_by, settled_by}
@@ -21,17 +21,13 @@ OfEach P hs = AllByRecursion (λ h. P h.message) hs
 first_has : (P : Message → Type 0) (hs : List QueuedMessage) (p : Place) (m : Message) → first_message hs p ≡ Some m
     → OfEach P hs → P m
 first_has P [] p m e h = cc
-first_has P (k ∷ ks) p m e h = elim (cases_Bool (is_at p k)) [
-  | inl t ↦ let s : Some k.message ≡ Some m = rw t at e in let same : k.message ≡ m = cc in subst P same h.0
-  | inr f ↦ first_has P ks p m (rw f at e) h.1
-]
+first_has P (k ∷ ks) p m e h = grind (arith, first_has P ks p m)
 
 -- a property of all messages of a flow holds of those without the first that passes a test
 rest_has : (P : Message → Type 0) (test : QueuedMessage → Bool) (hs : List QueuedMessage) → OfEach P hs
     → OfEach P (without_first test hs)
 rest_has P test [] h = tt
-rest_has P test (k ∷ ks) h =
-    elim (cases_Bool (test k)) [ inl t ↦ rw t h.1 | inr f ↦ rw f (h.0, rest_has P test ks h.1) ]
+rest_has P test (k ∷ ks) h = grind (arith, rest_has P test ks h.1)
 
 -- the messages that a command leaves and delivers
 
@@ -49,10 +45,7 @@ each_was_there P k r hs h = each_map _ _ hs (λ x p. inl p) h
 -- if all remaining messages were queued before, and the reply delivers none, no message is new
 carries_still : (P : Message → Type 0) (k : Command) (d : Configuration) (r : Reply) → OfEach P d.flow
     → delivered_by r ≡ [] → Carries P k d r
-carries_still P k d r h none = record {
-  flow = each_was_there P k r d.flow h;
-  got = λ m e. let none_is : [] ≡ m.serial ∷ [] = sym none ∙ ap delivered_by e in cc;
-}
+carries_still P k d r h none = grind (arith, each_was_there P k r d.flow h)
 
 -- if all messages before a sweep were queued before, so were those after it, and none is delivered
 carries_done : (P : Message → Type 0) (k : Command) (drivers : List DriverSpec) (c d : Configuration) → OfEach P d.flow
@@ -134,8 +127,7 @@ carries_finished P drivers c k (Ok x) h m = record { flow = settled; got = m.hol
 
   settled : OfEach Q (after_settling drivers x.0).flow
   settled = settled_by (λ d. OfEach Q d.flow) drivers _ x.0 (moved_has Q drivers) m.holds.flow
-carries_finished P drivers c k (Err f) h m =
-    record { flow = each_was_there P k (reply.Fault f) c.flow h; got = λ m e. cc }
+carries_finished P drivers c k (Err f) h m = grind (arith, each_was_there P k (reply.Fault f) c.flow h)
 
 -- P holds of the message, or this entry accepted it
 abbrev Known : (Message → Type 0) → Entry → Message → Type 0

@@ -1,11 +1,11 @@
 -- The commands that drop messages.
-use Rattle.smx_model.proofs.Common.{◌≡◌, ℕ, Bool, true, false, not, eqb, List, [], ◌∷◌, filter, Ok, Err, refl, rules}
-use Rattle.smx_model.proofs.Common.{sym, ap, ◌∙◌, inl, inr, list_any, list_all, cases_Bool, and_parts, and_from}
-use Rattle.smx_model.proofs.Common.{or_left, or_right, eq-eqb, false≢true, AllByRecursion, All-from_recursion, Command}
-use Rattle.smx_model.proofs.Common.{Entry, DriverSpec, NotMux, StreamId, outcome, step, after_outcome, done_outcome}
+use Rattle.smx_model.proofs.Common.{◌≡◌, ℕ, Bool, true, false, not, eqb, List, [], ◌∷◌, filter, Ok, refl}
+use Rattle.smx_model.proofs.Common.{sym, ap, ◌∙◌, list_any, list_all, and_parts, and_from}
+use Rattle.smx_model.proofs.Common.{or_left, eq-eqb, AllByRecursion, All-from_recursion, Command}
+use Rattle.smx_model.proofs.Common.{Entry, DriverSpec, NotMux, StreamId, outcome, step, done_outcome}
 use Rattle.smx_model.proofs.Common.{Configuration, QueuedMessage, empty, stream_before, is_mux, IsLegal, IsLegalFrom}
 use Rattle.smx_model.proofs.Common.{IsKept, dropped_by, AreDropsAllowed, free_stream, mux_stream, in_rising_order}
-use Rattle.smx_model.proofs.Common.{Outcome, serials_that_left, serials, exists, IsSwept, is_hung, with_hung}
+use Rattle.smx_model.proofs.Common.{Outcome, serials_that_left, serials, exists, IsSwept, is_hung, with_hung, arith}
 use Rattle.smx_types.specs.declared.reply.Reply.TheVariants.{Done}
 use Rattle.smx_model.specs.LawfulHistories.{may_drop}
 use Rattle.smx_model.proofs.IdleSweepLemmas.{swept_idle}
@@ -26,8 +26,7 @@ all_there ms (n ∷ ns) h = let p = and_parts (list_any (λ m. eqb n m) ms) _ h 
 in_more : (m : ℕ) (ms ns : List ℕ) → list_all (λ n. list_any (λ k. eqb n k) ms) ns ≡ true
     → list_all (λ n. list_any (λ k. eqb n k) (m ∷ ms)) ns ≡ true
 in_more m ms [] h = refl
-in_more m ms (n ∷ ns) h =
-    let p = and_parts (list_any (λ k. eqb n k) ms) _ h in and_from _ _ (or_right _ _ p.0) (in_more m ms ns p.1)
+in_more m ms (n ∷ ns) h = grind (arith, in_more m ms ns)
 
 -- the numbers of a list are all in it
 in_itself : (ns : List ℕ) → list_all (λ n. list_any (λ k. eqb n k) ns) ns ≡ true
@@ -41,10 +40,7 @@ none_gone flow = ap in_rising_order (all_there (serials flow) (serials flow) (in
 -- a change that leaves nothing to sweep and keeps the flow is done with no message dropped
 pub done_idle : (drivers : List DriverSpec) (c new : Configuration) → IsSwept drivers new → new.flow ≡ c.flow
     → done_outcome drivers c new ≡ Ok (new, Done [])
-done_idle drivers c new clean same =
-    ap (λ (d : Configuration). Ok (d, Done (serials_that_left c.flow d.flow))) (swept_idle drivers new clean)
-    ∙ (ap (λ (f : List QueuedMessage). Ok (new, Done (serials_that_left c.flow f))) same
-    ∙ ap (λ (ns : List ℕ). Ok (new, Done ns)) (none_gone c.flow))
+done_idle drivers c new clean same = grind (arith, swept_idle drivers new clean, none_gone c.flow)
 
 -- if an outcome is accepted, it names no dropped messages
 abbrev DropsNone : Outcome → Type 0
@@ -78,32 +74,13 @@ hung_swept drivers c s h e = record {
 -- an accepted command that may not drop names no dropped messages
 drops_accepted : (drivers : List DriverSpec) (c : Configuration) (process : ℕ) (k : Command) → may_drop k ≡ false
     → IsSwept drivers c → DropsNone (outcome drivers c process k)
-drops_accepted drivers c process k never h = search (
-  of_rows,
-  idle_drops,
-  all_placed,
-  all_filter,
-  hung_swept,
-  mux_exists,
-  leaf_exists,
-  at_none,
-  drops,
-  rules,
-) depth 24 where
-  drops : (x : Command) → k ≡ x → may_drop x ≡ true → ⊥
-  drops x e may = false≢true (sym never ∙ (ap may_drop e ∙ may))
+drops_accepted drivers c process k never h =
+    grind (arith, of_rows, idle_drops, all_placed, all_filter, hung_swept, mux_exists, leaf_exists, at_none)
 
 -- a command whose reply names dropped messages may drop messages
 pub step_drops : (drivers : List DriverSpec) (c : Configuration) (process : ℕ) (k : Command) → IsSwept drivers c
     → (dropped_by (step drivers c process k).1 ≡ [] → ⊥) → may_drop k ≡ true
-step_drops drivers c process k h some = elim (cases_Bool (may_drop k)) [
-  | inl may ↦ may
-  | inr never ↦
-      absurd (some (by (outcome drivers c process k) (drops_accepted drivers c process k never h)))
-] where
-  by : (o : Outcome) → DropsNone o → dropped_by (after_outcome drivers c o).1 ≡ []
-  by (Ok x) m = m.holds
-  by (Err f) m = refl
+step_drops drivers c process k h some = grind (arith, drops_accepted drivers c process k)
 
 -- each entry of a history that is legal from here names dropped messages only if its command may drop
 drops_from : (drivers : List DriverSpec) (c : Configuration) (es : List Entry) → IsKept drivers c

@@ -1,11 +1,10 @@
 -- With fewer links, routes, bindings and messages, and more hung-up streams, no place is turned.
-use Rattle.smx_model.proofs.Common.{◌≡◌, ℕ, Bool, true, false, ◌&&◌, not, eqb, List, [], filter, find, Option, Some}
-use Rattle.smx_model.proofs.Common.{None, refl, sym, ap, ◌∙◌, inl, inr, rules, ◌<◌, length, slice_get, both_ways}
-use Rattle.smx_model.proofs.Common.{cases_Bool, false_from_ne_true, DriverSpec, Binding, Link, Route, Message, Place}
-use Rattle.smx_model.proofs.Common.{Side, StreamId, Configuration, QueuedMessage, same_stream, is_mux, first_message}
-use Rattle.smx_model.proofs.Common.{queue, without_queues_at, without_links, without_dead_streams, after_sweep}
+use Rattle.smx_model.proofs.Common.{◌≡◌, ℕ, Bool, true, false, ◌&&◌, not, eqb, List, filter, find, Option, Some, None}
+use Rattle.smx_model.proofs.Common.{refl, ap, ◌∙◌, inl, inr, rules, ◌<◌, length, DriverSpec, Binding, Link, Route}
+use Rattle.smx_model.proofs.Common.{Message, Place, Side, StreamId, Configuration, QueuedMessage, same_stream}
+use Rattle.smx_model.proofs.Common.{first_message, without_queues_at, without_links, without_dead_streams, after_sweep}
 use Rattle.smx_model.proofs.Common.{live_write_side, is_persistent, exists, AreLinksSound, next_of, nowhere, TurnsOnly}
-use Rattle.smx_model.proofs.Common.{is_hung, AllByRecursion, AllLater}
+use Rattle.smx_model.proofs.Common.{is_hung, AllByRecursion, AllLater, arith}
 use Rattle.smx_types.specs.declared.stream.Side.TheVariants as side
 use Rattle.smx_model.proofs.EachLemmas.{later_filter, each_filter}
 use Rattle.smx_model.proofs.TestLemmas.{any_filter}
@@ -34,11 +33,7 @@ pub record Fewer (c d : Configuration) : Type 0 where
 -- the write side of a stream is the same as before, or none; a stream that was hung up stays so
 live_finds : (old new : List StreamId) (s : StreamId) → (is_hung old s ≡ true → is_hung new s ≡ true)
     → Finds (live_write_side old s) (live_write_side new s)
-live_finds old new s f = elim (cases_Bool (is_hung new s)) [
-  | inl t ↦ rw t (inr refl)
-  | inr n ↦ let o : is_hung old s ≡ false = false_from_ne_true (is_hung old s)
-      (λ t. both_ways (is_hung new s) n (f t)) in rw (o, n) (inl refl)
-]
+live_finds old new s f = grind arith
 
 -- if each key is found as before or not at all, a route leads down as before, or nowhere
 down_finds : (c d : Configuration) (o n : Option Route) → Fewer c d → Finds o n
@@ -67,10 +62,8 @@ up_finds c d addr o n h (inl e) = rw e (by o) where
 -- if each key is found as before or not at all, the next place by a side is as before, or none
 next_finds : (drivers : List DriverSpec) (c d : Configuration) (s : StreamId) (addr : ℕ) (x : Side) → Fewer c d
     → Finds (next_by drivers c s addr x) (next_by drivers d s addr x)
-next_finds drivers c d s addr side.Write h = elim (cases_Bool (is_mux drivers s.driver)) [
-  | inl t ↦ rw t (down_finds c d _ _ h (h.routes s.driver addr))
-  | inr f ↦ rw f (inl refl)
-]
+next_finds drivers c d s addr side.Write h =
+    grind (arith, down_finds c d _ _ h (h.routes s.driver addr), h.routes s.driver addr)
 next_finds drivers c d s addr side.Read h = up_finds c d addr _ _ h (h.lowers s)
 
 -- if each key and a message are found as before or not at all, the message goes next as before, or nowhere
@@ -122,14 +115,7 @@ binds_find keep c driver addr h =
 -- after places are emptied each place has its first message as before, or none
 pub first_emptied : (flow : List QueuedMessage) (goes : Place → Bool) (r : Place)
     → Finds (first_message flow r) (first_message (filter (λ h. not (goes h.place)) flow) r)
-first_emptied flow goes r = elim (cases_Bool (goes r)) [
-  | inl t ↦ let e : queue (filter (λ h. not (goes h.place)) flow) r ≡ [] = emptied_queue flow goes r ∙ rw t refl in
-      inr (front_is (filter (λ h. not (goes h.place)) flow) r ∙ ap (λ (ms : List Message). slice_get ms 0) e)
-  | inr f ↦ let e : queue (filter (λ h. not (goes h.place)) flow) r ≡ queue flow r = emptied_queue flow goes r
-      ∙ rw f refl in
-      inl (front_is (filter (λ h. not (goes h.place)) flow) r
-      ∙ (ap (λ (ms : List Message). slice_get ms 0) e ∙ sym (front_is flow r)))
-]
+first_emptied flow goes r = grind (arith, emptied_queue flow goes r, front_is, front_is flow r)
 
 -- emptying places turns no place
 pub turns_emptied : (drivers : List DriverSpec) (c : Configuration) (goes : Place → Bool)
@@ -177,8 +163,7 @@ pub record AreRooted (drivers : List DriverSpec) (links : List Link) : Type 0 wh
 -- sound links whose upper drivers are in range stay so after a filter
 pub rooted_filter : (drivers : List DriverSpec) (links : List Link) (test : Link → Bool) → AreRooted drivers links
     → AreRooted drivers (filter test links)
-rooted_filter drivers links test h =
-    record { sound = sound_filter test links h.sound; below = each_filter _ test links h.below }
+rooted_filter drivers links test h = grind (arith, sound_filter test links h.sound, each_filter _ test links h.below)
 
 -- a sweep turns no place
 pub turns_swept : (drivers : List DriverSpec) (c : Configuration) → IsKeyed c → AreRooted drivers c.links

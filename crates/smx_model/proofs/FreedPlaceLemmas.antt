@@ -1,12 +1,12 @@
 -- The places that commands free.
 use Rattle.smx_model.proofs.Common.{◌≡◌, ℕ, Bool, true, false, ◌+◌, ◌&&◌, not, cond, List, [], filter, None, refl}
-use Rattle.smx_model.proofs.Common.{rules, sym, ap, ◌∙◌, subst, inl, inr, ◌⊎◌, slice_get, IfOk, list_any, both_ways}
-use Rattle.smx_model.proofs.Common.{cases_Bool, and_parts, false≢true, Command, DriverSpec, Link, LinkKind, Message}
+use Rattle.smx_model.proofs.Common.{rules, sym, ap, ◌∙◌, inl, inr, ◌⊎◌, slice_get, IfOk, list_any}
+use Rattle.smx_model.proofs.Common.{false≢true, Command, DriverSpec, Link, LinkKind, Message}
 use Rattle.smx_model.proofs.Common.{Descriptor, Place, StreamId, outcome, done_outcome, link_outcome, send_outcome}
-use Rattle.smx_model.proofs.Common.{receive_outcome, with_fd, Configuration, QueuedMessage, same_place, read_side}
-use Rattle.smx_model.proofs.Common.{write_side, FreesOnly, IsSound, free_stream, live_stream, live_leaf, after_arrival}
+use Rattle.smx_model.proofs.Common.{receive_outcome, with_fd, Configuration, QueuedMessage, same_place}
+use Rattle.smx_model.proofs.Common.{FreesOnly, IsSound, free_stream, live_stream, live_leaf, after_arrival}
 use Rattle.smx_model.proofs.Common.{after_leaving, first_message, is_full, queue, after_sweep, is_read_below}
-use Rattle.smx_model.proofs.Common.{without_links, without_queues_at, nowhere, exists, is_persistent, IsSwept}
+use Rattle.smx_model.proofs.Common.{without_links, without_queues_at, nowhere, exists, is_persistent, IsSwept, arith}
 use Rattle.smx_types.specs.declared.command.Command.TheVariants as command
 use Rattle.smx_model.specs.FreedPlaces.{freed_by, is_empty_at, is_side_of}
 use Rattle.smx_model.proofs.DropLemmas.{mux_exists, hung_swept}
@@ -28,17 +28,12 @@ never_freed false h = false≢true h
 
 -- if the full places are the same, none is freed
 same_frees : (c d : Configuration) (t : Place → Bool) → d.fulls ≡ c.fulls → FreesOnly c d t
-same_frees c d t e p h = absurd (never_freed (is_full c p)
-    (sym (ap (λ (ps : List Place). is_full c p && not (list_any (same_place p) ps)) e) ∙ h))
+same_frees c d t e p h = grind (arith, never_freed (is_full c p))
 
 -- if each full place other than these stays full, only these are freed
 frees_by : (c d : Configuration) (t : Place → Bool)
     → ((p : Place) → t p ≡ false → is_full c p ≡ true → is_full d p ≡ true) → FreesOnly c d t
-frees_by c d t f p h = elim (cases_Bool (t p)) [
-  | inl y ↦ y
-  | inr n ↦ let a = and_parts (is_full c p) (not (is_full d p)) h in
-      absurd (both_ways (not (is_full d p)) (ap not (f p n a.0)) a.1)
-]
+frees_by c d t f p h = grind (arith, f p)
 
 -- an arrival frees no place
 frees_at_arrival : (drivers : List DriverSpec) (c : Configuration) (p : Place) (m : Message) (n : ℕ)
@@ -65,16 +60,7 @@ KeepsOrEmpties c d = (q : Place) → ((is_full d q ≡ is_full c q) × (first_me
 
 -- two changes that each keep or empty each place do so together
 pub keeps_then : (c d e : Configuration) → KeepsOrEmpties c d → KeepsOrEmpties d e → KeepsOrEmpties c e
-keeps_then c d e f g q = by (f q) (g q) where
-  by : ((is_full d q ≡ is_full c q) × (first_message d.flow q ≡ first_message c.flow q))
-      ⊎ (first_message d.flow q ≡ None)
-      → ((is_full e q ≡ is_full d q) × (first_message e.flow q ≡ first_message d.flow q))
-      ⊎ (first_message e.flow q ≡ None)
-      → ((is_full e q ≡ is_full c q) × (first_message e.flow q ≡ first_message c.flow q))
-      ⊎ (first_message e.flow q ≡ None)
-  by a (inr z) = inr z
-  by (inl a) (inl b) = inl (b.0 ∙ a.0, b.1 ∙ a.1)
-  by (inr z) (inl b) = inr (b.1 ∙ z)
+keeps_then c d e f g q = grind (arith, f q, g q)
 
 -- emptying some places keeps or empties each place
 pub emptied_keeps : (c d : Configuration) (goes : Place → Bool) → d.flow ≡ filter (λ h. not (goes h.place)) c.flow
@@ -111,18 +97,14 @@ swept_keeps drivers c = keeps_then c (without_links c loose) (after_sweep driver
 
 -- a change that keeps or empties each place frees only places that are empty afterwards
 frees_empty : (c d : Configuration) → KeepsOrEmpties c d → FreesOnly c d (is_empty_at d)
-frees_empty c d h p freed = elim (h p) [
-  | inl k ↦ absurd (never_freed (is_full c p) (sym (ap (λ (b : Bool). is_full c p && not b) k.0) ∙ freed))
-  | inr e ↦ rw e refl
-]
+frees_empty c d h p freed = grind (arith, h p, never_freed (is_full c p))
 
 -- ---- the rows of the command table
 
 -- if a change leaves nothing to sweep, its sweep frees no more places
 frees_done : (drivers : List DriverSpec) (c new : Configuration) (t : Place → Bool) → IsSwept drivers new
     → FreesOnly c new t → IfAccepted (λ d r. FreesOnly c d t) (done_outcome drivers c new)
-frees_done drivers c new t clean h =
-    record { holds = subst (λ (d : Configuration). FreesOnly c d t) (sym (swept_idle drivers new clean)) h }
+frees_done drivers c new t clean h = grind (arith, swept_idle drivers new clean)
 
 -- if a change leaves nothing to sweep, and the same full places, it frees none with its sweep
 frees_still : (drivers : List DriverSpec) (c new : Configuration) → IsSwept drivers new → new.fulls ≡ c.fulls
@@ -146,11 +128,7 @@ frees_closed drivers c fds = record {
 -- when links are removed, only places that are empty after the sweep stop being full
 frees_removed : (drivers : List DriverSpec) (c : Configuration) (goes : Link → Bool)
     → IfAccepted (λ d r. FreesOnly c d (is_empty_at d)) (done_outcome drivers c (without_links c goes))
-frees_removed drivers c goes = record {
-  holds = frees_empty c (after_sweep drivers (without_links c goes))
-      (keeps_then c (without_links c goes) (after_sweep drivers (without_links c goes)) (removed_keeps c goes)
-      (swept_keeps drivers (without_links c goes)));
-}
+frees_removed drivers c goes = grind (arith, removed_keeps c goes, swept_keeps drivers (without_links c goes))
 
 -- one more descriptor frees no place
 frees_with_fd : (drivers : List DriverSpec) (c : Configuration) (process fd : ℕ) (s : StreamId)
@@ -170,13 +148,13 @@ frees_linked drivers c process fd arg k = search (after_ok, after_test, at_ok, f
 -- sending a message frees no place
 frees_sent : (drivers : List DriverSpec) (c : Configuration) (p : Place) (addr : ℕ) (bytes : List ℕ)
     → IfAccepted (λ d r. FreesOnly c d nowhere) (send_outcome drivers c p addr bytes)
-frees_sent drivers c p addr bytes = search (
-  after_test,
-  at_ok,
-  frees_at_arrival drivers c p (record { serial = c.next_serial; addr = addr; bytes = bytes })
-      (c.next_serial + 1),
-  rules,
-) depth 12
+frees_sent drivers c p addr bytes =
+    grind (
+      arith,
+      after_test,
+      at_ok,
+      frees_at_arrival drivers c p (record { serial = c.next_serial; addr = addr; bytes = bytes }) (c.next_serial + 1),
+    )
 
 -- delivering a message frees at most its own place
 frees_received : (drivers : List DriverSpec) (c : Configuration) (p : Place)
@@ -198,32 +176,20 @@ frees drivers c process (command.Unlink fd w) h = search (after_ok, unlinked, fr
 frees drivers c process (command.Punlink fd w) h = search (after_ok, unlinked, frees_removed, rules) depth 20
 frees drivers c process (command.Bind fd addr) h =
     search (after_test, after_ok, frees_still, all_placed, mux_exists, rules) depth 20
-frees drivers c process (command.Unbind fd) h =
-    search (after_test, after_ok, frees_still, all_filter, rules) depth 20
+frees drivers c process (command.Unbind fd) h = grind (arith, after_test, after_ok, frees_still, all_filter)
 frees drivers c process (command.Route fd addr id) h = search (after_test, after_ok, frees_still, rules) depth 20
 frees drivers c process (command.Unroute fd addr) h = search (after_test, after_ok, frees_still, rules) depth 20
 frees drivers c process (command.Write fd addr bytes) h = search (after_ok, frees_sent, rules) depth 20
-frees drivers c process (command.Read fd) h = search (
-  at_stream (FreesOnly c) (free_stream c process fd) (λ s. same_place (read_side s)),
-  after_choice,
-  at_ok,
-  same_frees,
-  frees_received,
-  rules,
-) depth 20
+frees drivers c process (command.Read fd) h =
+    grind (arith, at_stream (FreesOnly c) (free_stream c process fd), after_choice, at_ok, same_frees, frees_received)
 frees drivers c process (command.Flush fd w) h =
     search (at_stream (FreesOnly c) (live_stream c process fd) (λ s. is_side_of s w), frees_flush, rules) depth 20
 frees drivers c process (command.Inject name minor addr bytes) h = search (after_ok, frees_sent, rules) depth 20
-frees drivers c process (command.Transmit name minor) h = search (
-  at_stream (FreesOnly c) (live_leaf drivers c name minor) (λ s. same_place (write_side s)),
-  frees_received,
-  rules,
-) depth 20
-frees drivers c process (command.Hangup name minor) h =
-    search (after_ok, frees_still, hung_swept, leaf_exists, rules) depth 20
+frees drivers c process (command.Transmit name minor) h =
+    grind (arith, at_stream (FreesOnly c) (live_leaf drivers c name minor), frees_received)
+frees drivers c process (command.Hangup name minor) h = grind (arith, after_ok, frees_still, hung_swept, leaf_exists)
 
 -- the same with the outcome's clauses, from a sound configuration
 pub few_freed : (drivers : List DriverSpec) (c : Configuration) (process : ℕ) (k : Command) → IsSound drivers c
     → IfOk (outcome drivers c process k) (λ x. FreesOnly c x.0 (freed_by drivers c process k x.0))
-few_freed drivers c process k h = if_ok (λ d. FreesOnly c d (freed_by drivers c process k d)) _
-    (outcome drivers c process k) (λ d m. m) (frees drivers c process k h.swept)
+few_freed drivers c process k h = grind (arith, if_ok, frees drivers c process k h.swept)

@@ -3,7 +3,7 @@ use Rattle.smx_model.proofs.Common.{◌≡◌, ℕ, true, false, List, [], filte
 use Rattle.smx_model.proofs.Common.{rules, sym, ap, ◌∙◌, inl, inr, ◌*◌, length, ◌⊎◌, is_some, false≢true, is_hangup}
 use Rattle.smx_model.proofs.Common.{Command, DriverSpec, Fault, Place, StreamId, outcome, step, after_outcome}
 use Rattle.smx_model.proofs.Common.{done_outcome, Configuration, is_hung, with_hung, IsKept, leaf_stream, Outcome}
-use Rattle.smx_model.proofs.Common.{without_links, next_of_first, Stays, IsSettled, exists, IsSwept}
+use Rattle.smx_model.proofs.Common.{next_of_first, Stays, IsSettled, exists, IsSwept, arith}
 use Rattle.smx_types.specs.declared.command.Command.TheVariants as command
 use Rattle.smx_types.specs.declared.reply.Reply.TheVariants as reply
 use Rattle.smx_model.specs.Outcomes.{◌>>=◌}
@@ -30,8 +30,7 @@ hungs_same drivers c d e = record { either = inl e }
 -- the sweep keeps the hung-up streams that exist
 hungs_done : (drivers : List DriverSpec) (c d : Configuration) → d.hungs ≡ c.hungs
     → IfAccepted (λ d r. LeavesHungs drivers c d) (done_outcome drivers c d)
-hungs_done drivers c d e =
-    record { holds = record { either = inr (ap (filter (λ s. exists drivers (without_links d _) s)) e) } }
+hungs_done drivers c d e = grind arith
 
 -- an accepted command other than a hangup keeps all hung-up streams, or those that exist
 hungs_accepted : (drivers : List DriverSpec) (c : Configuration) (process : ℕ) (k : Command) → is_hangup k ≡ false

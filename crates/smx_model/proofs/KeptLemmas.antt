@@ -1,6 +1,6 @@
 -- Each command preserves the invariant of configurations.
-use Rattle.smx_model.proofs.Common.{◌≡◌, ℕ, zero, suc, ◌+◌, ◌<◌, Ok, Err, true, ◌≤◌, List, [], ◌∷◌, length, get_or}
-use Rattle.smx_model.proofs.Common.{refl, sym, ◌∙◌, subst, arith, inl, inr, IfOk, All, AllPairs, cases_eq, cases_lt}
+use Rattle.smx_model.proofs.Common.{◌≡◌, ℕ, zero, suc, ◌<◌, Ok, Err, true, ◌≤◌, List, [], ◌∷◌, length, get_or}
+use Rattle.smx_model.proofs.Common.{refl, sym, ◌∙◌, arith, inl, inr, IfOk, All, AllPairs, cases_eq, cases_lt}
 use Rattle.smx_model.proofs.Common.{eq-eqb, ltb-true, ne_eqb, recursion_from_All, Command, Entry, DriverSpec, outcome}
 use Rattle.smx_model.proofs.Common.{step, after_outcome, Configuration, empty, IsDriverList, after, after_from, IsKept}
 use Rattle.smx_model.proofs.Common.{IsSound, AreStreamsKnown, IsKnown, Outcome, serials, after_move, after_settling}
@@ -8,8 +8,7 @@ use Rattle.smx_model.proofs.Common.{AreIdsRising, AreRoutesSound, AreLinksSound,
 use Rattle.smx_model.proofs.Common.{AreListsOrdered, Place, StreamId}
 use Rattle.std.proofs.Common.{◌↔◌}
 use Rattle.smx_model.proofs.SettledLemmas.{settled_by}
-use Rattle.smx_model.proofs.ConservationLemmas.{IsNumbered, Goes, goes_accepted, moved_same, moved_next, numbered_empty}
-use Rattle.smx_model.proofs.ConservationLemmas.{numbered_goes}
+use Rattle.smx_model.proofs.ConservationLemmas.{IsNumbered, goes_accepted, moved_same, moved_next, numbered_empty}
 use Rattle.smx_model.proofs.CountLemmas.{times}
 use Rattle.smx_model.proofs.OutcomeLemmas.{IfAccepted, if_ok}
 use Rattle.smx_model.proofs.RangeLemmas.{AreNamed, named_accepted, named_moved}
@@ -52,13 +51,9 @@ once_apart : (xs : List ℕ) → ((n : ℕ) → times n xs ≤ 1) → AllPairs (
 once_apart [] h i j d lt within e = absurd (omega arith)
 once_apart (x ∷ xs) h zero zero d lt within e = absurd (omega arith)
 once_apart (x ∷ xs) h zero (suc j) d lt within e =
-    let k = h x in
-    let k2 : 1 + times x xs ≤ 1 = rw (eq-eqb x x refl) at k in
-    let there : 1 ≤ times x xs = subst (λ (y : ℕ). 1 ≤ times y xs) (sym e) (times_at xs j d (omega (arith, within))) in
-    omega (arith, k2, there)
+    grind (arith, h x, times x xs, times, times_at xs j d (omega (arith, within)))
 once_apart (x ∷ xs) h (suc i) zero d lt within e = absurd (omega (arith, lt))
-once_apart (x ∷ xs) h (suc i) (suc j) d lt within e =
-    once_apart xs (λ n. omega (arith, h n)) i j d (omega (arith, lt)) (omega (arith, within)) e
+once_apart (x ∷ xs) h (suc i) (suc j) d lt within e = grind (arith, once_apart xs)
 
 -- if no two elements of a list are equal, each number has a count of at most one
 apart_once : (xs : List ℕ) → AllPairs (λ m n. m ≡ n → ⊥) xs → (n : ℕ) → times n xs ≤ 1
@@ -82,8 +77,7 @@ none_from (x ∷ xs) next h n le = rw (ne_eqb x n (λ e. omega (arith, e, le, h 
 
 -- if no number from one on is in a list, all its elements are below that one
 all_below : (xs : List ℕ) (next : ℕ) → ((n : ℕ) → next ≤ n → times n xs ≡ 0) → All (λ n. n < next) xs
-all_below xs next h k d lt = elim (cases_lt (get_or xs k d) next)
-    [ inl below ↦ below | inr le ↦ absurd (omega (arith, h (get_or xs k d) le, times_at xs k d lt)) ]
+all_below xs next h k d lt = grind (arith, h (get_or xs k d), times_at xs k d lt)
 
 -- from the form of the laws to the form of the lemmas, and back
 
@@ -129,42 +123,32 @@ parts_of drivers c h = record {
 
 -- a configuration with all parts of `Parts` is sound
 of_parts : (drivers : List DriverSpec) (c : Configuration) → Parts drivers c → IsSound drivers c
-of_parts drivers c h = record {
-  links = h.links;
-  ids = rising_ids drivers c h.routed;
-  routes = sound_routes drivers c h.routed;
-  known = known_of_each drivers c (each_known drivers c h.named h.routed h.swept_);
-  ordered = h.ordered;
-  serials = record {
-    apart = once_apart (serials c.flow) h.numbered.once;
-    below_next = all_below (serials c.flow) c.next_serial h.numbered.below;
-  };
-  swept = h.swept_;
-}
+of_parts drivers c h =
+    grind (
+      arith,
+      rising_ids drivers c h.routed,
+      sound_routes drivers c h.routed,
+      known_of_each drivers c (each_known drivers c h.named h.routed h.swept_),
+      each_known drivers c h.named h.routed h.swept_,
+      once_apart (serials c.flow) h.numbered.once,
+      all_below (serials c.flow) c.next_serial h.numbered.below,
+    )
 
 -- each accepted outcome
 
 -- an accepted command preserves all parts of `Parts`
 parts_accepted : (drivers : List DriverSpec) (c : Configuration) (process : ℕ) (k : Command) → Parts drivers c
     → IfAccepted (λ d r. Parts drivers d) (outcome drivers c process k)
-parts_accepted drivers c process k h = by (outcome drivers c process k) (sound_accepted drivers c process k h.links)
-    (named_accepted drivers c process k h.named) (routed_accepted drivers c process k h.routed)
-    (rising_accepted drivers c process k h.ordered) (goes_accepted drivers c process k h.numbered)
-    (swept_accepted drivers c process k h.swept_) where
-      by : (o : Outcome) → IfAccepted (λ d r. AreLinksSound d.links) o → IfAccepted (λ d r. AreNamed drivers d) o
-          → IfAccepted (λ d r. AreRouted drivers d) o → IfAccepted (λ d r. AreListsOrdered d) o
-          → IfAccepted (Goes c) o → IfAccepted (λ d r. IsSwept drivers d) o → IfAccepted (λ d r. Parts drivers d) o
-      by (Ok x) e1 e2 e3 e4 e5 e6 = record {
-        holds = record {
-          links = e1.holds;
-          named = e2.holds;
-          routed = e3.holds;
-          ordered = e4.holds;
-          numbered = numbered_goes c x.0 x.1 h.numbered e5.holds;
-          swept_ = e6.holds;
-        };
-      }
-      by (Err f) e1 e2 e3 e4 e5 e6 = record { holds = tt }
+parts_accepted drivers c process k h =
+    grind (
+      arith,
+      sound_accepted drivers c process k h.links,
+      named_accepted drivers c process k h.named,
+      routed_accepted drivers c process k h.routed,
+      rising_accepted drivers c process k h.ordered,
+      goes_accepted drivers c process k h.numbered,
+      swept_accepted drivers c process k h.swept_,
+    )
 
 -- the outcome of an accepted command on a sound configuration is sound before settling
 pub outcome_sound : (drivers : List DriverSpec) (c : Configuration) (process : ℕ) (k : Command) → IsSound drivers c
@@ -177,10 +161,7 @@ outcome_sound drivers c process k h = if_ok (Parts drivers) _ (outcome drivers c
 -- after a move queued messages have different serials, below the next one
 numbered_moved : (drivers : List DriverSpec) (c : Configuration) (p : Place) → IsNumbered c
     → IsNumbered (after_move drivers c p)
-numbered_moved drivers c p h = record {
-  once = λ n. omega (arith, moved_same n drivers c p, h.once n);
-  below = λ n le. omega (arith, moved_same n drivers c p, h.below n (omega (arith, moved_next drivers c p, le)));
-}
+numbered_moved drivers c p h = grind (arith, moved_same, moved_next drivers c p)
 
 -- a move preserves all parts of `Parts`
 parts_moved : (drivers : List DriverSpec) (c : Configuration) (p : Place) → Parts drivers c

@@ -1,8 +1,8 @@
 -- The least marked place and the least movable one, and settling move by move.
 use Rattle.smx_model.proofs.Common.{◌≡◌, ℕ, zero, suc, Bool, true, false, List, [], ◌∷◌, find, Option, Some, None, refl}
-use Rattle.smx_model.proofs.Common.{ap, inl, inr, option_map, both_ways, cases_Bool, DriverSpec, Place, Configuration}
+use Rattle.smx_model.proofs.Common.{ap, inl, inr, both_ways, cases_Bool, DriverSpec, Place, Configuration}
 use Rattle.smx_model.proofs.Common.{QueuedMessage, place_before, same_place, IsInOrder, IsLeastMovable, IsSettled}
-use Rattle.smx_model.proofs.Common.{after_move, after_settling_within, is_movable, least_movable}
+use Rattle.smx_model.proofs.Common.{after_move, after_settling_within, is_movable, least_movable, arith}
 use Rattle.smx_model.specs.RunMarks.{AreMarked, IsLeastMarked}
 use Rattle.smx_model.proofs.OrderLemmas.{place_either}
 use Rattle.smx_model.proofs.QueueLemmas.{least_is}
@@ -36,8 +36,7 @@ none_found t (h ∷ hs) f = rw (f h.place) (none_found t hs f)
 -- in a settled configuration there is no least movable place
 pub none_is_least : (drivers : List DriverSpec) (c : Configuration) → IsSettled drivers c
     → least_movable drivers c ≡ None
-none_is_least drivers c s =
-    ap (option_map (λ (h : QueuedMessage). h.place)) (none_found (is_movable drivers c) c.flow s)
+none_is_least drivers c s = grind (arith, none_found (is_movable drivers c) c.flow s)
 
 -- ---- one move of settling, or none
 
@@ -45,8 +44,7 @@ none_is_least drivers c s =
 settling_round : (drivers : List DriverSpec) (n : ℕ) (c : Configuration) (o : Option Place)
     → least_movable drivers c ≡ o → after_settling_within drivers (suc n) c ≡ elim o as (λ _. Configuration)
     [ None ↦ c | Some p ↦ after_settling_within drivers n (after_move drivers c p) ]
-settling_round drivers n c o e = ap (λ (x : Option Place).
-    elim x as (λ _. Configuration) [ None ↦ c | Some p ↦ after_settling_within drivers n (after_move drivers c p) ]) e
+settling_round drivers n c o e = grind arith
 
 -- settling changes nothing if there is no least movable place
 pub settling_stays : (drivers : List DriverSpec) (n : ℕ) (c : Configuration) → least_movable drivers c ≡ None

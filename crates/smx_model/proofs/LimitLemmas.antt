@@ -1,9 +1,9 @@
 -- Limits: of links, of descriptors of each process, and of numbers.
-use Rattle.smx_model.proofs.Common.{◌≡◌, ℕ, ◌+◌, ◌<◌, ◌≤◌, Bool, true, false, ◌||◌, not, leb, eqb, arith, List, [], ◌∷◌}
-use Rattle.smx_model.proofs.Common.{◌++◌, length, filter, Ok, rules, subst, inl, inr, list_any, cases_Bool, eqb-true}
+use Rattle.smx_model.proofs.Common.{◌≡◌, ℕ, ◌+◌, ◌<◌, ◌≤◌, Bool, true, false, ◌||◌, leb, eqb, arith, List, [], ◌∷◌}
+use Rattle.smx_model.proofs.Common.{◌++◌, length, filter, Ok, rules, subst, inl, inr, cases_Bool, eqb-true}
 use Rattle.smx_model.proofs.Common.{or_parts, nat_tests, AllByRecursion, Command, Entry, DriverSpec, MAX_DESCRIPTORS}
 use Rattle.smx_model.proofs.Common.{MAX_LINKS, NUMBER_END, Link, TooManyDescriptors, Descriptor, outcome, Configuration}
-use Rattle.smx_model.proofs.Common.{empty, fd_before, is_fd, pair_before, after, free_fd, ComesBefore, IsRising}
+use Rattle.smx_model.proofs.Common.{empty, fd_before, pair_before, after, free_fd, ComesBefore, IsRising}
 use Rattle.std.specs.List.{count_by}
 use Rattle.std.proofs.lemmas.Bool.{leb-false}
 use Rattle.std.proofs.lemmas.List.{length_push}
@@ -25,8 +25,7 @@ pub record IsWithin (c : Configuration) : Type 0 where
 
 -- a free number of a process is below the maximum number of its descriptors
 free_below : (c : Configuration) (process fd : ℕ) → free_fd c process ≡ Ok fd → fd < MAX_DESCRIPTORS
-free_below c process fd e =
-    range_below (λ n. not (list_any (is_fd process n) c.fds)) 0 MAX_DESCRIPTORS fd (there_is TooManyDescriptors _ fd e)
+free_below c process fd e = grind (arith, range_below, there_is TooManyDescriptors _ fd e)
 
 -- one more link, and fewer links
 
@@ -37,8 +36,7 @@ fewer_fit test ls h = omega (arith, h, length-filter test ls, count_by-le-length
 -- if there is room for a link, one more link is within the limit
 link_fits : (ls : List Link) (l : Link) (b : Bool) → (leb MAX_LINKS (length ls) || b) ≡ false
     → length (ls ++ l ∷ []) ≤ MAX_LINKS
-link_fits ls l b room =
-    omega (arith, length_push ls l, leb-false MAX_LINKS (length ls) (or_parts (leb MAX_LINKS (length ls)) b room).0)
+link_fits ls l b room = grind (arith, length_push ls l)
 
 -- if a next number is below its end, the one after it is at most the end
 number_fits : (b : Bool) (n : ℕ) → (b || leb NUMBER_END n) ≡ false → n + 1 ≤ NUMBER_END
@@ -54,10 +52,7 @@ within_accepted drivers c process k h = of_rows _ drivers c process k
 
 -- each move keeps the configuration within the limits
 within_moved : (drivers : List DriverSpec) → MovesKeep IsWithin drivers
-within_moved drivers = record {
-  each = λ c p h. moved_by IsWithin drivers c p h
-      (λ q m e. record { links = h.links; numbers = h.numbers; ids = h.ids; serials = h.serials });
-}
+within_moved drivers = grind (arith, moved_by IsWithin drivers)
 
 -- after any history the links, numbers, ids and serials are within the limits
 pub always_within : (drivers : List DriverSpec) (history : List Entry) → IsWithin (after drivers history)

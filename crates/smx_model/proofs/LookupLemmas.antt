@@ -1,8 +1,8 @@
 -- The result of a look-up that is not refused.
 use Rattle.smx_model.proofs.Common.{◌≡◌, ℕ, Bool, true, false, List, Option, Some, None, Result, Ok, Err, refl, sym, ap}
-use Rattle.smx_model.proofs.Common.{◌∙◌, find, option_map, DriverSpec, Fault, Place, StreamId, Descriptor}
+use Rattle.smx_model.proofs.Common.{◌∙◌, find, DriverSpec, Fault, Place, StreamId, Descriptor}
 use Rattle.smx_model.proofs.Common.{Configuration, is_fd, is_hung, free_stream, leaf_stream, live_leaf, live_stream}
-use Rattle.smx_model.proofs.Common.{stream_of, refuse, live_write_side}
+use Rattle.smx_model.proofs.Common.{stream_of, refuse, live_write_side, arith}
 use Rattle.std.specs.Option.{ok_or}
 use Rattle.smx_types.specs.declared.reply.Fault.TheVariants.{BadDescriptor, HungUp}
 use Rattle.smx_types.specs.declared.stream.Side.TheVariants as side
@@ -41,11 +41,7 @@ tested f r t x e =
 -- the stream of a descriptor is that of the first with its process and its number
 pub descriptor_of : (c : Configuration) (process fd : ℕ) (s : StreamId) → stream_of c process fd ≡ Ok s
     → (d : Descriptor) × (find (is_fd process fd) c.fds ≡ Some d) × (d.stream ≡ s)
-descriptor_of c process fd s e = by (find (is_fd process fd) c.fds) (there_is BadDescriptor _ s e) where
-  by : (o : Option Descriptor) → option_map (λ d. d.stream) o ≡ Some s
-      → (d : Descriptor) × (o ≡ Some d) × (d.stream ≡ s)
-  by None k = cc
-  by (Some d) k = (d, refl, cc)
+descriptor_of c process fd s e = grind (arith, there_is BadDescriptor _ s e)
 
 -- a descriptor's stream found as live is also found as one not linked below, and has not hung up
 pub live_is : (c : Configuration) (process fd : ℕ) (s : StreamId) → live_stream c process fd ≡ Ok s
@@ -60,8 +56,4 @@ live_leaf_is drivers c name minor s e = tested HungUp (leaf_stream drivers c nam
 -- the write side of a stream that is not hung up is its write side
 pub live_is_side : (hungs : List StreamId) (s : StreamId) (q : Place) → live_write_side hungs s ≡ Some q
     → record { stream = s; side = side.Write } ≡ q
-live_is_side hungs s q e = by (is_hung hungs s) refl e where
-  by : (b : Bool) → is_hung hungs s ≡ b → live_write_side hungs s ≡ Some q
-      → record { stream = s; side = side.Write } ≡ q
-  by true t k = let z : None ≡ Some q = rw t at k in cc
-  by false f k = let z : Some (record { stream = s; side = side.Write }) ≡ Some q = rw f at k in cc
+live_is_side hungs s q e = grind arith

@@ -1,7 +1,7 @@
 -- Descriptors, bindings, routes, full places and hung-up streams stay in their order.
 use Rattle.smx_model.proofs.Common.{◌≡◌, ℕ, Bool, true, false, ◌&&◌, ◌||◌, not, eqb, List, filter, Ok, refl, rules}
-use Rattle.smx_model.proofs.Common.{arith, list_any, range_with_len, nat_tests, AllByRecursion, Command, DriverSpec}
-use Rattle.smx_model.proofs.Common.{MAX_DESCRIPTORS, TooManyDescriptors, Place, StreamId, outcome, with_fd}
+use Rattle.smx_model.proofs.Common.{arith, list_any, nat_tests, AllByRecursion, Command, DriverSpec}
+use Rattle.smx_model.proofs.Common.{TooManyDescriptors, Place, StreamId, outcome, with_fd}
 use Rattle.smx_model.proofs.Common.{Configuration, empty, is_fd, fd_before, bind_before, route_before, place_before}
 use Rattle.smx_model.proofs.Common.{pair_before, same_place, same_stream, stream_before, is_hung, with_hung, free_fd}
 use Rattle.smx_model.proofs.Common.{with_inserted, IsRising, with_mark, after_move, AreListsOrdered}
@@ -24,8 +24,7 @@ IsTransitive {X} before = (x y z : X) → before x y ≡ true → before y z ≡
 pub rising_placed : {X : Type 0} (before : X → X → Bool) → IsTransitive before → (x : X) (xs : List X)
     → AllByRecursion (λ y. before x y ≡ false → before y x ≡ true) xs → IsRising before xs
     → IsRising before (with_inserted before xs x)
-rising_placed before trans x xs other h =
-    later_placed (λ y z. before y z ≡ true) before x (λ y t. t) (λ y z. trans x y z) xs other h
+rising_placed before trans x xs other h = grind (arith, later_placed)
 
 -- the orders
 
@@ -62,9 +61,7 @@ bind_other a b c d e m h = grind (arith, nat_tests)
 -- a free number of a process is not the number of one of its descriptors
 free_number_is_new : (c : Configuration) (process fd : ℕ) → free_fd c process ≡ Ok fd
     → list_any (is_fd process fd) c.fds ≡ false
-free_number_is_new c process fd e =
-    not-true _ (find_passes (λ n. not (list_any (is_fd process n) c.fds)) (range_with_len 0 MAX_DESCRIPTORS) fd
-    (there_is TooManyDescriptors _ fd e))
+free_number_is_new c process fd e = grind (arith, find_passes, there_is TooManyDescriptors _ fd e)
 
 -- rising descriptors still rise with one more under a free number
 fds_rise : (c : Configuration) (process fd : ℕ) (s : StreamId) → AreListsOrdered c → free_fd c process ≡ Ok fd

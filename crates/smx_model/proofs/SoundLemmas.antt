@@ -14,10 +14,13 @@ use Rattle.smx_model.proofs.PathLemmas.{path_reaches, no_cycle_push, no_cycle_fe
 
 -- sound links stay sound after a filter
 pub sound_filter : (test : Link → Bool) (ls : List Link) → AreLinksSound ls → AreLinksSound (filter test ls)
-sound_filter test ls h = record {
-  no_cycle = no_cycle_fewer ls (filter test ls) (of_filtered test ls) h.no_cycle;
-  lowers = AllPairs-filter (λ l k. same_stream l.lower k.lower ≡ false) test ls h.lowers;
-}
+sound_filter test ls h =
+    search (
+      rules,
+      no_cycle_fewer ls (filter test ls) (of_filtered test ls) h.no_cycle,
+      of_filtered test ls,
+      AllPairs-filter,
+    )
 
 -- sound links stay sound with one more, if it closes no cycle and its lower stream is below no other
 pub sound_push : (ls : List Link) (l : Link) → AreLinksSound ls → is_below ls l.lower ≡ false
@@ -36,8 +39,7 @@ Sound d r = AreLinksSound d.links
 -- an accepted command keeps sound links sound
 pub sound_accepted : (drivers : List DriverSpec) (c : Configuration) (process : ℕ) (k : Command) → AreLinksSound c.links
     → IfAccepted Sound (outcome drivers c process k)
-sound_accepted drivers c process k h =
-    search (of_rows, sound_filter, sound_push, rules) depth 24
+sound_accepted drivers c process k h = search (rules, of_rows, sound_filter, sound_push)
 
 -- a move keeps sound links sound
 pub sound_moved : (drivers : List DriverSpec) (c : Configuration) (p : Place) → AreLinksSound c.links

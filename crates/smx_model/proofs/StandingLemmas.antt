@@ -1,9 +1,9 @@
 -- The streams that exist within some climbs, and the result of a sweep.
-use Rattle.smx_model.proofs.Common.{◌≡◌, ℕ, zero, suc, ◌<◌, ◌≤◌, Bool, true, ◌&&◌, ◌||◌, not, eqb, List, length, filter}
-use Rattle.smx_model.proofs.Common.{refl, sym, ap, ◌∙◌, subst, arith, inl, inr, list_any, cases_lt, eqb-true, and_parts}
+use Rattle.smx_model.proofs.Common.{◌≡◌, ℕ, zero, suc, ◌<◌, ◌≤◌, Bool, true, ◌&&◌, ◌||◌, not, List, length, filter}
+use Rattle.smx_model.proofs.Common.{refl, sym, ap, ◌∙◌, subst, arith, inl, inr, list_any, cases_lt, and_parts}
 use Rattle.smx_model.proofs.Common.{or_cases, or_left, or_right, and_from, not-false, AllByRecursion, Descriptor}
 use Rattle.smx_model.proofs.Common.{DriverSpec, Link, StreamId, Configuration, same_stream, HasNoCycle, reaches}
-use Rattle.smx_model.proofs.Common.{after_sweep, without_links, is_persistent, is_named, stands_within, exists, IsSwept}
+use Rattle.smx_model.proofs.Common.{after_sweep, without_links, is_persistent, stands_within, exists, IsSwept}
 use Rattle.std.proofs.lemmas.Bool.{not-true}
 use Rattle.smx_model.proofs.SettlingLemmas.{count, count_le, up_less}
 use Rattle.smx_model.proofs.TestLemmas.{any_same, any_filter, all_passes, any_found, any_more_each}
@@ -13,8 +13,7 @@ use Rattle.smx_model.proofs.TestLemmas.{any_same, any_filter, all_passes, any_fo
 -- a stream that exists within some climbs exists within any greater number of them
 pub stands_more : (fds : List Descriptor) (links : List Link) (n m : ℕ) (s : StreamId) → n ≤ m
     → stands_within fds links n s ≡ true → stands_within fds links m s ≡ true
-stands_more fds links n zero s le h =
-    let e : n ≡ 0 = omega arith in subst (λ (k : ℕ). stands_within fds links k s ≡ true) e h
+stands_more fds links n zero s le h = grind arith
 stands_more fds links n (suc m) s le h = elim (cases_lt m n) [
   | inl lt ↦ let e : n ≡ suc m = omega arith in subst (λ (k : ℕ). stands_within fds links k s ≡ true) e h
   | inr ge ↦ or_left _ _ (stands_more fds links n m s ge h)
@@ -27,11 +26,7 @@ stands_more fds links n (suc m) s le h = elim (cases_lt m n) [
 stands_filter : (fds : List Descriptor) (links : List Link) (m n : ℕ) (s : StreamId) → n ≤ m
     → stands_within fds (filter (λ l. not (not (is_persistent l) && not (stands_within fds links m l.ctl))) links) n s
     ≡ stands_within fds links n s
-stands_filter fds links m zero s le = ap (λ (b : Bool). is_named fds s || b)
-    (any_filter (λ l. is_persistent l && same_stream l.lower s) _ links
-    (λ l h. kept (is_persistent l) (same_stream l.lower s) (stands_within fds links m l.ctl) h)) where
-      kept : (a b d : Bool) → (a && b) ≡ true → not (not a && not d) ≡ true
-      kept a b d h = grind arith
+stands_filter fds links m zero s le = grind (arith, any_filter)
 stands_filter fds links m (suc n) s le = both _ _ _ _ (stands_filter fds links m n s (omega arith))
     (any_same _ _ (filter (λ k. not (not (is_persistent k) && not (stands_within fds links m k.ctl))) links)
     (λ l. ap (λ (b : Bool). not (is_persistent l) && (same_stream l.lower s && b))
@@ -81,11 +76,7 @@ pub record IsLinkIn (drivers : List DriverSpec) (links : List Link) (l : Link) :
 link_rises : (drivers : List DriverSpec) (links : List Link) (l : Link) (s : StreamId) → HasNoCycle links
     → IsLinkIn drivers links l → same_stream l.lower s ≡ true
     → height drivers links l.ctl.driver < height drivers links s.driver
-link_rises drivers links l s none h same =
-    let d : l.lower.driver ≡ s.driver = eqb-true l.lower.driver s.driver
-    (and_parts (eqb l.lower.driver s.driver) (eqb l.lower.minor s.minor) same).0 in
-    up_less links (length drivers) l.ctl.driver s.driver none
-    (subst (λ (x : ℕ). reaches links l.ctl.driver x ≡ true) d h.leads) h.ctl
+link_rises drivers links l s none h same = grind (arith, up_less links (length drivers) l.ctl.driver s.driver none)
 
 -- without a cycle a stream that exists within any climbs does so within the number of drivers that reach its driver
 enough_climbs : (drivers : List DriverSpec) (fds : List Descriptor) (links : List Link) (n : ℕ) (s : StreamId)

@@ -1,15 +1,14 @@
 -- Each configuration is swept.
-use Rattle.smx_model.proofs.Common.{◌≡◌, ℕ, zero, suc, ◌<◌, Bool, true, false, ◌&&◌, ◌||◌, not, eqb, List, [], ◌∷◌}
-use Rattle.smx_model.proofs.Common.{◌++◌, length, find, Option, Some, None, Ok, refl, rules, sym, ap, ◌∙◌, subst, arith}
-use Rattle.smx_model.proofs.Common.{inl, inr, Result, IfOk, outcome, done_outcome, with_fd, Configuration}
-use Rattle.smx_model.proofs.Common.{QueuedMessage, is_at, queued_before, fd_before, same_stream, place_before, is_fd}
-use Rattle.smx_model.proofs.Common.{is_mux, driver_of, stream_of, free_stream, leaf_stream, live_leaf, live_stream}
-use Rattle.smx_model.proofs.Common.{HasNoCycle, without_first, first_message, with_mark, after_sweep, after_move}
-use Rattle.smx_model.proofs.Common.{after_move_to, next_open_place, next_place, is_persistent, is_named, stands_within}
-use Rattle.smx_model.proofs.Common.{exists, is_below, Stands, IsSwept, list_any, cases_Bool, not-false, eq-eqb}
-use Rattle.smx_model.proofs.Common.{and_parts, or_cases, or_left, or_right, and_from, Command, Fault, NoDriver}
-use Rattle.smx_model.proofs.Common.{Descriptor, DriverSpec, Link, Message, Place, Side, StreamId, list_all, NoMinor}
-use Rattle.smx_model.proofs.Common.{AllByRecursion}
+use Rattle.smx_model.proofs.Common.{◌≡◌, ℕ, zero, suc, ◌<◌, Bool, true, false, ◌||◌, List, [], ◌∷◌, ◌++◌, length, find}
+use Rattle.smx_model.proofs.Common.{Option, Some, None, Ok, refl, rules, subst, arith, inl, inr, Result, IfOk, outcome}
+use Rattle.smx_model.proofs.Common.{done_outcome, with_fd, Configuration, QueuedMessage, is_at, queued_before}
+use Rattle.smx_model.proofs.Common.{fd_before, same_stream, place_before, is_fd, is_mux, driver_of, stream_of}
+use Rattle.smx_model.proofs.Common.{free_stream, leaf_stream, live_leaf, live_stream, HasNoCycle, without_first}
+use Rattle.smx_model.proofs.Common.{first_message, with_mark, after_sweep, after_move, after_move_to, next_open_place}
+use Rattle.smx_model.proofs.Common.{next_place, is_persistent, stands_within, exists, is_below, Stands, IsSwept}
+use Rattle.smx_model.proofs.Common.{list_any, cases_Bool, not-false, eq-eqb, or_right, and_from, Command, Fault}
+use Rattle.smx_model.proofs.Common.{NoDriver, Descriptor, DriverSpec, Link, Message, Place, Side, StreamId, list_all}
+use Rattle.smx_model.proofs.Common.{NoMinor, AllByRecursion}
 use Rattle.smx_model.proofs.IdleSweepLemmas.{swept_idle}
 use Rattle.smx_model.proofs.AcceptedLemmas.{of_rows}
 use Rattle.smx_model.proofs.OutcomeLemmas.{IfAccepted, if_ok}
@@ -31,30 +30,9 @@ stands_grow : (fds fds2 : List Descriptor) (links links2 : List Link)
     → ((t : Descriptor → Bool) → list_any t fds ≡ true → list_any t fds2 ≡ true)
     → ((t : Link → Bool) → list_any t links ≡ true → list_any t links2 ≡ true)
     → (n : ℕ) (s : StreamId) → stands_within fds links n s ≡ true → stands_within fds2 links2 n s ≡ true
-stands_grow fds fds2 links links2 f g zero s h =
-    elim (or_cases (is_named fds s) (list_any (λ l. is_persistent l && same_stream l.lower s) links) h) [
-      | inl k ↦ or_left _ _ (f (λ d. same_stream d.stream s) k)
-      | inr k ↦
-          or_right _ _ (g (λ l. is_persistent l && same_stream l.lower s) k)
-    ]
+stands_grow fds fds2 links links2 f g zero s h = grind arith
 stands_grow fds fds2 links links2 f g (suc n) s
-    h = elim (or_cases (stands_within fds links n s)
-    (list_any (λ l. not (is_persistent l) && (same_stream l.lower s && stands_within fds links n l.ctl)) links) h) [
-      | inl k ↦ or_left _ _ (stands_grow fds fds2 links links2 f g n s k)
-      | inr k ↦
-          or_right _ _
-          (any_more (λ l. not (is_persistent l) && (same_stream l.lower s && stands_within fds links n l.ctl))
-          (λ l. not (is_persistent l) && (same_stream l.lower s && stands_within fds2 links2 n l.ctl)) links2
-          (deeper (stands_grow fds fds2 links links2 f g n))
-          (g (λ l. not (is_persistent l) && (same_stream l.lower s && stands_within fds links n l.ctl)) k))
-    ] where
-      deeper : ((t : StreamId) → stands_within fds links n t ≡ true → stands_within fds2 links2 n t ≡ true) → (l : Link)
-          → (not (is_persistent l) && (same_stream l.lower s && stands_within fds links n l.ctl)) ≡ true
-          → (not (is_persistent l) && (same_stream l.lower s && stands_within fds2 links2 n l.ctl)) ≡ true
-      deeper up l e =
-          let a = and_parts (not (is_persistent l)) (same_stream l.lower s && stands_within fds links n l.ctl) e in
-          let b = and_parts (same_stream l.lower s) (stands_within fds links n l.ctl) a.1 in
-          and_from _ _ a.0 (and_from _ _ b.0 (up l.ctl b.1))
+    h = grind (arith, stands_grow fds fds2 links links2 f g n s, any_more, stands_grow fds fds2 links links2 f g n)
 
 -- a configuration is swept if all streams that exist in a swept one exist in it, its links pass the sweep, and all
 -- else that is swept is the same
@@ -105,9 +83,13 @@ stream_self t = and_from _ _ (eq-eqb t.driver t.driver refl) (eq-eqb t.minor t.m
 stream_exists : (drivers : List DriverSpec) (c : Configuration) (process fd : ℕ) (s : StreamId)
     → stream_of c process fd ≡ Ok s → exists drivers c s ≡ true
 stream_exists drivers c process fd s e =
-    let d = descriptor_of c process fd s e in
-    stands_more c.fds c.links 0 (length drivers) s (omega arith)
-    (or_left _ _ (found_any (is_fd process fd) (λ x. same_stream x.stream s) c.fds d.0 d.1 (rw d.2 (stream_self s))))
+    grind (
+      arith,
+      descriptor_of c process fd s e,
+      stands_more c.fds c.links 0 (length drivers) s (omega arith),
+      found_any (is_fd process fd),
+      stream_self s,
+    )
 
 -- the stream of a descriptor that is not linked below exists
 pub free_exists : (drivers : List DriverSpec) (c : Configuration) (process fd : ℕ) (s : StreamId)
@@ -173,11 +155,15 @@ pub links_in : (drivers : List DriverSpec) (links : List Link)
     → AllByRecursion (λ l. l.ctl.driver < length drivers) links
     → AllByRecursion (IsLinkIn drivers links) links
 links_in drivers [] h = tt
-links_in drivers (l ∷ ls) h = (
-  record { ctl = h.0; leads = reaches_at (l ∷ ls) 0 l (omega arith) refl },
-  each_map (IsLinkIn drivers ls) (IsLinkIn drivers (l ∷ ls)) ls
-      (λ k i. record { ctl = i.ctl; leads = or_left _ _ i.leads }) (links_in drivers ls h.1),
-)
+links_in drivers (l ∷ ls) h =
+    grind (
+      arith,
+      reaches_at (l ∷ ls) 0 l (omega arith) refl,
+      each_map (IsLinkIn drivers ls) (IsLinkIn drivers (l ∷ ls)) ls,
+      IsLinkIn drivers ls,
+      IsLinkIn drivers (l ∷ ls),
+      links_in drivers ls h.1,
+    )
 
 -- a swept configuration without a cycle, whose drivers have the streams of its descriptors and links
 pub record IsWhole (drivers : List DriverSpec) (c : Configuration) : Type 0 where
@@ -195,19 +181,16 @@ pub record AreKeepingLowers (drivers : List DriverSpec) (c : Configuration) : Ty
 -- the lower stream of a link that a search finds exists
 pub lower_exists : (drivers : List DriverSpec) (c : Configuration) (test : Link → Bool) (l : Link)
     → AreKeepingLowers drivers c → find test c.links ≡ Some l → exists drivers c l.lower ≡ true
-lower_exists drivers c test l h e = elim (cases_Bool (is_persistent l)) [
-  | inl p ↦ stands_more c.fds c.links 0 (length drivers) l.lower (omega arith)
-      (or_right _ _ (found_any test (λ k. is_persistent k && same_stream k.lower l.lower) c.links l e
-      (and_from _ _ p (stream_self l.lower))))
-  | inr o ↦
-      let a = found_all test (λ k. is_persistent k || exists drivers c k.ctl) c.links l e h.alive in
-      let up : exists drivers c l.ctl ≡ true = rw o at a in
-      climbs_suffice drivers c.fds c.links (suc (length drivers)) l.lower h.no_cycle (links_in drivers c.links h.below)
-      (or_right _ _
-      (found_any test (λ k. not (is_persistent k)
-      && (same_stream k.lower l.lower && stands_within c.fds c.links (length drivers) k.ctl)) c.links l e
-      (and_from _ _ (rw o refl) (and_from _ _ (stream_self l.lower) up))))
-]
+lower_exists drivers c test l h e =
+    grind (
+      arith,
+      stands_more c.fds c.links 0 (length drivers) l.lower (omega arith),
+      found_any test,
+      stream_self l.lower,
+      found_all test,
+      climbs_suffice drivers c.fds c.links (suc (length drivers)) l.lower h.no_cycle (links_in drivers c.links h.below),
+      links_in drivers c.links h.below,
+    )
 
 -- a swept configuration without a cycle, whose descriptors and links have known streams, has links that keep
 -- their lower streams
@@ -226,19 +209,13 @@ next_exists drivers c s addr side.Write q h e = elim (cases_Bool (is_mux drivers
       (lower_exists drivers c _ w.2 (whole_keeps drivers c h) w.3)
   | inr f ↦ let k : None ≡ Some q = rw f at e in cc
 ]
-next_exists drivers c s addr side.Read q h e =
-    let w = above_binding c.links c.binds s addr q e in
-    subst (λ (x : Place). exists drivers c x.stream ≡ true) w.4
-    (found_all (λ b. eqb b.driver w.0.ctl.driver && eqb b.addr addr)
-    (λ b. exists drivers c (record { driver = b.driver; minor = b.minor })) c.binds w.2 w.3 h.swept_.binds)
+next_exists drivers c s addr side.Read q h e = grind (arith, above_binding c.links c.binds s addr q e, found_all)
 
 -- if the places of all messages pass a test, so does a place with a first message
 front_exists : (t : Place → Bool) (hs : List QueuedMessage) (p : Place) (m : Message) → first_message hs p ≡ Some m
     → list_all (λ h. t h.place) hs ≡ true → t p ≡ true
 front_exists t [] p m e h = cc
-front_exists t (k ∷ hs) p m e h =
-    let a = and_parts (t k.place) (list_all (λ h. t h.place) hs) h in elim (cases_Bool (is_at p k))
-    [ inl y ↦ ap t (sym (same_place_is k.place p y)) ∙ a.0 | inr n ↦ front_exists t hs p m (rw n at e) a.1 ]
+front_exists t (k ∷ hs) p m e h = grind (arith, same_place_is k.place p, front_exists t hs p m)
 
 -- a move keeps a swept configuration without a cycle swept
 pub swept_moved : (drivers : List DriverSpec) (c : Configuration) (p : Place) → IsWhole drivers c

@@ -1,8 +1,7 @@
 -- Tests over lists: some element passes, all elements pass, the first element that passes.
-use Rattle.smx_model.proofs.Common.{◌≡◌, Bool, true, false, ◌||◌, not, List, [], ◌∷◌, filter, refl, sym, ap, ◌∙◌, inl}
-use Rattle.smx_model.proofs.Common.{inr, arith, ◌++◌, find, Some, list_any, list_all, cases_Bool, and_parts, or_cases}
-use Rattle.smx_model.proofs.Common.{or_left, or_right, and_from, false≢true, both_ways, false_from_ne_true}
-use Rattle.smx_model.proofs.Common.{AllByRecursion, with_inserted, without_first}
+use Rattle.smx_model.proofs.Common.{◌≡◌, Bool, true, ◌||◌, not, List, [], ◌∷◌, filter, refl, ◌∙◌, arith, ◌++◌, find}
+use Rattle.smx_model.proofs.Common.{Some, list_any, list_all, and_parts, or_left, and_from, false≢true, AllByRecursion}
+use Rattle.smx_model.proofs.Common.{with_inserted, without_first}
 use Rattle.std.proofs.lemmas.List.Folds.{list_all-append, list_any-append}
 
 -- if two tests agree on all values, some element passes the one exactly if some element passes the other
@@ -32,10 +31,7 @@ pub record Found {X : Type 0} (t : X → Bool) (P : X → Type 0) (xs : List X) 
 pub any_found : {X : Type 0} (t : X → Bool) (P : X → Type 0) (xs : List X) → AllByRecursion P xs → list_any t xs ≡ true
     → Found t P xs
 any_found t P [] h e = absurd (false≢true e)
-any_found t P (x ∷ xs) h e = elim (or_cases (t x) (list_any t xs) e) [
-  | inl k ↦ record { one = x; passes = k; has = h.0 }
-  | inr k ↦ let f = any_found t P xs h.1 k in record { one = f.one; passes = f.passes; has = f.has }
-]
+any_found t P (x ∷ xs) h e = grind (arith, any_found t P xs h.1)
 
 -- if values that pass one test pass another, and some element passes the first, some element passes the second
 pub any_more : {X : Type 0} (t u : X → Bool) (xs : List X) → ((x : X) → t x ≡ true → u x ≡ true) → list_any t xs ≡ true
@@ -77,19 +73,13 @@ all_filter t keep (x ∷ xs) e = grind (arith, all_filter t keep xs)
 pub all_without : {X : Type 0} (t test : X → Bool) (xs : List X) → list_all t xs ≡ true
     → list_all t (without_first test xs) ≡ true
 all_without t test [] e = e
-all_without t test (x ∷ xs) e = let p = and_parts (t x) (list_all t xs) e in elim (cases_Bool (test x))
-    [ inl a ↦ rw a p.1 | inr b ↦ rw b (and_from _ _ p.0 (all_without t test xs p.1)) ]
+all_without t test (x ∷ xs) e = grind (arith, all_without t test xs)
 
 -- if some element passes, some element passes after one more is inserted
 pub any_placed : {X : Type 0} (t : X → Bool) (before : X → X → Bool) (xs : List X) (x : X) → list_any t xs ≡ true
     → list_any t (with_inserted before xs x) ≡ true
 any_placed t before [] x e = absurd (false≢true e)
-any_placed t before (y ∷ ys) x e = elim (cases_Bool (before x y)) [
-  | inl a ↦ rw a (or_right _ _ e)
-  | inr b ↦
-      rw b (elim (or_cases (t y) (list_any t ys) e)
-      [ inl k ↦ or_left _ _ k | inr k ↦ or_right _ _ (any_placed t before ys x k) ])
-]
+any_placed t before (y ∷ ys) x e = grind (arith, any_placed t before ys x)
 
 -- if some element passes, some element passes with one more at the end
 pub any_push : {X : Type 0} (t : X → Bool) (xs : List X) (x : X) → list_any t xs ≡ true
@@ -100,10 +90,7 @@ any_push t xs x e = list_any-append t xs (x ∷ []) ∙ or_left _ _ e
 pub found_any : {X : Type 0} (test t : X → Bool) (xs : List X) (x : X) → find test xs ≡ Some x → t x ≡ true
     → list_any t xs ≡ true
 found_any test t [] x e h = cc
-found_any test t (y ∷ ys) x e h = elim (cases_Bool (test y)) [
-  | inl a ↦ let k : Some y ≡ Some x = rw a at e in let same : y ≡ x = cc in or_left _ _ (ap t same ∙ h)
-  | inr b ↦ or_right _ _ (found_any test t ys x (rw b at e) h)
-]
+found_any test t (y ∷ ys) x e h = grind (arith, found_any test t ys x)
 
 -- if all elements pass a test, the one that a search by another test finds passes it
 pub found_all : {X : Type 0} (test t : X → Bool) (xs : List X) (x : X) → find test xs ≡ Some x → list_all t xs ≡ true
@@ -114,8 +101,7 @@ found_all test t (y ∷ ys) x e h = grind (arith, found_all test t ys x)
 -- a filter by a test that all elements pass keeps the whole list
 pub keep_all : {X : Type 0} (t : X → Bool) (xs : List X) → list_all t xs ≡ true → filter t xs ≡ xs
 keep_all t [] h = refl
-keep_all t (x ∷ xs) h =
-    let p = and_parts (t x) (list_all t xs) h in rw p.0 (ap (λ (ys : List _). x ∷ ys) (keep_all t xs p.1))
+keep_all t (x ∷ xs) h = grind (arith, keep_all t xs)
 
 -- if two tests agree on all values, all elements pass the one exactly if all pass the other
 pub all_same : {X : Type 0} (t u : X → Bool) (xs : List X) → ((x : X) → t x ≡ u x) → list_all t xs ≡ list_all u xs
@@ -135,10 +121,7 @@ none_kept t (x ∷ xs) h = grind (arith, none_kept t xs)
 -- the element that a search finds passes its test
 pub find_passes : {X : Type 0} (test : X → Bool) (xs : List X) (x : X) → find test xs ≡ Some x → test x ≡ true
 find_passes test [] x e = cc
-find_passes test (y ∷ ys) x e = elim (cases_Bool (test y)) [
-  | inl t ↦ let k : Some y ≡ Some x = rw t at e in let same : y ≡ x = cc in ap test (sym same) ∙ t
-  | inr f ↦ find_passes test ys x (rw f at e)
-]
+find_passes test (y ∷ ys) x e = grind (arith, find_passes test ys x)
 
 -- after an element is inserted, some element passes exactly if it does or some did before
 pub any_of_placed : {X : Type 0} (t : X → Bool) (before : X → X → Bool) (xs : List X) (x : X)

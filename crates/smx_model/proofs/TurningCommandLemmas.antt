@@ -1,11 +1,11 @@
 -- The places that commands turn.
 use Rattle.smx_model.proofs.Common.{◌≡◌, ℕ, ◌+◌, Bool, true, false, ◌&&◌, ◌||◌, not, eqb, List, [], ◌∷◌, ◌++◌, filter}
-use Rattle.smx_model.proofs.Common.{Result, Ok, Err, refl, rules, ◌∙◌, inl, inr, arith, nat_lt, IfOk, list_any}
-use Rattle.smx_model.proofs.Common.{cases_Bool, or_right, nat_tests, AllByRecursion, recursion_from_All, Command}
+use Rattle.smx_model.proofs.Common.{Result, Ok, Err, refl, rules, ◌∙◌, inl, arith, nat_lt, IfOk, list_any}
+use Rattle.smx_model.proofs.Common.{or_right, nat_tests, AllByRecursion, recursion_from_All, Command}
 use Rattle.smx_model.proofs.Common.{DriverSpec, Binding, LinkKind, Route, Message, Fault, Descriptor, Place, StreamId}
 use Rattle.smx_model.proofs.Common.{outcome, done_outcome, link_outcome, send_outcome, receive_outcome, with_fd}
-use Rattle.smx_model.proofs.Common.{Configuration, same_place, pair_before, bind_before, route_before, same_stream}
-use Rattle.smx_model.proofs.Common.{read_side, write_side, IsSound, stream_of, free_stream, mux_stream, live_stream}
+use Rattle.smx_model.proofs.Common.{Configuration, same_place, pair_before, route_before, same_stream}
+use Rattle.smx_model.proofs.Common.{read_side, IsSound, stream_of, free_stream, mux_stream, live_stream}
 use Rattle.smx_model.proofs.Common.{live_leaf, with_inserted, Outcome, after_arrival, after_sweep, asks_down, asks_up}
 use Rattle.smx_model.proofs.Common.{nowhere, is_first_at, TurnsOnly, is_hung, with_hung, IsKnown, AllLater}
 use Rattle.std.proofs.lemmas.Bool.{not-true}
@@ -57,10 +57,8 @@ rooted drivers c h = record {
 related_placed : {X : Type 0} (R : X → X → Type 0) (before : X → X → Bool) → ((x y : X) → R x y → R y x)
     → (x : X) (xs : List X) → AllByRecursion (R x) xs → AllLater R xs → AllLater R (with_inserted before xs x)
 related_placed R before s x [] e h = (tt, tt)
-related_placed R before s x (y ∷ ys) e h = elim (cases_Bool (before x y)) [
-  | inl t ↦ rw t (e, h)
-  | inr f ↦ rw f (each_placed (R y) before ys x (s x y e.0) h.0, related_placed R before s x ys e.1 h.1)
-]
+related_placed R before s x (y ∷ ys) e h =
+    grind (arith, each_placed (R y) before ys x (s x y e.0) h.0, related_placed R before s x ys e.1 h.1)
 
 -- after a route in place of that of its driver and address, each key still occurs once
 keyed_routed : (c : Configuration) (driver addr id : ℕ) → IsKeyed c → IsKeyed (routed c driver addr id)
@@ -80,18 +78,15 @@ keyed_routed c driver addr id h = record {
 keyed_bound : (c : Configuration) (driver addr minor : ℕ)
     → list_any (λ b. eqb b.driver driver && (eqb b.addr addr || eqb b.minor minor)) c.binds ≡ false → IsKeyed c
     → IsKeyed (bound c driver addr minor)
-keyed_bound c driver addr minor free h = record {
-  binds = related_placed (λ b e. (eqb b.driver e.driver && eqb b.addr e.addr) ≡ false) bind_before
-      (λ b e. not_same_pair_turned e.driver e.addr b.driver b.addr)
-      (record { driver = driver; addr = addr; minor = minor }) c.binds
-      (none_passes (λ b. eqb b.driver driver && (eqb b.addr addr || eqb b.minor minor)) _ c.binds
-      (λ b f. not_same_pair_turned driver addr b.driver b.addr (bind_other driver addr b.driver b.addr b.minor minor f))
-      free)
-      h.binds;
-  ids = h.ids;
-  lowers = h.lowers;
-  routes = h.routes;
-}
+keyed_bound c driver addr minor free h =
+    grind (
+      arith,
+      related_placed,
+      not_same_pair_turned,
+      none_passes,
+      not_same_pair_turned driver addr,
+      bind_other driver addr,
+    )
 
 -- ---- the rows of the command table
 
@@ -105,22 +100,23 @@ turns_done drivers c new t h k r = at_ok _ (after_sweep drivers new) _
 -- a message that arrives under the next serial turns only its own place, and only if it was empty
 arrived_turns : (drivers : List DriverSpec) (c : Configuration) (p : Place) (m : Message) (n : ℕ) → IsSound drivers c
     → TurnsOnly drivers c (record (after_arrival drivers c p m) { next_serial = n }) (is_first_at c p)
-arrived_turns drivers c p m n h = turns_then drivers c (after_arrival drivers c p m)
-    (record (after_arrival drivers c p m) { next_serial = n }) (is_first_at c p)
-    (turns_arrived drivers c p m h.ordered.flow)
-    (turns_unchanged drivers (after_arrival drivers c p m)
-    (record (after_arrival drivers c p m) { next_serial = n }) refl refl refl refl refl)
+arrived_turns drivers c p m n h =
+    grind (
+      arith,
+      turns_arrived drivers c p m h.ordered.flow,
+      turns_unchanged drivers (after_arrival drivers c p m) (record (after_arrival drivers c p m) { next_serial = n }) refl refl refl refl refl,
+    )
 
 -- a message that is sent turns only the place to which it is sent, and only if it was empty
 turns_sent : (drivers : List DriverSpec) (c : Configuration) (p : Place) (addr : ℕ) (bytes : List ℕ) → IsSound drivers c
     → IfAccepted (λ d r. TurnsOnly drivers c d (is_first_at c p)) (send_outcome drivers c p addr bytes)
-turns_sent drivers c p addr bytes h = search (
-  after_test,
-  at_ok,
-  arrived_turns drivers c p (record { serial = c.next_serial; addr = addr; bytes = bytes })
-      (c.next_serial + 1) h,
-  rules,
-) depth 12
+turns_sent drivers c p addr bytes h =
+    grind (
+      arith,
+      after_test,
+      at_ok,
+      arrived_turns drivers c p (record { serial = c.next_serial; addr = addr; bytes = bytes }) (c.next_serial + 1) h,
+    )
 
 -- a message that is delivered turns only its own place
 turns_received : (drivers : List DriverSpec) (c : Configuration) (p : Place)
@@ -206,21 +202,21 @@ at_stream P (Err e) t f h = record { holds = tt }
 turns_link : (drivers : List DriverSpec) (c : Configuration) (process fd arg : ℕ) (k : LinkKind) → IsSound drivers c
     → IfAccepted (λ d r. TurnsOnly drivers c d (of_stream (stream_of c process arg) (λ s. same_place (read_side s))))
     (link_outcome drivers c process fd arg k)
-turns_link drivers c process fd arg k h = search (
-  after_ok,
-  at_stream (TurnsOnly drivers c) (stream_of c process arg) (λ s. same_place (read_side s)),
-  after_test,
-  at_ok,
-  turns_new_link,
-  rules,
-) depth 24
+turns_link drivers c process fd arg k h =
+    grind (
+      arith,
+      after_ok,
+      at_stream (TurnsOnly drivers c) (stream_of c process arg),
+      after_test,
+      at_ok,
+      turns_new_link,
+    )
 
 -- an accepted command, from a sound configuration, turns only places of `turned_by`
 pub turns : (drivers : List DriverSpec) (c : Configuration) (process : ℕ) (k : Command) → IsSound drivers c
     → IfAccepted (λ d r. TurnsOnly drivers c d (turned_by drivers c process k)) (outcome drivers c process k)
 turns drivers c process (command.OpenClone name) h = search (after_ok, at_ok, turns_with_fd, rules) depth 20
-turns drivers c process (command.OpenMinor name minor) h =
-    search (after_test, after_ok, at_ok, turns_with_fd, rules) depth 20
+turns drivers c process (command.OpenMinor name minor) h = grind (arith, after_test, after_ok, at_ok, turns_with_fd)
 turns drivers c process (command.Dup fd) h = search (after_ok, at_ok, turns_with_fd, rules) depth 20
 turns drivers c process (command.Close fd) h =
     let k = keyed drivers c h in let x = rooted drivers c h in
@@ -233,54 +229,49 @@ turns drivers c process (command.Unlink fd w) h = let k = keyed drivers c h in l
     search (after_ok, unlinked, turns_still, turns_removed, keyed_removed, rooted_filter, rules) depth 20
 turns drivers c process (command.Punlink fd w) h = let k = keyed drivers c h in let x = rooted drivers c h in
     search (after_ok, unlinked, turns_still, turns_removed, keyed_removed, rooted_filter, rules) depth 20
-turns drivers c process (command.Bind fd addr) h = let k = keyed drivers c h in let x = rooted drivers c h in
+turns drivers c process (command.Bind fd addr) h =
     search (
-      at_stream (TurnsOnly drivers c) (mux_stream drivers c process fd) (λ s. asks_up c s.driver addr),
+      rules,
+      keyed drivers c h,
+      rooted drivers c h,
+      at_stream (TurnsOnly drivers c) (mux_stream drivers c process fd),
       after_test,
       turns_bind,
-      rules,
-    ) depth 20
+    )
 turns drivers c process (command.Unbind fd) h = let k = keyed drivers c h in let x = rooted drivers c h in
     search (after_test, after_ok, turns_still, turns_unbound, later_filter, rules) depth 20
-turns drivers c process (command.Route fd addr id) h = let k = keyed drivers c h in let x = rooted drivers c h in
+turns drivers c process (command.Route fd addr id) h =
     search (
-      at_stream (TurnsOnly drivers c) (mux_stream drivers c process fd) (λ s. asks_down c s.driver addr),
+      rules,
+      keyed drivers c h,
+      rooted drivers c h,
+      at_stream (TurnsOnly drivers c) (mux_stream drivers c process fd),
       after_test,
       turns_route,
-      rules,
-    ) depth 20
+    )
 turns drivers c process (command.Unroute fd addr) h = let k = keyed drivers c h in let x = rooted drivers c h in
     search (after_test, after_ok, turns_still, turns_unrouted, later_filter, rules) depth 20
-turns drivers c process (command.Write fd addr bytes) h = search (
-  at_stream (TurnsOnly drivers c) (live_stream c process fd) (λ s. is_first_at c (write_side s)),
-  turns_sent,
-  rules,
-) depth 20
-turns drivers c process (command.Read fd) h = search (
-  at_stream (TurnsOnly drivers c) (free_stream c process fd) (λ s. same_place (read_side s)),
-  after_choice,
-  at_ok,
-  turns_none,
-  turns_received,
-  rules,
-) depth 20
+turns drivers c process (command.Write fd addr bytes) h =
+    grind (arith, at_stream (TurnsOnly drivers c) (live_stream c process fd), turns_sent)
+turns drivers c process (command.Read fd) h =
+    grind (
+      arith,
+      at_stream (TurnsOnly drivers c) (free_stream c process fd),
+      after_choice,
+      at_ok,
+      turns_none,
+      turns_received,
+    )
 turns drivers c process (command.Flush fd w) h = let k = keyed drivers c h in let x = rooted drivers c h in
     search (after_ok, turns_still, turns_emptied, rules) depth 20
-turns drivers c process (command.Inject name minor addr bytes) h = search (
-  at_stream (TurnsOnly drivers c) (live_leaf drivers c name minor) (λ s. is_first_at c (read_side s)),
-  turns_sent,
-  rules,
-) depth 20
-turns drivers c process (command.Transmit name minor) h = search (
-  at_stream (TurnsOnly drivers c) (live_leaf drivers c name minor) (λ s. same_place (write_side s)),
-  turns_received,
-  rules,
-) depth 20
+turns drivers c process (command.Inject name minor addr bytes) h =
+    search (rules, at_stream (TurnsOnly drivers c) (live_leaf drivers c name minor), turns_sent)
+turns drivers c process (command.Transmit name minor) h =
+    grind (arith, at_stream (TurnsOnly drivers c) (live_leaf drivers c name minor), turns_received)
 turns drivers c process (command.Hangup name minor) h = let k = keyed drivers c h in let x = rooted drivers c h in
     search (after_ok, turns_still, more_hung_turn_none, rules) depth 20
 
 -- an accepted outcome turns only places of `turned_by`
 pub outcomes_turn : (drivers : List DriverSpec) (c : Configuration) (process : ℕ) (k : Command) → IsSound drivers c
     → IfOk (outcome drivers c process k) (λ x. TurnsOnly drivers c x.0 (turned_by drivers c process k))
-outcomes_turn drivers c process k h = if_ok (λ d. TurnsOnly drivers c d (turned_by drivers c process k)) _
-    (outcome drivers c process k) (λ d m. m) (turns drivers c process k h)
+outcomes_turn drivers c process k h = grind (arith, if_ok, turns drivers c process k h)

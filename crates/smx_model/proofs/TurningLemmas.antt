@@ -1,13 +1,12 @@
 -- The places that changes turn.
 use Rattle.smx_model.proofs.Common.{◌≡◌, ℕ, Bool, true, false, ◌&&◌, not, eqb, List, [], ◌∷◌, ◌++◌, filter, find}
-use Rattle.smx_model.proofs.Common.{Option, Some, None, refl, sym, ap, ◌∙◌, subst, inl, list_any, both_ways, and_parts}
-use Rattle.smx_model.proofs.Common.{and_from, or_parts, false_from_ne_true, eqb-true, eq-eqb, DriverSpec, Binding, Link}
-use Rattle.smx_model.proofs.Common.{Route, Message, Place, Side, StreamId, Configuration, QueuedMessage, is_at}
-use Rattle.smx_model.proofs.Common.{same_place, same_side, same_stream, bind_before, route_before, IsInOrder}
-use Rattle.smx_model.proofs.Common.{with_inserted, first_message, after_arrival, after_leaving, after_move}
-use Rattle.smx_model.proofs.Common.{next_open_place, next_place, live_write_side, AreRoutesSound, next_of, asks_down}
-use Rattle.smx_model.proofs.Common.{asks_up, is_first_at, nowhere, Stays, TurnsOnly, or_from, AllByRecursion}
-use Rattle.smx_model.proofs.Common.{recursion_from_All}
+use Rattle.smx_model.proofs.Common.{Option, Some, None, refl, sym, ap, inl, list_any, both_ways, and_parts, and_from}
+use Rattle.smx_model.proofs.Common.{or_parts, false_from_ne_true, eqb-true, eq-eqb, DriverSpec, Binding, Link, Route}
+use Rattle.smx_model.proofs.Common.{Message, Place, Side, StreamId, Configuration, is_at, same_place, same_side}
+use Rattle.smx_model.proofs.Common.{same_stream, bind_before, route_before, IsInOrder, with_inserted, first_message}
+use Rattle.smx_model.proofs.Common.{after_arrival, after_leaving, after_move, next_open_place, next_place}
+use Rattle.smx_model.proofs.Common.{live_write_side, AreRoutesSound, next_of, asks_down, asks_up, is_first_at, nowhere}
+use Rattle.smx_model.proofs.Common.{Stays, TurnsOnly, or_from, AllByRecursion, recursion_from_All, arith}
 use Rattle.smx_types.specs.declared.stream.Side.TheVariants as side
 use Rattle.smx_model.specs.Settling.{◌>>=◌}
 use Rattle.smx_model.proofs.EachLemmas.{each_find, later_without_first}
@@ -41,8 +40,7 @@ pub stays_by : (drivers : List DriverSpec) (c d : Configuration) (p : Place) (ad
     → Stays (next_by drivers c p.stream addr p.side) (next_by drivers d p.stream addr p.side)
     → Stays (next_place drivers c p addr) (next_place drivers d p addr)
 stays_by drivers c d p addr h =
-    subst (λ o. Stays o (next_place drivers d p addr)) (sym (next_is drivers c p addr))
-    (subst (λ n. Stays (next_by drivers c p.stream addr p.side) n) (sym (next_is drivers d p addr)) h)
+    grind (arith, next_is drivers c p addr, next_by drivers c p.stream addr p.side, next_is drivers d p addr)
 
 -- ---- equal streams
 
@@ -52,10 +50,7 @@ stream_of_parts driver minor = record { driver = driver; minor = minor }
 
 -- streams that pass the test for equality are equal
 pub same_stream_is : (s t : StreamId) → same_stream s t ≡ true → s ≡ t
-same_stream_is s t e =
-    let p = and_parts (eqb s.driver t.driver) (eqb s.minor t.minor) e in
-    ap (λ (n : ℕ). stream_of_parts n s.minor) (eqb-true s.driver t.driver p.0)
-    ∙ ap (stream_of_parts t.driver) (eqb-true s.minor t.minor p.1)
+same_stream_is s t e = grind arith
 
 -- ---- one change after another
 
@@ -74,8 +69,7 @@ turns_then drivers c d e t h k r n = turns_both drivers c d e t nowhere h k r (o
 -- if links, routes, bindings, hung-up streams and the flow are unchanged, no place is turned
 pub turns_unchanged : (drivers : List DriverSpec) (c d : Configuration) → d.links ≡ c.links → d.routes ≡ c.routes
     → d.binds ≡ c.binds → d.hungs ≡ c.hungs → d.flow ≡ c.flow → TurnsOnly drivers c d nowhere
-turns_unchanged drivers c d l r b u f p n =
-    inl (next_of_same drivers c d p l r b u (ap (λ (hs : List QueuedMessage). first_message hs p) f))
+turns_unchanged drivers c d l r b u f p n = grind (arith, next_of_same drivers c d p l r b u)
 
 -- ---- a message arrives, the first one leaves
 
@@ -105,14 +99,7 @@ routed c driver addr id =
 find_routed : (c : Configuration) (driver addr id d a : ℕ) → (eqb d driver && eqb a addr) ≡ false
     → find (λ r. eqb r.driver d && eqb r.addr a) (routed c driver addr id).routes
     ≡ find (λ r. eqb r.driver d && eqb r.addr a) c.routes
-find_routed c driver addr id d a h = find_placed (λ r. eqb r.driver d && eqb r.addr a) route_before
-    (filter (λ r. not (eqb r.driver driver && eqb r.addr addr)) c.routes)
-    (record { driver = driver; addr = addr; id = id }) (not_same_pair_turned driver addr d a h)
-    ∙ find_filter (λ r. eqb r.driver d && eqb r.addr a) (λ r. not (eqb r.driver driver && eqb r.addr addr)) c.routes
-    (λ r t. ap not (apart r t)) where
-      apart : (r : Route) → (eqb r.driver d && eqb r.addr a) ≡ true → (eqb r.driver driver && eqb r.addr addr) ≡ false
-      apart r t =
-          let p = and_parts (eqb r.driver d) (eqb r.addr a) t in rw (eqb-true r.driver d p.0, eqb-true r.addr a p.1) h
+find_routed c driver addr id d a h = grind (arith, find_placed, not_same_pair_turned driver addr d a h, find_filter)
 
 -- a route turns only the driver's write sides whose first message has its address
 pub turns_routed : (drivers : List DriverSpec) (c : Configuration) (driver addr id : ℕ)
