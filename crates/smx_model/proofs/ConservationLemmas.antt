@@ -1,7 +1,7 @@
 -- Each accepted message is delivered, dropped or queued.
 use Rattle.smx_model.proofs.Common.{◌≡◌, ℕ, zero, suc, ◌+◌, ◌<◌, ◌≤◌, Bool, cond, eqb, List, [], ◌∷◌, ◌++◌, length}
-use Rattle.smx_model.proofs.Common.{filter, Some, Ok, Err, refl, rules, ap, ◌∙◌, arith, inl, inr, range_with_len}
-use Rattle.smx_model.proofs.Common.{cases_eq, ne_eqb, eq-eqb, Command, Entry, Reply, DriverSpec, Message, Place}
+use Rattle.smx_model.proofs.Common.{filter, Some, Ok, Err, refl, rules, ap, ◌∙◌, arith, range_with_len}
+use Rattle.smx_model.proofs.Common.{Command, Entry, Reply, DriverSpec, Message, Place}
 use Rattle.smx_model.proofs.Common.{outcome, step, after_outcome, done_outcome, Configuration, QueuedMessage, empty}
 use Rattle.smx_model.proofs.Common.{is_at, queued_before, after_from, after, IsLegalFrom, IsLegal, delivered_by}
 use Rattle.smx_model.proofs.Common.{dropped_by, taken_serials, with_inserted, without_first, Outcome, first_message}
@@ -108,15 +108,7 @@ goes_accepted drivers c process k h =
 -- a move leaves the same serials in the flow, each as often
 pub moved_same : (n : ℕ) (drivers : List DriverSpec) (c : Configuration) (p : Place)
     → times n (serials (after_move drivers c p).flow) ≡ times n (serials c.flow)
-moved_same n drivers c p =
-    grind (
-      arith,
-      moved_by,
-      times n,
-      times n (serials c.flow),
-      serials_front n c.flow p,
-      serials_placed n (after_leaving drivers c p).flow,
-    )
+moved_same n drivers c p = grind (arith, moved_by, times, serials_front, serials_placed)
 
 -- a move doesn't change the next serial
 pub moved_next : (drivers : List DriverSpec) (c : Configuration) (p : Place)
@@ -141,18 +133,13 @@ settled_keeps drivers n c = settled_by (KeepsSerials c) drivers n c (record {
 -- a command loses and duplicates no message, if its accepted outcome loses and duplicates none
 goes_finished : (drivers : List DriverSpec) (c : Configuration) (o : Outcome) → IfAccepted (Goes c) o
     → Goes c (after_outcome drivers c o).0 (after_outcome drivers c o).1
-goes_finished drivers c (Ok x) k = let s = settled_keeps drivers _ x.0 in record {
-  balance = λ n. rw (s.same n) (k.holds.balance n);
-  numbered = k.holds.numbered;
-  next = s.next ∙ k.holds.next;
-}
+goes_finished drivers c (Ok x) k = grind (arith, settled_keeps)
 goes_finished drivers c (Err f) k = record { balance = λ n. omega arith; numbered = refl; next = omega arith }
 
 -- a step loses and duplicates no message, if queued messages have different serials
 pub goes_step : (drivers : List DriverSpec) (c : Configuration) (process : ℕ) (k : Command) → IsNumbered c
     → Goes c (step drivers c process k).0 (step drivers c process k).1
-goes_step drivers c process k h =
-    goes_finished drivers c (outcome drivers c process k) (goes_accepted drivers c process k h)
+goes_step drivers c process k h = grind (arith, goes_finished, goes_accepted)
 
 -- a number below a is not among the numbers from a on
 times_range_below : (n a k : ℕ) → n < a → times n (range_with_len a k) ≡ 0
@@ -167,10 +154,7 @@ times_range_above n a (suc k) le = grind (arith, times_range_above n (a + 1) k (
 -- no number occurs twice among the k numbers from a on
 times_range_once : (n a k : ℕ) → times n (range_with_len a k) ≤ 1
 times_range_once n a zero = omega arith
-times_range_once n a (suc k) = elim (cases_eq a n) [
-  | inl e ↦ rw (eq-eqb a n e) (omega (arith, times_range_below n (a + 1) k (omega arith)))
-  | inr ne ↦ rw (ne_eqb a n ne) (omega (arith, times_range_once n (a + 1) k))
-]
+times_range_once n a (suc k) = grind (arith, times_range_below, times_range_once n (a + 1) k)
 
 -- the queued messages have lower serials, each once
 pub numbered_goes : (c d : Configuration) (r : Reply) → IsNumbered c → Goes c d r → IsNumbered d
@@ -197,15 +181,7 @@ ends : (drivers : List DriverSpec) (c : Configuration) (es : List Entry) → IsN
     → Ends drivers c es
 ends drivers c [] h legal = record { balance = λ n. omega arith; numbered = refl }
 ends drivers c (e ∷ es) h legal =
-    grind (
-      arith,
-      Goes c (step drivers c e.process e.command).0 e.reply,
-      Goes c (step drivers c e.process e.command).0,
-      goes_step drivers c e.process e.command h,
-      ends drivers (step drivers c e.process e.command).0 es,
-      numbered_goes c (step drivers c e.process e.command).0 e.reply h,
-      times_append,
-    )
+    grind (arith, goes_step, ends drivers (step drivers c e.process e.command).0 es, numbered_goes, times_append)
 
 -- no message is queued in the empty configuration, so queued messages have different serials
 pub numbered_empty : IsNumbered empty
@@ -219,13 +195,4 @@ numbered_from_one drivers history legal = (ends drivers empty history numbered_e
 -- a legal history loses and duplicates no message
 pub conserving : (drivers : List DriverSpec) (history : List Entry) → IsLegal drivers history
     → AreMessagesConserved history (after drivers history)
-conserving drivers history legal = let e = ends drivers empty history numbered_empty legal in
-    permuted (taken_serials history)
-    (delivered_serials history ++ (dropped_serials history ++ serials (after drivers history).flow))
-    (λ n. omega (
-      arith,
-      e.balance n,
-      times_append n (delivered_serials history)
-          (dropped_serials history ++ serials (after drivers history).flow),
-      times_append n (dropped_serials history) (serials (after drivers history).flow),
-    ))
+conserving drivers history legal = grind (arith, ends, numbered_empty, permuted, times_append)

@@ -1,7 +1,7 @@
 -- The number of occurrences of a number in a list.
 use Rattle.smx_model.proofs.Common.{◌≡◌, ℕ, ◌+◌, ◌≤◌, Bool, true, false, not, cond, eqb, List, [], ◌∷◌, ◌++◌, filter}
 use Rattle.smx_model.proofs.Common.{refl, sym, subst, arith, inl, inr, list_any, IsPermutation, cases_Bool, eq-eqb}
-use Rattle.smx_model.proofs.Common.{false≢true, with_inserted, in_rising_order, without_first}
+use Rattle.smx_model.proofs.Common.{false≢true, with_inserted, in_rising_order, without_first, nat_tests}
 use Rattle.std.proofs.Common.{ltb}
 use Rattle.std.proofs.lemmas.List.Sorted.{IsPermutation-refl, IsPermutation-cons, IsPermutation-trans}
 use Rattle.std.proofs.lemmas.List.Sorted.{IsPermutation-sym, IsPermutation-to_front, IsPermutation-append_left}
@@ -45,8 +45,7 @@ times_some n (x ∷ xs) h = grind (arith, times_some n xs)
 -- together have it as often as the old list
 pub times_gone : (n : ℕ) (old new : List ℕ) → times n new ≤ times n old → times n old ≤ 1
     → times n (in_rising_order (filter (λ m. not (list_any (λ k. eqb m k) new)) old)) + times n new ≡ times n old
-times_gone n old new fewer once =
-    grind (arith, times_rising n, times_filter n, times n, times_some n new, times n old, times_none n new)
+times_gone n old new fewer once = grind (arith, times_rising, times_filter, times, times_some, times_none)
 
 -- the list without the first occurrence of this number
 abbrev without_one : ℕ → List ℕ → List ℕ
@@ -63,6 +62,7 @@ one_in_front n [] h = absurd (omega arith)
 one_in_front n (x ∷ xs) h =
     grind (
       arith,
+      nat_tests,
       IsPermutation-refl (n ∷ xs),
       IsPermutation-trans (n ∷ x ∷ without_one n xs) (x ∷ n ∷ without_one n xs) (x ∷ xs) (swap_two n x (without_one n xs)),
       swap_two n x (without_one n xs),
@@ -86,6 +86,7 @@ permuted [] ys h = subst (λ (zs : List ℕ). IsPermutation [] zs) (sym (none_co
 permuted (x ∷ xs) ys h =
     grind (
       arith,
+      nat_tests,
       h x,
       times x ys,
       IsPermutation-trans (x ∷ xs) (x ∷ without_one x ys) ys,

@@ -1,8 +1,8 @@
 -- Messages keep their serial, address and bytes from acceptance to delivery.
-use Rattle.smx_model.proofs.Common.{◌≡◌, ◌⊎◌, ℕ, Bool, List, [], ◌∷◌, ◌++◌, Some, Ok, Err, refl, rules, ap, ◌∙◌}
+use Rattle.smx_model.proofs.Common.{◌≡◌, ◌⊎◌, ℕ, Bool, List, [], ◌∷◌, ◌++◌, Some, Ok, Err, refl, rules}
 use Rattle.smx_model.proofs.Common.{subst, inl, inr, All, Command, Entry, DriverSpec, Message, Reply, Place}
 use Rattle.smx_model.proofs.Common.{outcome, step, after_outcome, done_outcome, Configuration, QueuedMessage, empty}
-use Rattle.smx_model.proofs.Common.{is_at, queued_before, after, after_from, IsLegal, IsLegalFrom, without_first}
+use Rattle.smx_model.proofs.Common.{queued_before, after, after_from, IsLegal, IsLegalFrom, without_first}
 use Rattle.smx_model.proofs.Common.{Outcome, first_message, after_leaving, delivered_by, IsTakenIn, Sends}
 use Rattle.smx_model.proofs.Common.{after_settling, AllByRecursion, All-from_recursion, arith}
 use Rattle.smx_types.specs.declared.command.Command.TheVariants as command
@@ -50,10 +50,7 @@ carries_still P k d r h none = grind (arith, each_was_there P k r d.flow h)
 -- if all messages before a sweep were queued before, so were those after it, and none is delivered
 carries_done : (P : Message → Type 0) (k : Command) (drivers : List DriverSpec) (c d : Configuration) → OfEach P d.flow
     → IfAccepted (Carries P k) (done_outcome drivers c d)
-carries_done P k drivers c d h =
-    record {
-      holds = record { flow = each_was_there P k _ _ (each_filter _ _ _ (each_filter _ _ d.flow h)); got = λ m e. cc };
-    }
+carries_done P k drivers c d h = grind (arith, each_was_there, each_filter)
 
 -- a message accepted under the next serial has the address and the bytes that were sent, and all others
 -- were queued before
@@ -71,16 +68,7 @@ carries_took P k drivers c p addr bytes sends h = record {
 carries_got : (P : Message → Type 0) (k : Command) (drivers : List DriverSpec) (c : Configuration) (p : Place)
     (m : Message) → first_message c.flow p ≡ Some m → OfEach P c.flow
     → Carries P k (after_leaving drivers c p) (reply.Got m.serial m.addr m.bytes)
-carries_got P k drivers c p m e h = record {
-  flow = each_was_there P k _ _ (rest_has P (is_at p) c.flow h);
-  got = λ n f. subst P (same m.serial m.addr n.serial n.addr m.bytes n.bytes f) (first_has P c.flow p m e h);
-} where
-  message : ℕ → ℕ → List ℕ → Message
-  message a b bs = record { serial = a; addr = b; bytes = bs }
-
-  same : (a b x y : ℕ) (bs zs : List ℕ) → reply.Got a b bs ≡ reply.Got x y zs → message a b bs ≡ message x y zs
-  same a b x y bs zs e = let f : a ≡ x = cc in let g : b ≡ y = cc in let i : bs ≡ zs = cc in
-      ap (λ (n : ℕ). message n b bs) f ∙ (ap (λ (n : ℕ). message x n bs) g ∙ ap (message x y) i)
+carries_got P k drivers c p m e h = grind (arith, each_was_there, rest_has, first_has)
 
 -- an accepted command leaves messages that were queued before or that it accepted, and delivers one that
 -- was queued before
@@ -108,11 +96,7 @@ carries_accepted P drivers c process k h = search (
 
 -- a property of all messages of a flow holds of all after a move
 moved_has : (P : Message → Type 0) (drivers : List DriverSpec) → MovesKeep (λ d. OfEach P d.flow) drivers
-moved_has P drivers = record {
-  each = λ c p h. moved_by (λ d. OfEach P d.flow) drivers c p h
-      (λ q m e. each_placed _ queued_before _ (record { place = q; message = m }) (first_has P c.flow p m e h)
-      (rest_has P (is_at p) c.flow h));
-}
+moved_has P drivers = grind (arith, moved_by, each_placed, first_has, rest_has)
 
 -- a step
 

@@ -1,10 +1,9 @@
 -- The commands that drop messages.
-use Rattle.smx_model.proofs.Common.{◌≡◌, ℕ, Bool, true, false, not, eqb, List, [], ◌∷◌, filter, Ok, refl}
-use Rattle.smx_model.proofs.Common.{sym, ap, ◌∙◌, list_any, list_all, and_parts, and_from}
-use Rattle.smx_model.proofs.Common.{or_left, eq-eqb, AllByRecursion, All-from_recursion, Command}
-use Rattle.smx_model.proofs.Common.{Entry, DriverSpec, NotMux, StreamId, outcome, step, done_outcome}
-use Rattle.smx_model.proofs.Common.{Configuration, QueuedMessage, empty, stream_before, is_mux, IsLegal, IsLegalFrom}
-use Rattle.smx_model.proofs.Common.{IsKept, dropped_by, AreDropsAllowed, free_stream, mux_stream, in_rising_order}
+use Rattle.smx_model.proofs.Common.{◌≡◌, ℕ, Bool, true, false, not, eqb, List, [], ◌∷◌, filter, Ok, refl, sym, ap, ◌∙◌}
+use Rattle.smx_model.proofs.Common.{list_any, list_all, and_parts, and_from, or_left, eq-eqb, AllByRecursion}
+use Rattle.smx_model.proofs.Common.{All-from_recursion, Command, Entry, DriverSpec, StreamId, outcome, step}
+use Rattle.smx_model.proofs.Common.{done_outcome, Configuration, QueuedMessage, empty, stream_before, IsLegal}
+use Rattle.smx_model.proofs.Common.{IsLegalFrom, IsKept, dropped_by, AreDropsAllowed, mux_stream, in_rising_order}
 use Rattle.smx_model.proofs.Common.{Outcome, serials_that_left, serials, exists, IsSwept, is_hung, with_hung, arith}
 use Rattle.smx_types.specs.declared.reply.Reply.TheVariants.{Done}
 use Rattle.smx_model.specs.LawfulHistories.{may_drop}
@@ -54,8 +53,7 @@ idle_drops drivers c d clean same = rw (done_idle drivers c d clean same) (at_ok
 -- a multiplexer's stream that a descriptor names, and that is not linked below, exists
 pub mux_exists : (drivers : List DriverSpec) (c : Configuration) (process fd : ℕ) (s : StreamId)
     → mux_stream drivers c process fd ≡ Ok s → exists drivers c s ≡ true
-mux_exists drivers c process fd s e = free_exists drivers c process fd s
-    (tested NotMux (free_stream c process fd) (λ t. not (is_mux drivers t.driver)) s e).0
+mux_exists drivers c process fd s e = grind (arith, free_exists, tested)
 
 -- a swept configuration stays swept when a stream that exists hangs up
 pub hung_swept : (drivers : List DriverSpec) (c : Configuration) (s : StreamId) → IsSwept drivers c

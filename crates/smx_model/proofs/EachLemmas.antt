@@ -80,8 +80,7 @@ later_filter R keep (x ∷ xs) h = grind (arith, each_filter (R x) keep xs h.0, 
 pub later_without_first : {X : Type 0} (R : X → X → Type 0) (test : X → Bool) (xs : List X) → AllLater R xs
     → AllLater R (without_first test xs)
 later_without_first R test [] h = tt
-later_without_first R test (x ∷ xs) h =
-    grind (arith, each_without_first (R x) test xs h.0, later_without_first R test xs h.1)
+later_without_first R test (x ∷ xs) h = grind (arith, each_without_first, later_without_first R test xs h.1)
 
 -- if R implies S, and each element is related by R to all later ones, it is related to them by S
 pub later_map : {X : Type 0} (R S : X → X → Type 0) (xs : List X) → ((x y : X) → R x y → S x y) → AllLater R xs
@@ -103,12 +102,7 @@ pub later_placed : {X : Type 0} (R : X → X → Type 0) (before : X → X → B
     → AllByRecursion (λ y. before x y ≡ false → R y x) xs → AllLater R xs → AllLater R (with_inserted before xs x)
 later_placed R before x first later [] other h = (tt, tt)
 later_placed R before x first later (y ∷ ys) other h =
-    grind (
-      arith,
-      each_map (R y) (R x) ys,
-      each_placed (R y) before ys x,
-      later_placed R before x first later ys other.1 h.1,
-    )
+    grind (arith, each_map, each_placed, later_placed R before x first later ys other.1 h.1)
 
 -- a relation of each element to all later ones, by index, also holds by recursion
 pub later_pairs : {X : Type 0} (R : X → X → Type 0) (xs : List X) → AllPairs R xs → AllLater R xs

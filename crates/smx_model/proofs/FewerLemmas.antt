@@ -91,8 +91,7 @@ pub record IsKeyed (c : Configuration) : Type 0 where
 pub routes_find : (keep : Route → Bool) (c : Configuration) (driver addr : ℕ) → IsKeyed c
     → Finds (find (λ r. eqb r.driver driver && eqb r.addr addr) c.routes)
     (find (λ r. eqb r.driver driver && eqb r.addr addr) (filter keep c.routes))
-routes_find keep c driver addr h =
-    finds_kept _ _ keep c.routes (λ x y t r. no_other_pair x.driver x.addr y.driver y.addr driver addr t r) h.routes
+routes_find keep c driver addr h = grind (arith, finds_kept, no_other_pair)
 
 -- among filtered links the one with an id is found as before, or none
 ids_find : (keep : Link → Bool) (c : Configuration) (id : ℕ) → IsKeyed c
@@ -102,15 +101,13 @@ ids_find keep c id h = finds_kept _ _ keep c.links (λ x y t r. no_other_number 
 -- among filtered links the one above a stream is found as before, or none
 lowers_find : (keep : Link → Bool) (c : Configuration) (s : StreamId) → IsKeyed c
     → Finds (find (λ l. same_stream l.lower s) c.links) (find (λ l. same_stream l.lower s) (filter keep c.links))
-lowers_find keep c s h = finds_kept _ _ keep c.links
-    (λ x y t r. no_other_pair x.lower.driver x.lower.minor y.lower.driver y.lower.minor s.driver s.minor t r) h.lowers
+lowers_find keep c s h = search (rules, finds_kept, no_other_pair)
 
 -- among filtered bindings the one for a driver and an address is found as before, or none
 pub binds_find : (keep : Binding → Bool) (c : Configuration) (driver addr : ℕ) → IsKeyed c
     → Finds (find (λ b. eqb b.driver driver && eqb b.addr addr) c.binds)
     (find (λ b. eqb b.driver driver && eqb b.addr addr) (filter keep c.binds))
-binds_find keep c driver addr h =
-    finds_kept _ _ keep c.binds (λ x y t r. no_other_pair x.driver x.addr y.driver y.addr driver addr t r) h.binds
+binds_find keep c driver addr h = grind (arith, finds_kept, no_other_pair)
 
 -- after places are emptied each place has its first message as before, or none
 pub first_emptied : (flow : List QueuedMessage) (goes : Place → Bool) (r : Place)
@@ -120,8 +117,7 @@ first_emptied flow goes r = grind (arith, emptied_queue flow goes r, front_is, f
 -- emptying places turns no place
 pub turns_emptied : (drivers : List DriverSpec) (c : Configuration) (goes : Place → Bool)
     → TurnsOnly drivers c (without_queues_at c goes) nowhere
-turns_emptied drivers c goes = fewer_turns drivers c (without_queues_at c goes) (search (same_finds, rules))
-    (first_emptied c.flow goes)
+turns_emptied drivers c goes = grind (arith, fewer_turns, same_finds, first_emptied)
 
 -- removing links, with their routes and their lower streams' read sides, turns no place
 pub turns_removed : (drivers : List DriverSpec) (c : Configuration) (goes : Link → Bool) → IsKeyed c
@@ -148,12 +144,7 @@ turns_dead drivers c h lowers = fewer_turns drivers c (without_dead_streams driv
 
 -- after links are removed, each key still occurs once
 pub keyed_removed : (c : Configuration) (goes : Link → Bool) → IsKeyed c → IsKeyed (without_links c goes)
-keyed_removed c goes h = record {
-  routes = later_filter _ _ c.routes h.routes;
-  ids = later_filter _ _ c.links h.ids;
-  lowers = later_filter _ _ c.links h.lowers;
-  binds = h.binds;
-}
+keyed_removed c goes h = grind (arith, later_filter)
 
 -- the links are sound, and their upper drivers are in range
 pub record AreRooted (drivers : List DriverSpec) (links : List Link) : Type 0 where

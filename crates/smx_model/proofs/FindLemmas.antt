@@ -24,8 +24,7 @@ none_finds t (x ∷ xs) h = rw h.0 (none_finds t xs h.1)
 pub finds_kept : {X : Type 0} (R : X → X → Type 0) (t keep : X → Bool) (xs : List X)
     → ((x y : X) → t x ≡ true → R x y → t y ≡ false) → AllLater R xs → Finds (find t xs) (find t (filter keep xs))
 finds_kept R t keep [] f h = inl refl
-finds_kept R t keep (x ∷ xs) f h =
-    grind (arith, none_finds t (filter keep xs), each_filter, each_map (R x), finds_kept R t keep xs f h.1)
+finds_kept R t keep (x ∷ xs) f h = grind (arith, none_finds, each_filter, each_map, finds_kept R t keep xs f h.1)
 
 -- if each of two searches in turn finds as before or nothing, both together do
 pub finds_then : {X : Type 0} (a b c : Option X) → Finds a b → Finds b c → Finds a c

@@ -1,10 +1,9 @@
 -- The places that commands free.
-use Rattle.smx_model.proofs.Common.{◌≡◌, ℕ, Bool, true, false, ◌+◌, ◌&&◌, not, cond, List, [], filter, None, refl}
-use Rattle.smx_model.proofs.Common.{rules, sym, ap, ◌∙◌, inl, inr, ◌⊎◌, slice_get, IfOk, list_any}
-use Rattle.smx_model.proofs.Common.{false≢true, Command, DriverSpec, Link, LinkKind, Message}
-use Rattle.smx_model.proofs.Common.{Descriptor, Place, StreamId, outcome, done_outcome, link_outcome, send_outcome}
-use Rattle.smx_model.proofs.Common.{receive_outcome, with_fd, Configuration, QueuedMessage, same_place}
-use Rattle.smx_model.proofs.Common.{FreesOnly, IsSound, free_stream, live_stream, live_leaf, after_arrival}
+use Rattle.smx_model.proofs.Common.{◌≡◌, ℕ, Bool, true, false, ◌&&◌, not, cond, List, [], filter, None, refl, rules}
+use Rattle.smx_model.proofs.Common.{sym, ap, ◌∙◌, inl, inr, ◌⊎◌, slice_get, IfOk, list_any, false≢true, Command}
+use Rattle.smx_model.proofs.Common.{DriverSpec, Link, LinkKind, Message, Descriptor, Place, StreamId, outcome}
+use Rattle.smx_model.proofs.Common.{done_outcome, link_outcome, send_outcome, receive_outcome, with_fd, Configuration}
+use Rattle.smx_model.proofs.Common.{QueuedMessage, same_place, FreesOnly, IsSound, live_stream, after_arrival}
 use Rattle.smx_model.proofs.Common.{after_leaving, first_message, is_full, queue, after_sweep, is_read_below}
 use Rattle.smx_model.proofs.Common.{without_links, without_queues_at, nowhere, exists, is_persistent, IsSwept, arith}
 use Rattle.smx_types.specs.declared.command.Command.TheVariants as command
@@ -38,14 +37,12 @@ frees_by c d t f p h = grind (arith, f p)
 -- an arrival frees no place
 frees_at_arrival : (drivers : List DriverSpec) (c : Configuration) (p : Place) (m : Message) (n : ℕ)
     → FreesOnly c (record (after_arrival drivers c p m) { next_serial = n }) nowhere
-frees_at_arrival drivers c p m n = frees_by c (record (after_arrival drivers c p m) { next_serial = n }) nowhere
-    (λ q _ h. arrived_more drivers c p q m h)
+frees_at_arrival drivers c p m n = search (rules, frees_by, arrived_more)
 
 -- when a message leaves, only its place may stop being full
 frees_at_leaving : (drivers : List DriverSpec) (c : Configuration) (p : Place)
     → FreesOnly c (after_leaving drivers c p) (same_place p)
-frees_at_leaving drivers c p =
-    frees_by c (after_leaving drivers c p) (same_place p) (λ q n h. left_keeps drivers c p q n ∙ h)
+frees_at_leaving drivers c p = search (rules, frees_by, left_keeps)
 
 -- when some places are emptied, only these may stop being full
 frees_emptied : (c : Configuration) (goes : Place → Bool) → FreesOnly c (without_queues_at c goes) goes
@@ -120,10 +117,7 @@ frees_flush drivers c goes h = frees_done drivers c (without_queues_at c goes) g
 -- when descriptors are closed, only places that are empty after the sweep stop being full
 frees_closed : (drivers : List DriverSpec) (c : Configuration) (fds : List Descriptor)
     → IfAccepted (λ d r. FreesOnly c d (is_empty_at d)) (done_outcome drivers c (record c { fds = fds }))
-frees_closed drivers c fds = record {
-  holds = frees_empty c (after_sweep drivers (record c { fds = fds }))
-      (swept_keeps drivers (record c { fds = fds }));
-}
+frees_closed drivers c fds = search (rules, frees_empty, swept_keeps)
 
 -- when links are removed, only places that are empty after the sweep stop being full
 frees_removed : (drivers : List DriverSpec) (c : Configuration) (goes : Link → Bool)
@@ -148,13 +142,7 @@ frees_linked drivers c process fd arg k = search (after_ok, after_test, at_ok, f
 -- sending a message frees no place
 frees_sent : (drivers : List DriverSpec) (c : Configuration) (p : Place) (addr : ℕ) (bytes : List ℕ)
     → IfAccepted (λ d r. FreesOnly c d nowhere) (send_outcome drivers c p addr bytes)
-frees_sent drivers c p addr bytes =
-    grind (
-      arith,
-      after_test,
-      at_ok,
-      frees_at_arrival drivers c p (record { serial = c.next_serial; addr = addr; bytes = bytes }) (c.next_serial + 1),
-    )
+frees_sent drivers c p addr bytes = search (rules, after_test, at_ok, frees_at_arrival)
 
 -- delivering a message frees at most its own place
 frees_received : (drivers : List DriverSpec) (c : Configuration) (p : Place)
@@ -165,8 +153,7 @@ frees_received drivers c p = search (after_some, at_ok, frees_at_leaving, rules)
 frees : (drivers : List DriverSpec) (c : Configuration) (process : ℕ) (k : Command) → IsSwept drivers c
     → IfAccepted (λ d r. FreesOnly c d (freed_by drivers c process k d)) (outcome drivers c process k)
 frees drivers c process (command.OpenClone name) h = search (after_ok, at_ok, frees_with_fd drivers, rules) depth 20
-frees drivers c process (command.OpenMinor name minor) h =
-    search (after_test, after_ok, at_ok, frees_with_fd drivers, rules) depth 20
+frees drivers c process (command.OpenMinor name minor) h = grind (arith, after_test, after_ok, at_ok, frees_with_fd)
 frees drivers c process (command.Dup fd) h = search (after_ok, at_ok, frees_with_fd drivers, rules) depth 20
 frees drivers c process (command.Close fd) h = search (after_ok, frees_closed, rules) depth 20
 frees drivers c process command.CloseAll h = frees_closed drivers c _
@@ -180,13 +167,11 @@ frees drivers c process (command.Unbind fd) h = grind (arith, after_test, after_
 frees drivers c process (command.Route fd addr id) h = search (after_test, after_ok, frees_still, rules) depth 20
 frees drivers c process (command.Unroute fd addr) h = search (after_test, after_ok, frees_still, rules) depth 20
 frees drivers c process (command.Write fd addr bytes) h = search (after_ok, frees_sent, rules) depth 20
-frees drivers c process (command.Read fd) h =
-    grind (arith, at_stream (FreesOnly c) (free_stream c process fd), after_choice, at_ok, same_frees, frees_received)
+frees drivers c process (command.Read fd) h = grind (arith, at_stream, after_choice, at_ok, same_frees, frees_received)
 frees drivers c process (command.Flush fd w) h =
     search (at_stream (FreesOnly c) (live_stream c process fd) (λ s. is_side_of s w), frees_flush, rules) depth 20
 frees drivers c process (command.Inject name minor addr bytes) h = search (after_ok, frees_sent, rules) depth 20
-frees drivers c process (command.Transmit name minor) h =
-    grind (arith, at_stream (FreesOnly c) (live_leaf drivers c name minor), frees_received)
+frees drivers c process (command.Transmit name minor) h = grind (arith, at_stream, frees_received)
 frees drivers c process (command.Hangup name minor) h = grind (arith, after_ok, frees_still, hung_swept, leaf_exists)
 
 -- the same with the outcome's clauses, from a sound configuration

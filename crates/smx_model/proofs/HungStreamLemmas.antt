@@ -59,8 +59,7 @@ hungs_finished drivers c (Ok x) h swept_ m = let s = settled_alone drivers (leng
 pub others_leave_hungs : (drivers : List DriverSpec) (c : Configuration) (process : ℕ) (k : Command) → IsSwept drivers c
     → is_hangup k ≡ false → (step drivers c process k).0.hungs
     ≡ filter (λ s. exists drivers (step drivers c process k).0 s) c.hungs
-others_leave_hungs drivers c process k h other = hungs_finished drivers c (outcome drivers c process k) h
-    (swept_accepted drivers c process k h) (hungs_accepted drivers c process k other)
+others_leave_hungs drivers c process k h other = grind (arith, hungs_finished, swept_accepted, hungs_accepted)
 
 -- a hangup moves nothing
 

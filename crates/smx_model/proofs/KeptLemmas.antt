@@ -5,7 +5,7 @@ use Rattle.smx_model.proofs.Common.{eq-eqb, ltb-true, ne_eqb, recursion_from_All
 use Rattle.smx_model.proofs.Common.{step, after_outcome, Configuration, empty, IsDriverList, after, after_from, IsKept}
 use Rattle.smx_model.proofs.Common.{IsSound, AreStreamsKnown, IsKnown, Outcome, serials, after_move, after_settling}
 use Rattle.smx_model.proofs.Common.{AreIdsRising, AreRoutesSound, AreLinksSound, exists, Stands, IsSwept, view}
-use Rattle.smx_model.proofs.Common.{AreListsOrdered, Place, StreamId}
+use Rattle.smx_model.proofs.Common.{AreListsOrdered, Place, StreamId, rules}
 use Rattle.std.proofs.Common.{◌↔◌}
 use Rattle.smx_model.proofs.SettledLemmas.{settled_by}
 use Rattle.smx_model.proofs.ConservationLemmas.{IsNumbered, goes_accepted, moved_same, moved_next, numbered_empty}
@@ -50,8 +50,7 @@ at_some n (x ∷ xs) h = elim (cases_eq x n) [
 once_apart : (xs : List ℕ) → ((n : ℕ) → times n xs ≤ 1) → AllPairs (λ m n. m ≡ n → ⊥) xs
 once_apart [] h i j d lt within e = absurd (omega arith)
 once_apart (x ∷ xs) h zero zero d lt within e = absurd (omega arith)
-once_apart (x ∷ xs) h zero (suc j) d lt within e =
-    grind (arith, h x, times x xs, times, times_at xs j d (omega (arith, within)))
+once_apart (x ∷ xs) h zero (suc j) d lt within e = grind (arith, h x, times, times_at)
 once_apart (x ∷ xs) h (suc i) zero d lt within e = absurd (omega (arith, lt))
 once_apart (x ∷ xs) h (suc i) (suc j) d lt within e = grind (arith, once_apart xs)
 
@@ -83,10 +82,7 @@ all_below xs next h k d lt = grind (arith, h (get_or xs k d), times_at xs k d lt
 
 -- if the drivers have the streams of all parts, they have those of descriptors and links
 named_of : (drivers : List DriverSpec) (c : Configuration) → AreStreamsKnown drivers c → AreNamed drivers c
-named_of drivers c h = record {
-  fds = recursion_from_All _ c.fds h.fds;
-  links = each_both _ _ c.links (recursion_from_All _ c.links h.controlling) (recursion_from_All _ c.links h.lowers);
-}
+named_of drivers c h = grind (arith, recursion_from_All, each_both)
 
 -- if ids rise and routes are sound, links and routes satisfy `AreRouted`
 routed_of : (drivers : List DriverSpec) (c : Configuration) → AreIdsRising c.links c.next_id → AreRoutesSound drivers c
@@ -123,16 +119,7 @@ parts_of drivers c h = record {
 
 -- a configuration with all parts of `Parts` is sound
 of_parts : (drivers : List DriverSpec) (c : Configuration) → Parts drivers c → IsSound drivers c
-of_parts drivers c h =
-    grind (
-      arith,
-      rising_ids drivers c h.routed,
-      sound_routes drivers c h.routed,
-      known_of_each drivers c (each_known drivers c h.named h.routed h.swept_),
-      each_known drivers c h.named h.routed h.swept_,
-      once_apart (serials c.flow) h.numbered.once,
-      all_below (serials c.flow) c.next_serial h.numbered.below,
-    )
+of_parts drivers c h = search (rules, rising_ids, sound_routes, known_of_each, each_known, once_apart, all_below)
 
 -- each accepted outcome
 
@@ -140,21 +127,12 @@ of_parts drivers c h =
 parts_accepted : (drivers : List DriverSpec) (c : Configuration) (process : ℕ) (k : Command) → Parts drivers c
     → IfAccepted (λ d r. Parts drivers d) (outcome drivers c process k)
 parts_accepted drivers c process k h =
-    grind (
-      arith,
-      sound_accepted drivers c process k h.links,
-      named_accepted drivers c process k h.named,
-      routed_accepted drivers c process k h.routed,
-      rising_accepted drivers c process k h.ordered,
-      goes_accepted drivers c process k h.numbered,
-      swept_accepted drivers c process k h.swept_,
-    )
+    grind (arith, sound_accepted, named_accepted, routed_accepted, rising_accepted, goes_accepted, swept_accepted)
 
 -- the outcome of an accepted command on a sound configuration is sound before settling
 pub outcome_sound : (drivers : List DriverSpec) (c : Configuration) (process : ℕ) (k : Command) → IsSound drivers c
     → IfOk (outcome drivers c process k) (λ x. IsSound drivers x.0)
-outcome_sound drivers c process k h = if_ok (Parts drivers) _ (outcome drivers c process k) (of_parts drivers)
-    (parts_accepted drivers c process k (parts_of drivers c h))
+outcome_sound drivers c process k h = grind (arith, if_ok, of_parts, parts_accepted, parts_of)
 
 -- each move
 
@@ -202,8 +180,7 @@ finished_kept drivers c (Err f) h k = h
 -- a command keeps a sound and settled configuration sound and settled
 pub step_keeps : (drivers : List DriverSpec) (c : Configuration) (process : ℕ) (k : Command) → IsKept drivers c
     → IsKept drivers (step drivers c process k).0
-step_keeps drivers c process k h =
-    finished_kept drivers c (outcome drivers c process k) h (outcome_sound drivers c process k h.sound)
+step_keeps drivers c process k h = grind (arith, finished_kept, outcome_sound)
 
 -- the empty configuration is sound and settled, over any drivers
 pub empty_kept : (drivers : List DriverSpec) → IsKept drivers empty
@@ -236,18 +213,12 @@ always_is_kept drivers history = after_keeps drivers empty history (empty_kept d
 -- without a cycle, and with known controlling streams, a stream exists exactly if it does within some climbs
 pub exists_is_stands : (drivers : List DriverSpec) (c : Configuration) (s : StreamId) → AreLinksSound c.links
     → All (λ l. IsKnown drivers l.ctl) c.links → (exists drivers c s ≡ true) ↔ Stands c s
-exists_is_stands drivers c s sound known = (
-  λ h. record { climbs = length drivers; within = h },
-  λ h. stands_exists drivers c s sound.no_cycle
-      (each_map (λ l. IsKnown drivers l.ctl) (λ l. l.ctl.driver < length drivers) c.links (λ l p. p.0)
-      (recursion_from_All _ c.links known)) h,
-)
+exists_is_stands drivers c s sound known = grind (arith, stands_exists, each_map, recursion_from_All)
 
 -- after any history a stream exists exactly if it does within some number of climbs
 pub always_exists_is_stands : (drivers : List DriverSpec) (history : List Entry) (s : StreamId)
     → (exists drivers (after drivers history) s ≡ true) ↔ Stands (after drivers history) s
-always_exists_is_stands drivers history s = let k = (always_is_kept drivers history).sound in
-    exists_is_stands drivers (after drivers history) s k.links k.known.controlling
+always_exists_is_stands drivers history s = grind (arith, always_is_kept, exists_is_stands)
 
 -- the drivers of a sound configuration have the stream of each part, and the driver of each route
 known_parts : (drivers : List DriverSpec) (c : Configuration) → IsSound drivers c → EachKnown drivers c
@@ -256,5 +227,4 @@ known_parts drivers c h = let p = parts_of drivers c h in each_known drivers c p
 -- two sound configurations over valid drivers are equal if their views are
 pub view_is_of_one : (drivers : List DriverSpec) (c d : Configuration) → IsDriverList drivers → IsSound drivers c
     → IsSound drivers d → view drivers c ≡ view drivers d → c ≡ d
-view_is_of_one drivers c d h k l e =
-    one_configuration drivers c d h (known_parts drivers c k) (known_parts drivers d l) e
+view_is_of_one drivers c d h k l e = grind (arith, one_configuration, known_parts)

@@ -1,13 +1,9 @@
 -- The least marked place and the least movable one, and settling move by move.
 use Rattle.smx_model.proofs.Common.{◌≡◌, ℕ, zero, suc, Bool, true, false, List, [], ◌∷◌, find, Option, Some, None, refl}
-use Rattle.smx_model.proofs.Common.{ap, inl, inr, both_ways, cases_Bool, DriverSpec, Place, Configuration}
-use Rattle.smx_model.proofs.Common.{QueuedMessage, place_before, same_place, IsInOrder, IsLeastMovable, IsSettled}
-use Rattle.smx_model.proofs.Common.{after_move, after_settling_within, is_movable, least_movable, arith}
+use Rattle.smx_model.proofs.Common.{DriverSpec, Place, Configuration, QueuedMessage, IsInOrder, IsSettled, after_move}
+use Rattle.smx_model.proofs.Common.{after_settling_within, is_movable, least_movable, arith, nat_tests}
 use Rattle.smx_model.specs.RunMarks.{AreMarked, IsLeastMarked}
-use Rattle.smx_model.proofs.OrderLemmas.{place_either}
 use Rattle.smx_model.proofs.QueueLemmas.{least_is}
-use Rattle.smx_model.proofs.SettlingLemmas.{same_place_is}
-use Rattle.smx_model.proofs.WaitingLemmas.{waiting_stays}
 
 -- ---- the least marked place
 
@@ -15,17 +11,7 @@ use Rattle.smx_model.proofs.WaitingLemmas.{waiting_stays}
 pub marked_is_least : (drivers : List DriverSpec) (c : Configuration) (run wanted : Place → Bool) (p : Place)
     → IsInOrder c.flow → AreMarked drivers c run wanted → IsLeastMarked run p → is_movable drivers c p ≡ true
     → least_movable drivers c ≡ Some p
-marked_is_least drivers c run wanted p o h l m = by (least_movable drivers c) (least_is drivers c o) where
-  by : (w : Option Place) → IsLeastMovable drivers c w → w ≡ Some p
-  by None s = absurd (both_ways (is_movable drivers c p) (s p) m)
-  by (Some q) s = elim (cases_Bool (same_place q p)) [
-    | inl t ↦ ap Some (same_place_is q p t)
-    | inr f ↦ elim (cases_Bool (place_before q p)) [
-      | inl b ↦
-          absurd (both_ways (is_movable drivers c q) (waiting_stays drivers c wanted q (h q (l.none_before q b))) s.0)
-      | inr b ↦ absurd (both_ways (is_movable drivers c p) (s.1 p (place_either q p f b)) m)
-    ]
-  ]
+marked_is_least drivers c run wanted p o h l m = grind (arith, nat_tests, least_is drivers c o)
 
 -- a search by place finds no message if no place passes the test
 none_found : (t : Place → Bool) (flow : List QueuedMessage) → ((p : Place) → t p ≡ false)

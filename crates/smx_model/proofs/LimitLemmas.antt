@@ -1,9 +1,8 @@
 -- Limits: of links, of descriptors of each process, and of numbers.
-use Rattle.smx_model.proofs.Common.{◌≡◌, ℕ, ◌+◌, ◌<◌, ◌≤◌, Bool, true, false, ◌||◌, leb, eqb, arith, List, [], ◌∷◌}
-use Rattle.smx_model.proofs.Common.{◌++◌, length, filter, Ok, rules, subst, inl, inr, cases_Bool, eqb-true}
-use Rattle.smx_model.proofs.Common.{or_parts, nat_tests, AllByRecursion, Command, Entry, DriverSpec, MAX_DESCRIPTORS}
-use Rattle.smx_model.proofs.Common.{MAX_LINKS, NUMBER_END, Link, TooManyDescriptors, Descriptor, outcome, Configuration}
-use Rattle.smx_model.proofs.Common.{empty, fd_before, pair_before, after, free_fd, ComesBefore, IsRising}
+use Rattle.smx_model.proofs.Common.{◌≡◌, ℕ, ◌+◌, ◌<◌, ◌≤◌, Bool, false, ◌||◌, leb, eqb, arith, List, [], ◌∷◌, ◌++◌}
+use Rattle.smx_model.proofs.Common.{length, filter, Ok, rules, or_parts, AllByRecursion, Command, Entry, DriverSpec}
+use Rattle.smx_model.proofs.Common.{MAX_DESCRIPTORS, MAX_LINKS, NUMBER_END, Link, TooManyDescriptors, Descriptor}
+use Rattle.smx_model.proofs.Common.{outcome, Configuration, empty, fd_before, after, free_fd, ComesBefore, IsRising}
 use Rattle.std.specs.List.{count_by}
 use Rattle.std.proofs.lemmas.Bool.{leb-false}
 use Rattle.std.proofs.lemmas.List.{length_push}
@@ -64,9 +63,7 @@ always_within drivers history = after_by IsWithin drivers empty history (within_
 -- a process' descriptors after one of its own have higher numbers
 later_numbers : (d : Descriptor) (ds : List Descriptor) → ComesBefore fd_before d ds
     → AllByRecursion (λ e. e.process ≡ d.process → d.fd < e.fd) ds
-later_numbers d ds h = each_map _ _ ds (λ e before same. after d.process d.fd e.process e.fd same before) h where
-  after : (a b x y : ℕ) → x ≡ a → pair_before a b x y ≡ true → b < y
-  after a b x y same h = grind (arith, nat_tests)
+later_numbers d ds h = grind (arith, each_map)
 
 -- a process has at most as many descriptors from a number on as there are numbers from there to the limit
 few_from : (ds : List Descriptor) (process a : ℕ) → IsRising fd_before ds
@@ -74,19 +71,8 @@ few_from : (ds : List Descriptor) (process a : ℕ) → IsRising fd_before ds
     → a ≤ MAX_DESCRIPTORS
     → a + length (filter (λ d. eqb d.process process) ds) ≤ MAX_DESCRIPTORS
 few_from [] process a r h k le = omega (arith, le)
-few_from (d ∷ ds) process a r h k le = elim (cases_Bool (eqb d.process process)) [
-  | inl t ↦ let is = eqb-true d.process process t in rw t
-      (omega (
-        arith,
-        h.0 is,
-        k.0,
-        few_from ds process (d.fd + 1) r.1
-            (subst (λ (p : ℕ). AllByRecursion (λ e. e.process ≡ p → d.fd + 1 ≤ e.fd) ds) is
-            (each_map _ _ ds (λ e above same. omega (arith, above same)) (later_numbers d ds r.0)))
-            k.1 (omega (arith, k.0)),
-      ))
-  | inr f ↦ rw f (few_from ds process a r.1 h.1 k.1 le)
-]
+few_from (d ∷ ds) process a r h k le =
+    grind (arith, few_from ds process (d.fd + 1) r.1, each_map, later_numbers, few_from ds process a r.1 h.1 k.1 le)
 
 -- after any history each process has at most the maximum number of descriptors
 pub always_few : (drivers : List DriverSpec) (history : List Entry) (process : ℕ)

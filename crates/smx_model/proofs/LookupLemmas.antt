@@ -1,6 +1,6 @@
 -- The result of a look-up that is not refused.
-use Rattle.smx_model.proofs.Common.{◌≡◌, ℕ, Bool, true, false, List, Option, Some, None, Result, Ok, Err, refl, sym, ap}
-use Rattle.smx_model.proofs.Common.{◌∙◌, find, DriverSpec, Fault, Place, StreamId, Descriptor}
+use Rattle.smx_model.proofs.Common.{◌≡◌, ℕ, Bool, true, false, List, Option, Some, None, Result, Ok, Err, refl, ap}
+use Rattle.smx_model.proofs.Common.{find, DriverSpec, Fault, Place, StreamId, Descriptor}
 use Rattle.smx_model.proofs.Common.{Configuration, is_fd, is_hung, free_stream, leaf_stream, live_leaf, live_stream}
 use Rattle.smx_model.proofs.Common.{stream_of, refuse, live_write_side, arith}
 use Rattle.std.specs.Option.{ok_or}
@@ -28,15 +28,7 @@ passed f false g x e = (refl, e)
 -- a look-up followed by a test gives the value of the look-up, which passed the test
 pub tested : (f : Fault) (r : Result StreamId Fault) (t : StreamId → Bool) (x : StreamId)
     → (r >>= (λ y. refuse f (t y) >>= (λ _. Ok y))) ≡ Ok x → (r ≡ Ok x) × (t x ≡ false)
-tested f r t x e =
-    let y = looked_up r _ x e in
-    let p = passed f (t y.0) _ x y.2 in
-    let same : y.0 ≡ x = by y.0 p.1 in (y.1 ∙ p.1, ap t (sym same) ∙ p.0) where
-      named : StreamId → Result StreamId Fault
-      named z = Ok z
-
-      by : (y : StreamId) → named y ≡ named x → y ≡ x
-      by y e = cc
+tested f r t x e = grind (arith, looked_up, passed)
 
 -- the stream of a descriptor is that of the first with its process and its number
 pub descriptor_of : (c : Configuration) (process fd : ℕ) (s : StreamId) → stream_of c process fd ≡ Ok s

@@ -1,7 +1,7 @@
 -- The queues of a flow in order determine it.
 use Rattle.smx_model.proofs.Common.{◌≡◌, true, false, List, [], ◌∷◌, ◌++◌, refl, arith, AllByRecursion, nat_tests}
-use Rattle.smx_model.proofs.Common.{Place, DriverSpec, Configuration, QueuedMessage, is_at, queued_before, place_before}
-use Rattle.smx_model.proofs.Common.{same_place, IsInOrder, with_inserted, queue, after_move}
+use Rattle.smx_model.proofs.Common.{Place, DriverSpec, Configuration, QueuedMessage, queued_before, place_before}
+use Rattle.smx_model.proofs.Common.{same_place, IsInOrder, with_inserted, queue, after_move, rules}
 use Rattle.smx_model.proofs.EachLemmas.{each_of_every, later_placed, later_without_first}
 use Rattle.smx_model.proofs.SettledLemmas.{moved_by}
 use Rattle.smx_model.proofs.SettlingLemmas.{same_place_is}
@@ -24,8 +24,7 @@ place_not_after p q h = grind (arith, nat_tests)
 
 -- the order of places is transitive
 pub place_before_trans : (p q r : Place) → place_before p q ≡ true → place_before q r ≡ true → place_before p r ≡ true
-place_before_trans p q r h k =
-    grind (arith, place_not_after p q h, same_place_is p r, place_not_before r p q, place_either p r)
+place_before_trans p q r h k = search (rules, place_not_after, same_place_is, place_not_before, place_either)
 
 -- a place is the same as itself
 pub same_self : (p : Place) → same_place p p ≡ true
@@ -54,8 +53,7 @@ none_queued h (j ∷ hs) k lt n = rw (place_differs h.place k.place j.place lt n
 pub queue_placed : (hs : List QueuedMessage) (h : QueuedMessage) → IsInOrder hs
     → queue (with_inserted queued_before hs h) h.place ≡ queue hs h.place ++ h.message ∷ []
 queue_placed [] h o = rw (same_self h.place) refl
-queue_placed (k ∷ hs) h o =
-    grind (arith, none_queued h (k ∷ hs) k, same_not_before k.place, same_self h.place, queue_placed hs h o.1)
+queue_placed (k ∷ hs) h o = search (rules, none_queued, same_not_before, same_self, queue_placed hs h o.1)
 
 -- a message that is inserted by its place leaves each other queue unchanged
 pub queue_elsewhere : (hs : List QueuedMessage) (h : QueuedMessage) (q : Place) → same_place h.place q ≡ false
@@ -66,5 +64,4 @@ queue_elsewhere (k ∷ hs) h q apart_ = grind (arith, queue_elsewhere hs h q apa
 -- a move keeps the flow in order of places
 pub order_moved : (drivers : List DriverSpec) (c : Configuration) (p : Place) → IsInOrder c.flow
     → IsInOrder (after_move drivers c p).flow
-order_moved drivers c p h = moved_by (λ d. IsInOrder d.flow) drivers c p h
-    (λ q m e. order_placed _ (record { place = q; message = m }) (later_without_first _ (is_at p) c.flow h))
+order_moved drivers c p h = grind (arith, moved_by, order_placed, later_without_first)

@@ -2,7 +2,7 @@
 use Rattle.smx_model.proofs.Common.{◌≡◌, ℕ, zero, suc, ◌<◌, Bool, true, false, ◌&&◌, ◌||◌, eqb, List, [], ◌∷◌, ◌++◌}
 use Rattle.smx_model.proofs.Common.{length, get_or, refl, sym, subst, arith, inl, inr, length-append, find, Some}
 use Rattle.smx_model.proofs.Common.{false≢true, both_ways, or_cases, and_parts}
-use Rattle.smx_model.proofs.Common.{or_left, or_right, eqb-true, Link, HasNoCycle, reaches}
+use Rattle.smx_model.proofs.Common.{or_left, or_right, eqb-true, Link, HasNoCycle, reaches, nat_tests}
 use Rattle.std.specs.List.{Contains}
 use Rattle.std.proofs.lemmas.List.Elements.{Contains-append_cases, Contains-append_left, Contains-append_right}
 use Rattle.smx_model.specs.Paths.{IsPath, Path}
@@ -56,6 +56,7 @@ reaches_path [] a b h = absurd (false≢true h)
 reaches_path (l ∷ ls) a b h =
     grind (
       arith,
+      nat_tests,
       path_more ls (l ∷ ls),
       is_later,
       reaches_path ls a b,
@@ -82,14 +83,7 @@ comes_reaches links a b c trans h k = grind (arith, trans a b c)
 pub reaches_trans : (links : List Link) (a b c : ℕ) → reaches links a b ≡ true → reaches links b c ≡ true
     → reaches links a c ≡ true
 reaches_trans [] a b c h k = h
-reaches_trans (l ∷ ls) a b c h k =
-    grind (
-      arith,
-      reaches_trans ls a b c,
-      reaches_comes ls a b l.ctl.driver (reaches_trans ls),
-      reaches_trans ls,
-      comes_reaches ls l.lower.driver b c (reaches_trans ls),
-    )
+reaches_trans (l ∷ ls) a b c h k = grind (arith, reaches_trans ls a b c, reaches_comes, reaches_trans ls, comes_reaches)
 
 -- the upper driver of a link reaches its lower driver
 pub reaches_at : (links : List Link) (k : ℕ) (l : Link) → k < length links → get_or links k l ≡ l
@@ -102,9 +96,8 @@ reaches_at (m ∷ ls) (suc k) l lt e = or_left _ _ (reaches_at ls k l (omega ari
 walk_reaches : (links : List Link) (a : ℕ) (l : Link) (p : List Link) (b : ℕ) → IsPath links a (l ∷ p) b
     → reaches links a b ≡ true
 walk_reaches links a l [] b h = grind (arith, reaches_at links h.0.0 l h.0.1 h.0.2)
-walk_reaches links a l (m ∷ p) b h = subst (λ (x : ℕ). reaches links x b ≡ true) h.1
-    (reaches_trans links l.ctl.driver l.lower.driver b (reaches_at links h.0.0 l h.0.1 h.0.2)
-    (walk_reaches links l.lower.driver m p b h.2))
+walk_reaches links a l (m ∷ p) b h =
+    grind (arith, reaches_trans, reaches_at, walk_reaches links l.lower.driver m p b h.2)
 
 -- if a nonempty list of links leads from one driver to another, the test says that it reaches the other
 nonempty_reaches : (links : List Link) (a : ℕ) (p : List Link) (b : ℕ) → 0 < length p → IsPath links a p b
@@ -151,14 +144,14 @@ reaches_link (m ∷ ls) test l e = grind (arith, reaches_at (m ∷ ls) 0 l (omeg
 
 -- an element of links with one more at the head is one of them with that one at the end
 head_to_end : (ls : List Link) (l k : Link) → Contains (l ∷ ls) k → Contains (ls ++ l ∷ []) k
-head_to_end ls l k h = elim (Contains-append_cases (l ∷ []) ls k h)
-    [ inl c ↦ Contains-append_right ls (l ∷ []) k c | inr c ↦ Contains-append_left ls (l ∷ []) k c ]
+head_to_end ls l k h = grind (arith, Contains-append_cases, Contains-append_right, Contains-append_left)
 
 -- paths are the same with one more link at the end or at the head
 pub reaches_push : (links : List Link) (l : Link) (a b : ℕ) → reaches (links ++ l ∷ []) a b ≡ reaches (l ∷ links) a b
 reaches_push links l a b =
     grind (
       arith,
+      nat_tests,
       path_reaches (links ++ l ∷ []) a b,
       path_more (l ∷ links) (links ++ l ∷ []) (head_to_end links l) a b,
       head_to_end links l,

@@ -5,7 +5,7 @@ use Rattle.smx_model.proofs.Common.{list_any, both_ways, cases_Bool, eq-eqb, eqb
 use Rattle.smx_model.proofs.Common.{DriverSpec, Message, Place, Configuration, QueuedMessage, queued_before, is_at}
 use Rattle.smx_model.proofs.Common.{place_before, same_place, IsInOrder, IsLeastMovable, with_inserted, in_rising_order}
 use Rattle.smx_model.proofs.Common.{without_first, first_message, with_mark, queue, serials_that_left, serials}
-use Rattle.smx_model.proofs.Common.{is_movable, least_movable, AllByRecursion, AllLater, arith, rules}
+use Rattle.smx_model.proofs.Common.{is_movable, least_movable, AllByRecursion, AllLater, arith, rules, nat_tests}
 use Rattle.std.proofs.Common.{drop}
 use Rattle.smx_model.proofs.OrderLemmas.{queue_elsewhere, queue_placed, same_self, same_not_before}
 use Rattle.smx_model.proofs.SettlingLemmas.{no_front, none_least, same_place_is, some_least}
@@ -33,6 +33,7 @@ pub arrived_queue : (flow : List QueuedMessage) (p q : Place) (m : Message) → 
 arrived_queue flow p q m o =
     grind (
       arith,
+      nat_tests,
       same_place_is p q,
       queue_placed flow (record { place = p; message = m }) o,
       queue_elsewhere flow (record { place = p; message = m }) q,
@@ -44,21 +45,7 @@ arrived_queue flow p q m o =
 pub left_queue : (flow : List QueuedMessage) (p q : Place)
     → queue (without_first (is_at p) flow) q ≡ cond (same_place p q) (drop 1 (queue flow q)) (queue flow q)
 left_queue [] p q = elim (cases_Bool (same_place p q)) [ inl t ↦ rw t refl | inr f ↦ rw f refl ]
-left_queue (k ∷ ks) p q = elim (cases_Bool (same_place k.place p)) [
-  | inl at_p ↦ let e = same_places k.place p q at_p in elim (cases_Bool (same_place p q)) [
-    | inl t ↦ rw (at_p, e, t) refl
-    | inr f ↦ rw (at_p, e, f) refl
-  ]
-  | inr not_p ↦ elim (cases_Bool (same_place p q)) [
-    | inl t ↦ let f : same_place k.place q ≡ false = subst (λ (x : Place). same_place k.place x ≡ false)
-        (same_place_is p q t) not_p in
-        let i = left_queue ks p q in let j : queue (without_first (is_at p) ks) q ≡ drop 1 (queue ks q) = rw t at i in
-        rw (not_p, t, f) j
-    | inr f ↦ let i = left_queue ks p q in let j : queue (without_first (is_at p) ks) q ≡ queue ks q = rw f at i in
-        elim (cases_Bool (same_place k.place q))
-        [ inl u ↦ rw (not_p, f, u) (ap (λ (ms : List Message). k.message ∷ ms) j) | inr u ↦ rw (not_p, f, u) j ]
-  ]
-]
+left_queue (k ∷ ks) p q = grind (arith, nat_tests, same_places k.place p q, same_place_is p q, left_queue ks p q)
 
 -- the first message at a place is the first one of its queue
 pub front_is : (flow : List QueuedMessage) (p : Place) → first_message flow p ≡ slice_get (queue flow p) 0

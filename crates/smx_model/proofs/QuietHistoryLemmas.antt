@@ -6,7 +6,7 @@ use Rattle.smx_model.proofs.Common.{ProgramLists, is_hangup, Command, Entry, Whi
 use Rattle.smx_model.proofs.Common.{Place, StreamId, Transcript, outcome, step, done_outcome, link_outcome}
 use Rattle.smx_model.proofs.Common.{receive_outcome, unlink_outcome, Configuration, empty, is_hung, IsReportOf, after}
 use Rattle.smx_model.proofs.Common.{after_from, HoldsPrograms, IsLegal, IsLegalFrom, IsKept, free_stream, live_leaf}
-use Rattle.smx_model.proofs.Common.{live_stream, mux_stream, Outcome, refuse, without_links, arith}
+use Rattle.smx_model.proofs.Common.{live_stream, mux_stream, Outcome, refuse, without_links, arith, nat_tests}
 use Rattle.std.specs.Prelude.{slice_index_or}
 use Rattle.std.specs.Option.{ok_or}
 use Rattle.smx_types.specs.Versions.{is_of_hangup, least_of_programs}
@@ -157,6 +157,7 @@ quiet_from drivers c [] h none legal other = refl
 quiet_from drivers c (e ∷ es) h none legal other =
     grind (
       arith,
+      nat_tests,
       quiet_step drivers c e.process e.command none,
       quiet_from drivers (step drivers c e.process e.command).0 es (step_keeps drivers c e.process e.command h),
       step_keeps drivers c e.process e.command h,
@@ -225,11 +226,4 @@ needs_none false e = refl
 -- version 1 can express a report for programs that it can express
 pub report_is_quiet : (programs : ProgramLists) (report : Transcript) → IsReportOf programs report
     → least_of_programs programs.drivers programs.programs ≡ V1 → least_of_transcript report ≡ V1
-report_is_quiet programs report h least =
-    grind (
-      arith,
-      needs_none _ least,
-      none_held report.entries programs.programs h.holds,
-      quiet_replies programs.drivers report.entries h.legal,
-      quiet_streams programs.drivers report.entries,
-    )
+report_is_quiet programs report h least = grind (arith, needs_none, none_held, quiet_replies, quiet_streams)

@@ -1,14 +1,13 @@
 -- The drivers have the streams of descriptors and links.
-use Rattle.smx_model.proofs.Common.{◌≡◌, ℕ, zero, suc, ◌+◌, ◌<◌, Bool, false, not, leb, arith, List, [], ◌∷◌, length}
-use Rattle.smx_model.proofs.Common.{find, Some, Ok, rules, range_with_len, AllByRecursion, Command, NoDriver, NoMinor}
+use Rattle.smx_model.proofs.Common.{◌≡◌, ℕ, zero, suc, ◌+◌, ◌<◌, Bool, false, leb, arith, List, [], ◌∷◌, length}
+use Rattle.smx_model.proofs.Common.{find, Some, Ok, range_with_len, AllByRecursion, Command, NoDriver}
 use Rattle.smx_model.proofs.Common.{DriverSpec, Link, Place, StreamId, outcome, Configuration, minors_of, IsKnown}
-use Rattle.smx_model.proofs.Common.{driver_of, stream_of, free_minor, after_move, exists}
+use Rattle.smx_model.proofs.Common.{driver_of, stream_of, free_minor, after_move, nat_tests}
 use Rattle.std.specs.Prelude.{position}
 use Rattle.std.specs.Str.{bytes_eq}
 use Rattle.std.proofs.lemmas.Bool.{leb-false}
 use Rattle.std.proofs.lemmas.List.Quantifiers.{position-Some}
 use Rattle.smx_model.proofs.SettledLemmas.{moved_by}
-use Rattle.smx_model.proofs.AcceptedLemmas.{of_rows}
 use Rattle.smx_model.proofs.LookupLemmas.{descriptor_of, there_is}
 use Rattle.smx_model.proofs.OutcomeLemmas.{IfAccepted}
 use Rattle.smx_model.proofs.EachLemmas.{each_filter, each_placed, each_push, each_find, each_map}
@@ -42,12 +41,7 @@ range_below test a (suc n) m e = grind (arith, range_below test (a + 1) n m)
 -- a minor that is found free is one of the driver's
 minor_free : (drivers : List DriverSpec) (c : Configuration) (n m : ℕ) → free_minor drivers c n ≡ Ok m
     → m < minors_of drivers n
-minor_free drivers c n m e =
-    grind (
-      arith,
-      range_below (λ m. not (exists drivers c (record { driver = n; minor = m }))) 0 (minors_of drivers n) m (there_is NoMinor _ m e),
-      there_is NoMinor _ m e,
-    )
+minor_free drivers c n m e = grind (arith, range_below, there_is)
 
 -- a minor below the number of minors of its driver is one of them
 minor_in : (drivers : List DriverSpec) (n m : ℕ) → leb (minors_of drivers n) m ≡ false → m < minors_of drivers n
@@ -66,17 +60,19 @@ stream_known drivers c process fd s h e = grind (arith, descriptor_of c process 
 -- after an accepted command the drivers have the streams of descriptors and links
 pub named_accepted : (drivers : List DriverSpec) (c : Configuration) (process : ℕ) (k : Command) → AreNamed drivers c
     → IfAccepted (λ d r. AreNamed drivers d) (outcome drivers c process k)
-named_accepted drivers c process k h = of_rows _ drivers c process k (search (
-  each_placed,
-  each_push,
-  each_filter,
-  known_made,
-  minor_free,
-  minor_in,
-  driver_below,
-  stream_known,
-  rules,
-) depth 24)
+named_accepted drivers c process k h =
+    grind (
+      arith,
+      nat_tests,
+      each_placed,
+      each_push,
+      each_filter,
+      known_made,
+      minor_free,
+      minor_in,
+      driver_below,
+      stream_known,
+    )
 
 -- after a move the drivers have the streams of descriptors and links
 pub named_moved : (drivers : List DriverSpec) (c : Configuration) (p : Place) → AreNamed drivers c

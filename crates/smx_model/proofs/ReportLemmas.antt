@@ -1,6 +1,6 @@
 -- Reports of the same programs in the same order are equal; the example, and transcripts that are not reports.
-use Rattle.smx_model.proofs.Common.{◌≡◌, zero, suc, List, [], ◌∷◌, map, refl, sym, ap, ◌∙◌, length, arith, nat_tests}
-use Rattle.smx_model.proofs.Common.{All-from_recursion, ProgramLists, Command, Entry, DriverSpec, Transcript}
+use Rattle.smx_model.proofs.Common.{◌≡◌, zero, suc, List, [], ◌∷◌, map, refl, ap, length, arith, nat_tests}
+use Rattle.smx_model.proofs.Common.{All-from_recursion, ProgramLists, Command, Entry, DriverSpec, Transcript, rules}
 use Rattle.smx_model.proofs.Common.{ConfigView, IsDriverList, IsReportOf, after, call_of, HoldsPrograms, IsLegal, view}
 use Rattle.smx_model.specs.Worked.Common.{OpenClone, Dup, CloseAll, Fd, Fault, BadDescriptor, ip}
 use Rattle.smx_model.specs.Worked.Reports.{another_exited, copied, drivers, exited, once_more, one, opened, programs}
@@ -21,12 +21,7 @@ transcript_of n ds ds2 es es2 v v2 e f g = cc
 -- the calls determine the drivers, the history and the view of a report
 pub one_report : (programs : ProgramLists) (r s : Transcript) → IsReportOf programs r → IsReportOf programs s
     → map call_of r.entries ≡ map call_of s.entries → r ≡ record s { version = r.version }
-one_report programs r s h k e =
-    grind (
-      arith,
-      determined programs.drivers r.entries s.entries h.legal k.legal e,
-      transcript_of r.version r.drivers s.drivers r.entries s.entries r.view s.view (h.drivers ∙ sym k.drivers),
-    )
+one_report programs r s h k e = grind (arith, determined, transcript_of)
 
 -- the first parts of a report suffice for all
 pub report_of : (programs : ProgramLists) (r : Transcript) → r.drivers ≡ programs.drivers
@@ -56,8 +51,7 @@ example_drivers = grind (arith, All-from_recursion)
 
 -- the example, an open of process 0, the exit of process 1 and a dup of process 0, is a report
 pub is_report : IsReportOf programs (report_with (opened ∷ exited ∷ copied ∷ []) two)
-is_report = report_of programs (report_with (opened ∷ exited ∷ copied ∷ []) two) refl example_drivers
-    (refl, (refl, (refl, tt))) example_holds refl
+is_report = search (rules, report_of, example_drivers, example_holds)
 
 -- transcripts that are not reports
 

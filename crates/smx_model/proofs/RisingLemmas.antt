@@ -6,7 +6,7 @@ use Rattle.smx_model.proofs.Common.{Configuration, empty, is_fd, fd_before, bind
 use Rattle.smx_model.proofs.Common.{pair_before, same_place, same_stream, stream_before, is_hung, with_hung, free_fd}
 use Rattle.smx_model.proofs.Common.{with_inserted, IsRising, with_mark, after_move, AreListsOrdered}
 use Rattle.std.proofs.lemmas.Bool.{not-true}
-use Rattle.smx_model.proofs.SettledLemmas.{ChangesQueuesAlone, moved_alone, moved_by}
+use Rattle.smx_model.proofs.SettledLemmas.{moved_by}
 use Rattle.smx_model.proofs.OrderLemmas.{order_moved, order_placed, place_before_trans, place_either}
 use Rattle.smx_model.proofs.AcceptedLemmas.{of_rows}
 use Rattle.smx_model.proofs.LookupLemmas.{there_is}
@@ -66,20 +66,14 @@ free_number_is_new c process fd e = grind (arith, find_passes, there_is TooManyD
 -- rising descriptors still rise with one more under a free number
 fds_rise : (c : Configuration) (process fd : ℕ) (s : StreamId) → AreListsOrdered c → free_fd c process ≡ Ok fd
     → IsRising fd_before (with_fd c process fd s).fds
-fds_rise c process fd s h e = rising_placed fd_before fd_trans (record { process = process; fd = fd; stream = s }) c.fds
-    (none_passes (is_fd process fd) _ c.fds (λ d f k. pair_after process fd d.process d.fd f k)
-    (free_number_is_new c process fd e)) h.fds
+fds_rise c process fd s h e = grind (arith, rising_placed, fd_trans, none_passes, pair_after, free_number_is_new)
 
 -- rising bindings still rise with one more, if neither its address nor its stream is bound
 binds_rise : (c : Configuration) (driver addr minor : ℕ) → AreListsOrdered c
     → list_any (λ b. eqb b.driver driver && (eqb b.addr addr || eqb b.minor minor)) c.binds ≡ false
     → IsRising bind_before
     (with_inserted bind_before c.binds (record { driver = driver; addr = addr; minor = minor }))
-binds_rise c driver addr minor h e =
-    rising_placed bind_before bind_trans (record { driver = driver; addr = addr; minor = minor }) c.binds
-    (none_passes (λ b. eqb b.driver driver && (eqb b.addr addr || eqb b.minor minor)) _ c.binds
-    (λ b f k. pair_after driver addr b.driver b.addr (bind_other driver addr b.driver b.addr b.minor minor f) k) e)
-    h.binds
+binds_rise c driver addr minor h e = grind (arith, rising_placed, bind_trans, none_passes, pair_after, bind_other)
 
 -- rising routes still rise with one more in place of that of its driver and address
 routes_rise : (c : Configuration) (driver addr id : ℕ) → AreListsOrdered c
@@ -126,17 +120,7 @@ rising_accepted drivers c process k h = of_rows _ drivers c process k (search (
 -- a move keeps all lists in order
 pub rising_moved : (drivers : List DriverSpec) (c : Configuration) (p : Place) → AreListsOrdered c
     → AreListsOrdered (after_move drivers c p)
-rising_moved drivers c p h = record {
-  fds = rw m.fds h.fds;
-  binds = rw m.binds h.binds;
-  routes = rw m.routes h.routes;
-  fulls = moved_by (λ d. IsRising place_before d.fulls) drivers c p h.fulls
-      (λ q m e. rising_marked q _ _ (rising_marked p _ c.fulls h.fulls));
-  hungs = rw m.hungs h.hungs;
-  flow = order_moved drivers c p h.flow;
-} where
-  m : ChangesQueuesAlone c (after_move drivers c p)
-  m = moved_alone drivers c p
+rising_moved drivers c p h = grind (arith, moved_by, rising_marked, order_moved)
 
 -- the lists of the empty configuration are in order
 pub rising_empty : AreListsOrdered empty

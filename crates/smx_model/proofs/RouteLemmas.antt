@@ -1,6 +1,6 @@
 -- Ids of links rise, and routes name links of their own upper driver.
 use Rattle.smx_model.proofs.Common.{◌≡◌, ℕ, ◌+◌, ◌<◌, ◌≤◌, Bool, true, false, ◌&&◌, not, eqb, List, [], ◌∷◌, ◌++◌}
-use Rattle.smx_model.proofs.Common.{filter, Ok, rules, subst, arith, inl, inr, list_any, lt-ltb, cases_Bool, eqb-true}
+use Rattle.smx_model.proofs.Common.{filter, Ok, rules, subst, arith, inl, inr, list_any, cases_Bool, eqb-true}
 use Rattle.smx_model.proofs.Common.{and_parts, not-false, or_cases, false≢true, AllByRecursion, All-from_recursion}
 use Rattle.smx_model.proofs.Common.{Command, DriverSpec, Link, LinkKind, Route, NotMux, Place, StreamId, outcome}
 use Rattle.smx_model.proofs.Common.{done_outcome, Configuration, empty, route_before, is_mux, free_stream, mux_stream}
@@ -116,14 +116,7 @@ routed_link : (drivers : List DriverSpec) (c : Configuration) (ctl lower : Strea
       links = c.links ++ record { id = c.next_id; ctl = ctl; lower = lower; kind = k } ∷ [];
       next_id = c.next_id + 1;
     })
-routed_link drivers c ctl lower k h = record {
-  rise = later_push _ c.links l (each_map _ _ c.links (λ m p. p.1) h.ids) h.rise;
-  ids = each_push _ c.links l (h.start, omega arith) (each_map _ _ c.links (λ m p. (p.0, omega (arith, p.1))) h.ids);
-  start = omega arith;
-  routes = each_map _ _ c.routes (λ r p. (p.0, leads_push c.links l r.id r.driver p.1)) h.routes;
-} where
-  l : Link
-  l = record { id = c.next_id; ctl = ctl; lower = lower; kind = k }
+routed_link drivers c ctl lower k h = grind (arith, later_push, each_map, each_push, leads_push)
 
 -- after one more route of a multiplexer to one of its links, each route names a link of its own driver
 routed_route : (drivers : List DriverSpec) (c : Configuration) (test : Route → Bool) (driver addr id : ℕ)
@@ -165,16 +158,8 @@ routed_empty drivers = record { rise = tt; ids = tt; start = omega arith; routes
 
 -- ids that rise by recursion satisfy `AreIdsRising`
 pub rising_ids : (drivers : List DriverSpec) (c : Configuration) → AreRouted drivers c → AreIdsRising c.links c.next_id
-rising_ids drivers c h = record {
-  rise = later_map _ _ c.links (λ l k. lt-ltb l.id k.id) h.rise;
-  from_one = All-from_recursion _ c.links (each_map _ _ c.links (λ l p. p.0) h.ids);
-  below_next = All-from_recursion _ c.links (each_map _ _ c.links (λ l p. p.1) h.ids);
-  next = h.start;
-}
+rising_ids drivers c h = grind (arith, later_map, All-from_recursion, each_map)
 
 -- routes with links of their own drivers, by recursion, satisfy `AreRoutesSound`
 pub sound_routes : (drivers : List DriverSpec) (c : Configuration) → AreRouted drivers c → AreRoutesSound drivers c
-sound_routes drivers c h = record {
-  mux = All-from_recursion _ c.routes (each_map _ _ c.routes (λ r p. p.0) h.routes);
-  lead = All-from_recursion _ c.routes (each_map _ _ c.routes (λ r p. p.1) h.routes);
-}
+sound_routes drivers c h = grind (arith, All-from_recursion, each_map)

@@ -1,5 +1,5 @@
 -- Properties that moves and settling preserve, and parts that they don't change.
-use Rattle.smx_model.proofs.Common.{◌≡◌, ℕ, zero, suc, List, [], ◌∷◌, Some, Ok, Err, refl, Command}
+use Rattle.smx_model.proofs.Common.{◌≡◌, ℕ, zero, suc, List, [], ◌∷◌, Some, Ok, Err, Command}
 use Rattle.smx_model.proofs.Common.{Entry, DriverSpec, Message, Place, Configuration, after_arrival, after_leaving}
 use Rattle.smx_model.proofs.Common.{first_message, after_outcome, outcome, step, after_from, Outcome, after_move}
 use Rattle.smx_model.proofs.Common.{after_settling_within, arith}
@@ -45,9 +45,7 @@ pub record ChangesQueuesAlone (c d : Configuration) : Type 0 where
 -- a move changes only the messages and the full marks
 pub moved_alone : (drivers : List DriverSpec) (c : Configuration) (p : Place)
     → ChangesQueuesAlone c (after_move drivers c p)
-moved_alone drivers c p = moved_by (ChangesQueuesAlone c) drivers c p
-    (record { fds = refl; links = refl; binds = refl; routes = refl; hungs = refl })
-    (λ q m e. record { fds = refl; links = refl; binds = refl; routes = refl; hungs = refl })
+moved_alone drivers c p = grind (arith, moved_by, ChangesQueuesAlone)
 
 -- settling changes only the messages and the full marks
 pub settled_alone : (drivers : List DriverSpec) (n : ℕ) (c : Configuration)

@@ -1,13 +1,13 @@
 -- Settling ends: each move lowers a rank.
 use Rattle.smx_model.proofs.Common.{◌≡◌, ℕ, zero, suc, ◌+◌, ◌*◌, ◌<◌, ◌≤◌, Bool, true, false, ◌&&◌, cond, eqb, List, []}
-use Rattle.smx_model.proofs.Common.{◌∷◌, length, find, Option, Some, None, refl, sym, ap, ◌∙◌, subst, arith, inl, inr}
+use Rattle.smx_model.proofs.Common.{◌∷◌, length, find, Option, Some, None, refl, sym, ◌∙◌, subst, arith, inl, inr}
 use Rattle.smx_model.proofs.Common.{is_some, option_map, cases_Bool, cases_eq, eqb-true, and_parts, false≢true}
 use Rattle.smx_model.proofs.Common.{false_from_ne_true, AllByRecursion, Binding, DriverSpec, Link, Message, Place}
 use Rattle.smx_model.proofs.Common.{Route, Side, StreamId, Configuration, QueuedMessage, is_at, queued_before}
 use Rattle.smx_model.proofs.Common.{same_place, same_stream, same_side, with_inserted, without_first}
-use Rattle.smx_model.proofs.Common.{HasNoCycle, reaches, first_message, after_leaving, is_full, after_settling}
+use Rattle.smx_model.proofs.Common.{HasNoCycle, reaches, first_message, is_full, after_settling}
 use Rattle.smx_model.proofs.Common.{after_settling_within, least_movable, after_move, next_open_place, is_movable}
-use Rattle.smx_model.proofs.Common.{next_place, place_below, place_above, IsSettled, AreLinksSound}
+use Rattle.smx_model.proofs.Common.{next_place, place_below, place_above, IsSettled, AreLinksSound, nat_tests}
 use Rattle.smx_types.specs.declared.stream.Side.TheVariants as side
 use Rattle.smx_model.specs.Settling.{◌>>=◌}
 use Rattle.smx_model.proofs.SettledLemmas.{moved_by}
@@ -148,6 +148,7 @@ next_falls : (drivers : List DriverSpec) (c : Configuration) (s : StreamId) (add
 next_falls drivers c s addr side.Write q h e =
     grind (
       arith,
+      nat_tests,
       down_falls c.links c.routes c.hungs (length drivers) s.driver addr q h.no_cycle h.below (routes_lead drivers c h.routed),
       routes_lead drivers c h.routed,
     )
@@ -157,16 +158,7 @@ next_falls drivers c s addr side.Read q h e = up_falls c.links c.binds (length d
 pub open_next : (drivers : List DriverSpec) (c : Configuration) (p q : Place) → next_open_place drivers c p ≡ Some q
     → (m : Message) × (first_message c.flow p ≡ Some m) × (next_place drivers c p m.addr ≡ Some q)
     × (is_full c q ≡ false)
-open_next drivers c p q e =
-    let m = bound (first_message c.flow p)
-    (λ m. next_place drivers c p m.addr >>= (λ r. cond (is_full c r) None (Some r))) q e in
-    let r = bound (next_place drivers c p m.0.addr) (λ r. cond (is_full c r) None (Some r)) q m.2 in
-    let is = room r.0 (is_full c r.0) refl r.2 in
-    (m.0, m.1, r.1 ∙ ap (λ (x : Place). Some x) is.0, subst (λ (x : Place). is_full c x ≡ false) is.0 is.1) where
-      room : (r : Place) (full : Bool) → is_full c r ≡ full → cond full None (Some r) ≡ Some q
-          → (r ≡ q) × (is_full c r ≡ false)
-      room r true f e = absurd cc
-      room r false f e = (cc, f)
+open_next drivers c p q e = grind (arith, bound)
 
 -- the sum of the weights of the places of all messages
 abbrev weight : (Place → ℕ) → List QueuedMessage → ℕ
@@ -201,12 +193,7 @@ made a b s c d t e f g = grind arith
 
 -- places that pass the test for equality are equal
 pub same_place_is : (p q : Place) → same_place p q ≡ true → p ≡ q
-same_place_is p q h =
-    grind (
-      arith,
-      made p.stream.driver p.stream.minor p.side q.stream.driver q.stream.minor q.side,
-      same_side_is p.side q.side,
-    )
+same_place_is p q h = grind (arith, made, same_side_is)
 
 -- without the first message of a place a flow is lighter by the weight of that place
 weight_front : (f : Place → ℕ) (hs : List QueuedMessage) (p : Place) (m : Message) → first_message hs p ≡ Some m
@@ -219,14 +206,7 @@ moved_weight : (drivers : List DriverSpec) (c : Configuration) (p : Place) → C
     → next_open_place drivers c p ≡ Some q
     → weight (rank c.links (length drivers)) (after_move drivers c p).flow
     < weight (rank c.links (length drivers)) c.flow
-moved_weight drivers c p h q e =
-    grind (
-      arith,
-      open_next drivers c p q e,
-      next_falls drivers c p.stream,
-      weight_front (rank c.links (length drivers)) c.flow p,
-      weight_placed (rank c.links (length drivers)) (after_leaving drivers c p).flow,
-    )
+moved_weight drivers c p h q e = grind (arith, open_next, next_falls, weight_front, weight_placed)
 
 -- if the place of no message passes a test, no place with a first message does
 none_of : (t : Place → Bool) (hs : List QueuedMessage) (p : Place) (m : Message) → find (λ h. t h.place) hs ≡ None
@@ -282,8 +262,7 @@ weight_of drivers c = weight (rank c.links (length drivers)) c.flow
 -- the move of the least movable place makes the configuration lighter
 less_weight : (drivers : List DriverSpec) (c : Configuration) (p : Place) → CanSettle drivers c
     → least_movable drivers c ≡ Some p → weight_of drivers (after_move drivers c p) < weight_of drivers c
-less_weight drivers c p h e =
-    grind (arith, least_way drivers c p e, moved_links drivers c p, moved_weight drivers c p h)
+less_weight drivers c p h e = grind (arith, least_way, moved_links, moved_weight)
 
 -- a configuration that weighs at most k is settled after k moves
 settles : (drivers : List DriverSpec) (k : ℕ) (c : Configuration) → CanSettle drivers c → weight_of drivers c ≤ k

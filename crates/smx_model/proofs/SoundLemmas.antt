@@ -14,13 +14,7 @@ use Rattle.smx_model.proofs.PathLemmas.{path_reaches, no_cycle_push, no_cycle_fe
 
 -- sound links stay sound after a filter
 pub sound_filter : (test : Link → Bool) (ls : List Link) → AreLinksSound ls → AreLinksSound (filter test ls)
-sound_filter test ls h =
-    search (
-      rules,
-      no_cycle_fewer ls (filter test ls) (of_filtered test ls) h.no_cycle,
-      of_filtered test ls,
-      AllPairs-filter,
-    )
+sound_filter test ls h = search (rules, no_cycle_fewer, of_filtered, AllPairs-filter)
 
 -- sound links stay sound with one more, if it closes no cycle and its lower stream is below no other
 pub sound_push : (ls : List Link) (l : Link) → AreLinksSound ls → is_below ls l.lower ≡ false

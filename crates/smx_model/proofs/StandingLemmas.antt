@@ -1,10 +1,9 @@
 -- The streams that exist within some climbs, and the result of a sweep.
-use Rattle.smx_model.proofs.Common.{◌≡◌, ℕ, zero, suc, ◌<◌, ◌≤◌, Bool, true, ◌&&◌, ◌||◌, not, List, length, filter}
-use Rattle.smx_model.proofs.Common.{refl, sym, ap, ◌∙◌, subst, arith, inl, inr, list_any, cases_lt, and_parts}
-use Rattle.smx_model.proofs.Common.{or_cases, or_left, or_right, and_from, not-false, AllByRecursion, Descriptor}
+use Rattle.smx_model.proofs.Common.{◌≡◌, ℕ, zero, suc, ◌<◌, ◌≤◌, true, ◌&&◌, not, List, length, filter}
+use Rattle.smx_model.proofs.Common.{refl, subst, arith, inl, inr, list_any, cases_lt, and_parts}
+use Rattle.smx_model.proofs.Common.{or_cases, or_left, or_right, and_from, AllByRecursion, Descriptor}
 use Rattle.smx_model.proofs.Common.{DriverSpec, Link, StreamId, Configuration, same_stream, HasNoCycle, reaches}
-use Rattle.smx_model.proofs.Common.{after_sweep, without_links, is_persistent, stands_within, exists, IsSwept}
-use Rattle.std.proofs.lemmas.Bool.{not-true}
+use Rattle.smx_model.proofs.Common.{after_sweep, is_persistent, stands_within, exists, IsSwept, rules}
 use Rattle.smx_model.proofs.SettlingLemmas.{count, count_le, up_less}
 use Rattle.smx_model.proofs.TestLemmas.{any_same, any_filter, all_passes, any_found, any_more_each}
 
@@ -27,18 +26,15 @@ stands_filter : (fds : List Descriptor) (links : List Link) (m n : ℕ) (s : Str
     → stands_within fds (filter (λ l. not (not (is_persistent l) && not (stands_within fds links m l.ctl))) links) n s
     ≡ stands_within fds links n s
 stands_filter fds links m zero s le = grind (arith, any_filter)
-stands_filter fds links m (suc n) s le = both _ _ _ _ (stands_filter fds links m n s (omega arith))
-    (any_same _ _ (filter (λ k. not (not (is_persistent k) && not (stands_within fds links m k.ctl))) links)
-    (λ l. ap (λ (b : Bool). not (is_persistent l) && (same_stream l.lower s && b))
-    (stands_filter fds links m n l.ctl (omega arith)))
-    ∙ any_filter (λ l. not (is_persistent l) && (same_stream l.lower s && stands_within fds links n l.ctl)) _ links
-    (λ l h. kept (is_persistent l) (stands_within fds links m l.ctl)
-    (stands_more fds links n m l.ctl (omega arith) (and_parts _ _ (and_parts _ _ h).1).1))) where
-      both : (a b d e : Bool) → a ≡ b → d ≡ e → (a || d) ≡ (b || e)
-      both a b d e f g = cc
-
-      kept : (a d : Bool) → d ≡ true → not (not a && not d) ≡ true
-      kept a d h = grind arith
+stands_filter fds links m (suc n) s le =
+    grind (
+      arith,
+      stands_filter fds links m n s (omega arith),
+      any_same,
+      stands_filter fds links m n,
+      any_filter,
+      stands_more,
+    )
 
 -- after a sweep the same streams exist
 swept_exists : (drivers : List DriverSpec) (c : Configuration) (s : StreamId)
@@ -47,19 +43,7 @@ swept_exists drivers c s = stands_filter c.fds c.links (length drivers) (length 
 
 -- after a sweep the configuration is swept
 pub swept_is : (drivers : List DriverSpec) (c : Configuration) → IsSwept drivers (after_sweep drivers c)
-swept_is drivers c = record {
-  links = all_passes _ _ c.links
-      (λ l h. alive (is_persistent l) (exists drivers c l.ctl) (exists drivers (after_sweep drivers c) l.ctl)
-      (sym (swept_exists drivers c l.ctl)) h);
-  binds = all_passes _ _ c.binds (λ b h. h);
-  flow = all_passes _ _ (without_links c (λ l. not (is_persistent l) && not (exists drivers c l.ctl))).flow
-      (λ h k. not-false _ (not-true _ k));
-  fulls = all_passes _ _ (without_links c (λ l. not (is_persistent l) && not (exists drivers c l.ctl))).fulls
-      (λ p k. not-false _ (not-true _ k));
-  hungs = all_passes _ _ c.hungs (λ s h. h);
-} where
-  alive : (a b d : Bool) → b ≡ d → not (not a && not b) ≡ true → (a || d) ≡ true
-  alive a b d e h = grind arith
+swept_is drivers c = grind (arith, all_passes, swept_exists)
 
 -- the number of climbs that suffices
 
@@ -82,8 +66,7 @@ link_rises drivers links l s none h same = grind (arith, up_less links (length d
 enough_climbs : (drivers : List DriverSpec) (fds : List Descriptor) (links : List Link) (n : ℕ) (s : StreamId)
     → HasNoCycle links → AllByRecursion (IsLinkIn drivers links) links
     → stands_within fds links n s ≡ true → stands_within fds links (height drivers links s.driver) s ≡ true
-enough_climbs drivers fds links zero s none below h =
-    stands_more fds links 0 (height drivers links s.driver) s (omega arith) h
+enough_climbs drivers fds links zero s none below h = search (rules, stands_more)
 enough_climbs drivers fds links (suc n) s none below
     h = elim (or_cases (stands_within fds links n s)
     (list_any (λ l. not (is_persistent l) && (same_stream l.lower s && stands_within fds links n l.ctl)) links) h) [

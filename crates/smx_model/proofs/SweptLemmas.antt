@@ -1,14 +1,13 @@
 -- Each configuration is swept.
 use Rattle.smx_model.proofs.Common.{◌≡◌, ℕ, zero, suc, ◌<◌, Bool, true, false, ◌||◌, List, [], ◌∷◌, ◌++◌, length, find}
-use Rattle.smx_model.proofs.Common.{Option, Some, None, Ok, refl, rules, subst, arith, inl, inr, Result, IfOk, outcome}
-use Rattle.smx_model.proofs.Common.{done_outcome, with_fd, Configuration, QueuedMessage, is_at, queued_before}
-use Rattle.smx_model.proofs.Common.{fd_before, same_stream, place_before, is_fd, is_mux, driver_of, stream_of}
-use Rattle.smx_model.proofs.Common.{free_stream, leaf_stream, live_leaf, live_stream, HasNoCycle, without_first}
-use Rattle.smx_model.proofs.Common.{first_message, with_mark, after_sweep, after_move, after_move_to, next_open_place}
-use Rattle.smx_model.proofs.Common.{next_place, is_persistent, stands_within, exists, is_below, Stands, IsSwept}
-use Rattle.smx_model.proofs.Common.{list_any, cases_Bool, not-false, eq-eqb, or_right, and_from, Command, Fault}
-use Rattle.smx_model.proofs.Common.{NoDriver, Descriptor, DriverSpec, Link, Message, Place, Side, StreamId, list_all}
-use Rattle.smx_model.proofs.Common.{NoMinor, AllByRecursion}
+use Rattle.smx_model.proofs.Common.{Option, Some, None, Ok, refl, rules, arith, IfOk, outcome, done_outcome, with_fd}
+use Rattle.smx_model.proofs.Common.{Configuration, QueuedMessage, is_at, queued_before, fd_before, same_stream}
+use Rattle.smx_model.proofs.Common.{place_before, is_fd, stream_of, free_stream, leaf_stream, live_leaf, live_stream}
+use Rattle.smx_model.proofs.Common.{HasNoCycle, without_first, first_message, with_mark, after_sweep, after_move}
+use Rattle.smx_model.proofs.Common.{after_move_to, next_open_place, next_place, is_persistent, stands_within, exists}
+use Rattle.smx_model.proofs.Common.{Stands, IsSwept, list_any, eq-eqb, or_right, and_from, Command, Descriptor}
+use Rattle.smx_model.proofs.Common.{DriverSpec, Link, Message, Place, Side, StreamId, list_all, AllByRecursion}
+use Rattle.smx_model.proofs.Common.{nat_tests}
 use Rattle.smx_model.proofs.IdleSweepLemmas.{swept_idle}
 use Rattle.smx_model.proofs.AcceptedLemmas.{of_rows}
 use Rattle.smx_model.proofs.OutcomeLemmas.{IfAccepted, if_ok}
@@ -18,7 +17,6 @@ use Rattle.smx_model.proofs.RangeLemmas.{AreNamed}
 use Rattle.smx_model.proofs.SettlingLemmas.{same_place_is, below_link, above_binding, open_next}
 use Rattle.smx_model.proofs.StandingLemmas.{swept_is, stands_more, IsLinkIn, climbs_suffice}
 use Rattle.smx_types.specs.declared.stream.Side.TheVariants as side
-use Rattle.smx_types.specs.declared.reply.Fault.TheVariants.{Below}
 use Rattle.smx_model.proofs.EachLemmas.{each_map}
 use Rattle.smx_model.proofs.TestLemmas.{any_more, all_more, all_push, all_placed, all_filter, all_without, any_placed}
 use Rattle.smx_model.proofs.TestLemmas.{any_push, found_any, found_all}
@@ -40,13 +38,7 @@ grown : (drivers : List DriverSpec) (c d : Configuration) → IsSwept drivers c
     → ((s : StreamId) → exists drivers c s ≡ true → exists drivers d s ≡ true)
     → list_all (λ l. is_persistent l || exists drivers d l.ctl) d.links ≡ true → d.binds ≡ c.binds → d.flow ≡ c.flow
     → d.fulls ≡ c.fulls → d.hungs ≡ c.hungs → IsSwept drivers d
-grown drivers c d h more links b f u g = record {
-  links = links;
-  binds = rw b (all_more _ _ c.binds (λ x. more (record { driver = x.driver; minor = x.minor })) h.binds);
-  flow = rw f (all_more _ _ c.flow (λ x. more x.place.stream) h.flow);
-  fulls = rw u (all_more _ _ c.fulls (λ x. more x.stream) h.fulls);
-  hungs = rw g (all_more _ _ c.hungs (λ x. more x) h.hungs);
-}
+grown drivers c d h more links b f u g = grind (arith, all_more)
 
 -- if one of two tests passes, so does one of them with the second replaced by a test that passes whenever it does
 link_more : (a b d : Bool) → (b ≡ true → d ≡ true) → (a || b) ≡ true → (a || d) ≡ true
@@ -85,6 +77,7 @@ stream_exists : (drivers : List DriverSpec) (c : Configuration) (process fd : �
 stream_exists drivers c process fd s e =
     grind (
       arith,
+      nat_tests,
       descriptor_of c process fd s e,
       stands_more c.fds c.links 0 (length drivers) s (omega arith),
       found_any (is_fd process fd),
@@ -94,21 +87,12 @@ stream_exists drivers c process fd s e =
 -- the stream of a descriptor that is not linked below exists
 pub free_exists : (drivers : List DriverSpec) (c : Configuration) (process fd : ℕ) (s : StreamId)
     → free_stream c process fd ≡ Ok s → exists drivers c s ≡ true
-free_exists drivers c process fd s e = stream_exists drivers c process fd s
-    (tested Below (stream_of c process fd) (is_below c.links) s e).0
+free_exists drivers c process fd s e = grind (arith, stream_exists, tested)
 
 -- the stream of a leaf driver and its minor that a lookup finds exists
 pub leaf_exists : (drivers : List DriverSpec) (c : Configuration) (name : List ℕ) (minor : ℕ) (s : StreamId)
     → leaf_stream drivers c name minor ≡ Ok s → exists drivers c s ≡ true
-leaf_exists drivers c name minor s e =
-    let n = looked_up (driver_of drivers name) _ s e in
-    let there = passed NoMinor _ _ s (passed NoDriver (is_mux drivers n.0) _ s n.2).1 in
-    subst (λ (x : StreamId). exists drivers c x ≡ true) (same n.0 there.1) (not-false _ there.0) where
-      stream : ℕ → Result StreamId Fault
-      stream n = Ok (record { driver = n; minor = minor })
-
-      same : (n : ℕ) → stream n ≡ Ok s → record { driver = n; minor = minor } ≡ s
-      same n e = cc
+leaf_exists drivers c name minor s e = grind (arith, looked_up, passed)
 
 -- the stream of a descriptor that is not linked below, and whose device has not hung up, exists
 live_exists : (drivers : List DriverSpec) (c : Configuration) (process fd : ℕ) (s : StreamId)
@@ -155,15 +139,7 @@ pub links_in : (drivers : List DriverSpec) (links : List Link)
     → AllByRecursion (λ l. l.ctl.driver < length drivers) links
     → AllByRecursion (IsLinkIn drivers links) links
 links_in drivers [] h = tt
-links_in drivers (l ∷ ls) h =
-    grind (
-      arith,
-      reaches_at (l ∷ ls) 0 l (omega arith) refl,
-      each_map (IsLinkIn drivers ls) (IsLinkIn drivers (l ∷ ls)) ls,
-      IsLinkIn drivers ls,
-      IsLinkIn drivers (l ∷ ls),
-      links_in drivers ls h.1,
-    )
+links_in drivers (l ∷ ls) h = grind (arith, reaches_at, each_map, IsLinkIn, links_in drivers ls h.1)
 
 -- a swept configuration without a cycle, whose drivers have the streams of its descriptors and links
 pub record IsWhole (drivers : List DriverSpec) (c : Configuration) : Type 0 where
@@ -184,6 +160,7 @@ pub lower_exists : (drivers : List DriverSpec) (c : Configuration) (test : Link 
 lower_exists drivers c test l h e =
     grind (
       arith,
+      nat_tests,
       stands_more c.fds c.links 0 (length drivers) l.lower (omega arith),
       found_any test,
       stream_self l.lower,
@@ -195,20 +172,14 @@ lower_exists drivers c test l h e =
 -- a swept configuration without a cycle, whose descriptors and links have known streams, has links that keep
 -- their lower streams
 whole_keeps : (drivers : List DriverSpec) (c : Configuration) → IsWhole drivers c → AreKeepingLowers drivers c
-whole_keeps drivers c h =
-    record { no_cycle = h.no_cycle; below = each_map _ _ c.links (λ l p. p.0.0) h.named.links; alive = h.swept_.links }
+whole_keeps drivers c h = grind (arith, each_map)
 
 -- in a swept configuration without a cycle, whose descriptors and links have known streams, the stream of the
 -- next place exists
 next_exists : (drivers : List DriverSpec) (c : Configuration) (s : StreamId) (addr : ℕ) (which_side : Side) (q : Place)
     → IsWhole drivers c → next_place drivers c (record { stream = s; side = which_side }) addr ≡ Some q
     → exists drivers c q.stream ≡ true
-next_exists drivers c s addr side.Write q h e = elim (cases_Bool (is_mux drivers s.driver)) [
-  | inl t ↦ let w = below_link c.links c.routes c.hungs s.driver addr q (rw t at e) in
-      subst (λ (x : Place). exists drivers c x.stream ≡ true) w.4
-      (lower_exists drivers c _ w.2 (whole_keeps drivers c h) w.3)
-  | inr f ↦ let k : None ≡ Some q = rw f at e in cc
-]
+next_exists drivers c s addr side.Write q h e = grind (arith, below_link, lower_exists, whole_keeps)
 next_exists drivers c s addr side.Read q h e = grind (arith, above_binding c.links c.binds s addr q e, found_all)
 
 -- if the places of all messages pass a test, so does a place with a first message
@@ -240,11 +211,9 @@ swept_moved drivers c p h = by (next_open_place drivers c p) (first_message c.fl
 -- a stream that exists within some number of climbs exists within as many as there are drivers
 pub stands_exists : (drivers : List DriverSpec) (c : Configuration) (s : StreamId) → HasNoCycle c.links
     → AllByRecursion (λ l. l.ctl.driver < length drivers) c.links → Stands c s → exists drivers c s ≡ true
-stands_exists drivers c s none below h =
-    climbs_suffice drivers c.fds c.links h.climbs s none (links_in drivers c.links below) h.within
+stands_exists drivers c s none below h = grind (arith, climbs_suffice, links_in)
 
 -- the outcome of an accepted command needs no further sweep
 pub swept_once : (drivers : List DriverSpec) (c : Configuration) (process : ℕ) (k : Command) → IsSwept drivers c
     → IfOk (outcome drivers c process k) (λ x. after_sweep drivers x.0 ≡ x.0)
-swept_once drivers c process k h = if_ok (IsSwept drivers) _ (outcome drivers c process k) (swept_idle drivers)
-    (swept_accepted drivers c process k h)
+swept_once drivers c process k h = grind (arith, if_ok, swept_idle, swept_accepted)

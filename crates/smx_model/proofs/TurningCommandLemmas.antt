@@ -1,13 +1,12 @@
 -- The places that commands turn.
 use Rattle.smx_model.proofs.Common.{◌≡◌, ℕ, ◌+◌, Bool, true, false, ◌&&◌, ◌||◌, not, eqb, List, [], ◌∷◌, ◌++◌, filter}
-use Rattle.smx_model.proofs.Common.{Result, Ok, Err, refl, rules, ◌∙◌, inl, arith, nat_lt, IfOk, list_any}
-use Rattle.smx_model.proofs.Common.{or_right, nat_tests, AllByRecursion, recursion_from_All, Command}
-use Rattle.smx_model.proofs.Common.{DriverSpec, Binding, LinkKind, Route, Message, Fault, Descriptor, Place, StreamId}
-use Rattle.smx_model.proofs.Common.{outcome, done_outcome, link_outcome, send_outcome, receive_outcome, with_fd}
-use Rattle.smx_model.proofs.Common.{Configuration, same_place, pair_before, route_before, same_stream}
-use Rattle.smx_model.proofs.Common.{read_side, IsSound, stream_of, free_stream, mux_stream, live_stream}
-use Rattle.smx_model.proofs.Common.{live_leaf, with_inserted, Outcome, after_arrival, after_sweep, asks_down, asks_up}
-use Rattle.smx_model.proofs.Common.{nowhere, is_first_at, TurnsOnly, is_hung, with_hung, IsKnown, AllLater}
+use Rattle.smx_model.proofs.Common.{Result, Ok, Err, refl, rules, ◌∙◌, inl, arith, nat_lt, IfOk, list_any, or_right}
+use Rattle.smx_model.proofs.Common.{nat_tests, AllByRecursion, recursion_from_All, Command, DriverSpec, Binding}
+use Rattle.smx_model.proofs.Common.{LinkKind, Route, Message, Fault, Descriptor, Place, StreamId, outcome, done_outcome}
+use Rattle.smx_model.proofs.Common.{link_outcome, send_outcome, receive_outcome, with_fd, Configuration, same_place}
+use Rattle.smx_model.proofs.Common.{pair_before, route_before, same_stream, read_side, IsSound, stream_of, mux_stream}
+use Rattle.smx_model.proofs.Common.{live_leaf, with_inserted, Outcome, after_arrival, asks_down, asks_up, nowhere}
+use Rattle.smx_model.proofs.Common.{is_first_at, TurnsOnly, is_hung, with_hung, AllLater}
 use Rattle.std.proofs.lemmas.Bool.{not-true}
 use Rattle.smx_types.specs.declared.command.Command.TheVariants as command
 use Rattle.smx_types.specs.declared.link.LinkKind.TheVariants as kind
@@ -37,28 +36,18 @@ pair_differs a b c d h = grind (arith, nat_tests)
 
 -- in a sound configuration each key of a route, a link or a binding occurs once
 pub keyed : (drivers : List DriverSpec) (c : Configuration) → IsSound drivers c → IsKeyed c
-keyed drivers c h = record {
-  routes = later_map _ _ c.routes (λ r s. pair_differs r.driver r.addr s.driver s.addr) h.ordered.routes;
-  ids = later_map _ _ c.links (λ l k. less_differs l.id k.id) h.ids.rise;
-  lowers = later_pairs _ c.links h.links.lowers;
-  binds = later_map _ _ c.binds (λ b e. pair_differs b.driver b.addr e.driver e.addr) h.ordered.binds;
-}
+keyed drivers c h = search (rules, later_map, pair_differs, less_differs, later_pairs)
 
 -- the links of a sound configuration are sound, and their upper drivers exist
 pub rooted : (drivers : List DriverSpec) (c : Configuration) → IsSound drivers c → AreRooted drivers c.links
-rooted drivers c h = record {
-  sound = h.links;
-  below = each_map (λ l. IsKnown drivers l.ctl) _ c.links (λ l p. p.0)
-      (recursion_from_All _ c.links h.known.controlling);
-}
+rooted drivers c h = grind (arith, each_map, recursion_from_All)
 
 -- if a relation is symmetric, and each element is related to all later ones and to one more, this also holds after
 -- that one is inserted
 related_placed : {X : Type 0} (R : X → X → Type 0) (before : X → X → Bool) → ((x y : X) → R x y → R y x)
     → (x : X) (xs : List X) → AllByRecursion (R x) xs → AllLater R xs → AllLater R (with_inserted before xs x)
 related_placed R before s x [] e h = (tt, tt)
-related_placed R before s x (y ∷ ys) e h =
-    grind (arith, each_placed (R y) before ys x (s x y e.0) h.0, related_placed R before s x ys e.1 h.1)
+related_placed R before s x (y ∷ ys) e h = grind (arith, each_placed, related_placed R before s x ys e.1 h.1)
 
 -- after a route in place of that of its driver and address, each key still occurs once
 keyed_routed : (c : Configuration) (driver addr id : ℕ) → IsKeyed c → IsKeyed (routed c driver addr id)
@@ -78,15 +67,7 @@ keyed_routed c driver addr id h = record {
 keyed_bound : (c : Configuration) (driver addr minor : ℕ)
     → list_any (λ b. eqb b.driver driver && (eqb b.addr addr || eqb b.minor minor)) c.binds ≡ false → IsKeyed c
     → IsKeyed (bound c driver addr minor)
-keyed_bound c driver addr minor free h =
-    grind (
-      arith,
-      related_placed,
-      not_same_pair_turned,
-      none_passes,
-      not_same_pair_turned driver addr,
-      bind_other driver addr,
-    )
+keyed_bound c driver addr minor free h = grind (arith, related_placed, not_same_pair_turned, none_passes, bind_other)
 
 -- ---- the rows of the command table
 
@@ -94,29 +75,17 @@ keyed_bound c driver addr minor free h =
 turns_done : (drivers : List DriverSpec) (c new : Configuration) (t : Place → Bool) → TurnsOnly drivers c new t
     → IsKeyed new → AreRooted drivers new.links
     → IfAccepted (λ d r. TurnsOnly drivers c d t) (done_outcome drivers c new)
-turns_done drivers c new t h k r = at_ok _ (after_sweep drivers new) _
-    (turns_then drivers c new (after_sweep drivers new) t h (turns_swept drivers new k r))
+turns_done drivers c new t h k r = grind (arith, at_ok, turns_then, turns_swept)
 
 -- a message that arrives under the next serial turns only its own place, and only if it was empty
 arrived_turns : (drivers : List DriverSpec) (c : Configuration) (p : Place) (m : Message) (n : ℕ) → IsSound drivers c
     → TurnsOnly drivers c (record (after_arrival drivers c p m) { next_serial = n }) (is_first_at c p)
-arrived_turns drivers c p m n h =
-    grind (
-      arith,
-      turns_arrived drivers c p m h.ordered.flow,
-      turns_unchanged drivers (after_arrival drivers c p m) (record (after_arrival drivers c p m) { next_serial = n }) refl refl refl refl refl,
-    )
+arrived_turns drivers c p m n h = grind (arith, turns_arrived, turns_unchanged)
 
 -- a message that is sent turns only the place to which it is sent, and only if it was empty
 turns_sent : (drivers : List DriverSpec) (c : Configuration) (p : Place) (addr : ℕ) (bytes : List ℕ) → IsSound drivers c
     → IfAccepted (λ d r. TurnsOnly drivers c d (is_first_at c p)) (send_outcome drivers c p addr bytes)
-turns_sent drivers c p addr bytes h =
-    grind (
-      arith,
-      after_test,
-      at_ok,
-      arrived_turns drivers c p (record { serial = c.next_serial; addr = addr; bytes = bytes }) (c.next_serial + 1) h,
-    )
+turns_sent drivers c p addr bytes h = search (rules, after_test, at_ok, arrived_turns)
 
 -- a message that is delivered turns only its own place
 turns_received : (drivers : List DriverSpec) (c : Configuration) (p : Place)
@@ -173,8 +142,7 @@ hung_more s t hungs h = hung_with s t hungs ∙ or_right (same_stream s t) _ h
 -- a stream that hangs up turns no place
 pub more_hung_turn_none : (drivers : List DriverSpec) (c : Configuration) (s : StreamId)
     → TurnsOnly drivers c (record c { hungs = with_hung s c.hungs }) nowhere
-more_hung_turn_none drivers c s = fewer_turns drivers c (record c { hungs = with_hung s c.hungs })
-    (search (hung_more, same_finds, rules)) (λ r. inl refl)
+more_hung_turn_none drivers c s = grind (arith, fewer_turns, hung_more, same_finds)
 
 -- if nothing changes, no place is turned
 turns_none : (drivers : List DriverSpec) (c : Configuration) (t : Place → Bool) → TurnsOnly drivers c c t
@@ -188,8 +156,7 @@ turns_new_link : (drivers : List DriverSpec) (c : Configuration) (upper lower : 
       links = c.links ++ record { id = c.next_id; ctl = upper; lower = lower; kind = k } ∷ [];
       next_id = c.next_id + 1;
     }) (same_place (read_side lower))
-turns_new_link drivers c upper lower k h =
-    turns_linked drivers c (record { id = c.next_id; ctl = upper; lower = lower; kind = k }) (c.next_id + 1) h.routes
+turns_new_link drivers c upper lower k h = grind (arith, turns_linked)
 
 -- a property of places by a stream, for any stream, holds of places by the stream that a look-up names
 pub at_stream : (P : Configuration → (Place → Bool) → Type 0) (named : Result StreamId Fault)
@@ -202,15 +169,7 @@ at_stream P (Err e) t f h = record { holds = tt }
 turns_link : (drivers : List DriverSpec) (c : Configuration) (process fd arg : ℕ) (k : LinkKind) → IsSound drivers c
     → IfAccepted (λ d r. TurnsOnly drivers c d (of_stream (stream_of c process arg) (λ s. same_place (read_side s))))
     (link_outcome drivers c process fd arg k)
-turns_link drivers c process fd arg k h =
-    grind (
-      arith,
-      after_ok,
-      at_stream (TurnsOnly drivers c) (stream_of c process arg),
-      after_test,
-      at_ok,
-      turns_new_link,
-    )
+turns_link drivers c process fd arg k h = grind (arith, after_ok, at_stream, after_test, at_ok, turns_new_link)
 
 -- an accepted command, from a sound configuration, turns only places of `turned_by`
 pub turns : (drivers : List DriverSpec) (c : Configuration) (process : ℕ) (k : Command) → IsSound drivers c
@@ -251,23 +210,13 @@ turns drivers c process (command.Route fd addr id) h =
     )
 turns drivers c process (command.Unroute fd addr) h = let k = keyed drivers c h in let x = rooted drivers c h in
     search (after_test, after_ok, turns_still, turns_unrouted, later_filter, rules) depth 20
-turns drivers c process (command.Write fd addr bytes) h =
-    grind (arith, at_stream (TurnsOnly drivers c) (live_stream c process fd), turns_sent)
-turns drivers c process (command.Read fd) h =
-    grind (
-      arith,
-      at_stream (TurnsOnly drivers c) (free_stream c process fd),
-      after_choice,
-      at_ok,
-      turns_none,
-      turns_received,
-    )
+turns drivers c process (command.Write fd addr bytes) h = grind (arith, at_stream, turns_sent)
+turns drivers c process (command.Read fd) h = grind (arith, at_stream, after_choice, at_ok, turns_none, turns_received)
 turns drivers c process (command.Flush fd w) h = let k = keyed drivers c h in let x = rooted drivers c h in
     search (after_ok, turns_still, turns_emptied, rules) depth 20
 turns drivers c process (command.Inject name minor addr bytes) h =
     search (rules, at_stream (TurnsOnly drivers c) (live_leaf drivers c name minor), turns_sent)
-turns drivers c process (command.Transmit name minor) h =
-    grind (arith, at_stream (TurnsOnly drivers c) (live_leaf drivers c name minor), turns_received)
+turns drivers c process (command.Transmit name minor) h = grind (arith, at_stream, turns_received)
 turns drivers c process (command.Hangup name minor) h = let k = keyed drivers c h in let x = rooted drivers c h in
     search (after_ok, turns_still, more_hung_turn_none, rules) depth 20
 

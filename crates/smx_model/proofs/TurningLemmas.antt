@@ -39,8 +39,7 @@ up_by binds addr o = o >>= (λ l. bound_side (find (λ b. eqb b.driver l.ctl.dri
 pub stays_by : (drivers : List DriverSpec) (c d : Configuration) (p : Place) (addr : ℕ)
     → Stays (next_by drivers c p.stream addr p.side) (next_by drivers d p.stream addr p.side)
     → Stays (next_place drivers c p addr) (next_place drivers d p addr)
-stays_by drivers c d p addr h =
-    grind (arith, next_is drivers c p addr, next_by drivers c p.stream addr p.side, next_is drivers d p addr)
+stays_by drivers c d p addr h = grind (arith, next_is, next_by)
 
 -- ---- equal streams
 
@@ -76,14 +75,12 @@ turns_unchanged drivers c d l r b u f p n = grind (arith, next_of_same drivers c
 -- a first message that leaves turns only its own place
 pub turns_left : (drivers : List DriverSpec) (c : Configuration) (p : Place)
     → TurnsOnly drivers c (after_leaving drivers c p) (same_place p)
-turns_left drivers c p r f =
-    inl (next_of_same drivers c (after_leaving drivers c p) r refl refl refl refl (first_left c.flow p r f))
+turns_left drivers c p r f = grind (arith, next_of_same, first_left)
 
 -- a message that arrives turns only its own place, and only if it was empty
 pub turns_arrived : (drivers : List DriverSpec) (c : Configuration) (q : Place) (m : Message) → IsInOrder c.flow
     → TurnsOnly drivers c (after_arrival drivers c q m) (is_first_at c q)
-turns_arrived drivers c q m o r f =
-    inl (next_of_same drivers c (after_arrival drivers c q m) r refl refl refl refl (first_arrived c.flow q r m o f))
+turns_arrived drivers c q m o r f = grind (arith, next_of_same, first_arrived)
 
 -- ---- a route
 

@@ -1,15 +1,12 @@
 -- The drivers have the stream of each part of a configuration, so the view determines the configuration.
-use Rattle.smx_model.proofs.Common.{◌≡◌, ℕ, zero, suc, ◌<◌, Bool, true, List, [], ◌∷◌, length, map, Option, refl, ap}
-use Rattle.smx_model.proofs.Common.{arith, inl, inr, list_any, or_cases, false≢true, AllByRecursion, All-from_recursion}
+use Rattle.smx_model.proofs.Common.{◌≡◌, ℕ, zero, suc, ◌<◌, Bool, true, List, [], ◌∷◌, length, map, refl}
+use Rattle.smx_model.proofs.Common.{arith, list_any, false≢true, AllByRecursion, All-from_recursion}
 use Rattle.smx_model.proofs.Common.{DriverSpec, Binding, Link, LinkKind, Route, Message, Descriptor, Place, Side}
 use Rattle.smx_model.proofs.Common.{StreamId, Configuration, QueuedMessage, same_stream, IsDriverList, is_mux}
 use Rattle.smx_model.proofs.Common.{AreStreamsKnown, IsKnown, is_named, stands_within, IsSwept, view}
 use Rattle.std.proofs.Common.{slice_index_or}
-use Rattle.std.specs.Option.{option_map_or}
 use Rattle.std.proofs.lemmas.Option.{slice_get_past, slice_get-get_or}
 use Rattle.smx_types.specs.declared.driver.DriverKind.TheVariants.{Leaf}
-use Rattle.smx_types.specs.declared.view.BindingLine.{BindingLine}
-use Rattle.smx_types.specs.declared.view.FullLine.{FullLine}
 use Rattle.smx_model.specs.DriverList.{name_of}
 use Rattle.smx_model.specs.Views.{view_of_fd, view_of_link, view_of_bind, view_of_route, view_of_message}
 use Rattle.smx_model.specs.Views.{view_of_full, view_of_hung}
@@ -36,8 +33,7 @@ lower_known : (drivers : List DriverSpec) (test : Link → Bool) (links : List L
     → AllByRecursion (λ l. IsKnown drivers l.ctl × IsKnown drivers l.lower) links
     → ((l : Link) → test l ≡ true → same_stream l.lower s ≡ true) → list_any test links ≡ true → IsKnown drivers s
 lower_known drivers test [] s h f e = absurd (false≢true e)
-lower_known drivers test (l ∷ ls) s h f e = elim (or_cases (test l) (list_any test ls) e)
-    [ inl k ↦ same_known drivers l.lower s h.0.1 (f l k) | inr k ↦ lower_known drivers test ls s h.1 f k ]
+lower_known drivers test (l ∷ ls) s h f e = grind (arith, same_known, f l, lower_known drivers test ls s h.1 f)
 
 -- if the drivers have the streams of descriptors and links, they have each stream that exists within some climbs
 standing_known : (drivers : List DriverSpec) (c : Configuration) (n : ℕ) (s : StreamId) → AreNamed drivers c
@@ -80,16 +76,7 @@ each_known drivers c named routed swept_ = record {
 
 -- if `EachKnown` holds of each part by recursion, `AreStreamsKnown` holds by index
 pub known_of_each : (drivers : List DriverSpec) (c : Configuration) → EachKnown drivers c → AreStreamsKnown drivers c
-known_of_each drivers c h = record {
-  fds = All-from_recursion _ c.fds h.fds;
-  controlling = All-from_recursion _ c.links (each_map _ _ c.links (λ l p. p.0) h.links);
-  lowers = All-from_recursion _ c.links (each_map _ _ c.links (λ l p. p.1) h.links);
-  binds = All-from_recursion _ c.binds h.binds;
-  routes = All-from_recursion _ c.routes h.routes;
-  flow = All-from_recursion _ c.flow h.flow;
-  fulls = All-from_recursion _ c.fulls h.fulls;
-  hungs = All-from_recursion _ c.hungs h.hungs;
-}
+known_of_each drivers c h = grind (arith, All-from_recursion, each_map)
 
 -- ---- a name determines its driver
 
@@ -100,21 +87,13 @@ some_driver = record { name = []; kind = Leaf; minors = 0; high = 0; low = 0; ma
 -- the name at a number in range is that of the driver at that index
 name_at : (drivers : List DriverSpec) (n : ℕ) → n < length drivers
     → name_of drivers n ≡ (slice_index_or drivers n some_driver).name
-name_at drivers n lt =
-    ap (λ (o : Option DriverSpec). option_map_or (λ d. d.name) o []) (slice_get-get_or drivers n some_driver lt)
+name_at drivers n lt = grind (arith, slice_get-get_or, some_driver)
 
 -- among valid drivers, numbers in range whose drivers have the same name are equal
 one_number : (drivers : List DriverSpec) (a b : ℕ) → IsDriverList drivers → a < length drivers → b < length drivers
     → name_of drivers a ≡ name_of drivers b → a ≡ b
 one_number drivers a b h lt_a lt_b e =
-    grind (
-      arith,
-      name_at drivers a lt_a,
-      name_at drivers b lt_b,
-      h.names a b some_driver,
-      some_driver,
-      h.names b a some_driver,
-    )
+    grind (arith, name_at, h.names a b some_driver, some_driver, h.names b a some_driver)
 
 -- ---- a line of the view determines its part
 
@@ -215,45 +194,30 @@ configuration_made fds fds2 links links2 id id2 binds binds2 routes routes2 flow
 -- descriptors of streams that valid drivers have are equal if their lines are
 one_fd : (drivers : List DriverSpec) → IsDriverList drivers → (d e : Descriptor) → IsKnown drivers d.stream
     → IsKnown drivers e.stream → view_of_fd drivers d ≡ view_of_fd drivers e → d ≡ e
-one_fd drivers h d e lt lt2 k =
-    grind (
-      arith,
-      fd_made d.process d.fd d.stream.driver d.stream.minor e.process e.fd e.stream.driver e.stream.minor,
-      one_number drivers d.stream.driver e.stream.driver h lt.0 lt2.0,
-    )
+one_fd drivers h d e lt lt2 k = grind (arith, fd_made, one_number)
 
 -- links of streams that valid drivers have are equal if their lines are
 one_link : (drivers : List DriverSpec) → IsDriverList drivers → (l m : Link)
     → IsKnown drivers l.ctl × IsKnown drivers l.lower → IsKnown drivers m.ctl × IsKnown drivers m.lower
     → view_of_link drivers l ≡ view_of_link drivers m → l ≡ m
-one_link drivers h l m lt lt2 k =
-    grind (
-      arith,
-      one_number drivers l.ctl.driver m.ctl.driver h lt.0.0 lt2.0.0,
-      one_number drivers l.lower.driver m.lower.driver h lt.1.0 lt2.1.0,
-    )
+one_link drivers h l m lt lt2 k = grind (arith, one_number)
 
 -- bindings of streams that valid drivers have are equal if their lines are
 one_bind : (drivers : List DriverSpec) → IsDriverList drivers → (b c : Binding)
     → IsKnown drivers (record { driver = b.driver; minor = b.minor })
     → IsKnown drivers (record { driver = c.driver; minor = c.minor }) → view_of_bind drivers b ≡ view_of_bind drivers c
     → b ≡ c
-one_bind drivers h b c lt lt2 k = bind_made b.driver b.addr b.minor c.driver c.addr c.minor
-    (one_number drivers b.driver c.driver h lt.0 lt2.0 (ap (λ (l : BindingLine). l.driver) k))
-    (ap (λ (l : BindingLine). l.addr) k) (ap (λ (l : BindingLine). l.minor) k)
+one_bind drivers h b c lt lt2 k = grind (arith, bind_made, one_number)
 
 -- routes of valid drivers in range are equal if their lines are
 one_route : (drivers : List DriverSpec) → IsDriverList drivers → (r s : Route) → r.driver < length drivers
     → s.driver < length drivers → view_of_route drivers r ≡ view_of_route drivers s → r ≡ s
-one_route drivers h r s lt lt2 k =
-    grind (arith, route_made r.driver r.addr r.id s.driver s.addr s.id, one_number drivers r.driver s.driver h lt lt2)
+one_route drivers h r s lt lt2 k = grind (arith, route_made, one_number)
 
 -- full places of streams that valid drivers have are equal if their lines are
 one_full : (drivers : List DriverSpec) → IsDriverList drivers → (p q : Place) → IsKnown drivers p.stream
     → IsKnown drivers q.stream → view_of_full drivers p ≡ view_of_full drivers q → p ≡ q
-one_full drivers h p q lt lt2 k = place_made p.stream.driver p.stream.minor p.side q.stream.driver q.stream.minor q.side
-    (one_number drivers p.stream.driver q.stream.driver h lt.0 lt2.0 (ap (λ (l : FullLine). l.driver) k))
-    (ap (λ (l : FullLine). l.minor) k) (ap (λ (l : FullLine). l.side) k)
+one_full drivers h p q lt lt2 k = grind (arith, place_made, one_number)
 
 -- streams with the same driver and minor are equal
 stream_made : (driver minor driver2 minor2 : ℕ) → driver ≡ driver2 → minor ≡ minor2
@@ -263,19 +227,12 @@ stream_made driver minor driver2 minor2 e f = cc
 -- hung-up streams that valid drivers have are equal if their lines are
 one_hung : (drivers : List DriverSpec) → IsDriverList drivers → (s t : StreamId) → IsKnown drivers s → IsKnown drivers t
     → view_of_hung drivers s ≡ view_of_hung drivers t → s ≡ t
-one_hung drivers h s t lt lt2 k =
-    grind (arith, stream_made s.driver s.minor t.driver t.minor, one_number drivers s.driver t.driver h lt.0 lt2.0)
+one_hung drivers h s t lt lt2 k = grind (arith, stream_made, one_number)
 
 -- queued messages at streams that valid drivers have are equal if their lines are
 one_held : (drivers : List DriverSpec) → IsDriverList drivers → (x y : QueuedMessage) → IsKnown drivers x.place.stream
     → IsKnown drivers y.place.stream → view_of_message drivers x ≡ view_of_message drivers y → x ≡ y
-one_held drivers h x y lt lt2 k =
-    grind (
-      arith,
-      held_made x.place x.message y.place y.message,
-      place_made x.place.stream.driver x.place.stream.minor x.place.side y.place.stream.driver y.place.stream.minor y.place.side,
-      one_number drivers x.place.stream.driver y.place.stream.driver h lt.0 lt2.0,
-    )
+one_held drivers h x y lt lt2 k = grind (arith, held_made, place_made, one_number)
 
 -- ---- a view determines its configuration
 
@@ -283,20 +240,4 @@ one_held drivers h x y lt lt2 k =
 pub one_configuration : (drivers : List DriverSpec) (c d : Configuration) → IsDriverList drivers → EachKnown drivers c
     → EachKnown drivers d → view drivers c ≡ view drivers d → c ≡ d
 one_configuration drivers c d h kc kd e =
-    grind (
-      arith,
-      map_one (view_of_fd drivers),
-      one_fd drivers h,
-      map_one (view_of_link drivers),
-      one_link drivers h,
-      map_one (view_of_bind drivers),
-      one_bind drivers h,
-      map_one (view_of_route drivers),
-      one_route drivers h,
-      map_one (view_of_message drivers),
-      one_held drivers h,
-      map_one (view_of_full drivers),
-      one_full drivers h,
-      map_one (view_of_hung drivers),
-      one_hung drivers h,
-    )
+    grind (arith, map_one, one_fd, one_link, one_bind, one_route, one_held, one_full, one_hung)

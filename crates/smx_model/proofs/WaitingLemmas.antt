@@ -3,7 +3,7 @@ use Rattle.smx_model.proofs.Common.{◌≡◌, ℕ, Bool, true, false, ◌&&◌,
 use Rattle.smx_model.proofs.Common.{◌∙◌, is_some, slice_get, if◌then◌else◌, and_parts, false≢true, DriverSpec, Message}
 use Rattle.smx_model.proofs.Common.{Place, Side, StreamId, Configuration, QueuedMessage, queued_before, is_at}
 use Rattle.smx_model.proofs.Common.{same_place, is_mux, IsInOrder, with_inserted, without_first, first_message, is_full}
-use Rattle.smx_model.proofs.Common.{queue, next_of_first, is_movable, next_place, place_above, place_below, arith}
+use Rattle.smx_model.proofs.Common.{next_of_first, is_movable, next_place, place_above, place_below, arith}
 use Rattle.smx_types.specs.declared.stream.Side.TheVariants as side
 use Rattle.smx_model.specs.RunMarks.{is_held_up, is_waiting}
 use Rattle.smx_model.specs.Settling.{◌>>=◌}
@@ -69,12 +69,4 @@ first_stays (k ∷ ks) m h = refl
 pub first_arrived : (flow : List QueuedMessage) (q r : Place) (m : Message) → IsInOrder flow
     → (same_place q r && not (is_some (first_message flow q))) ≡ false
     → first_message (with_inserted queued_before flow (record { place = q; message = m })) r ≡ first_message flow r
-first_arrived flow q r m o asleep =
-    grind (
-      arith,
-      front_is (with_inserted queued_before flow (record { place = q; message = m })) r,
-      arrived_queue flow q r m o,
-      first_stays (queue flow r) m,
-      same_place_is q r,
-      front_is flow r,
-    )
+first_arrived flow q r m o asleep = grind (arith, front_is, arrived_queue, first_stays, same_place_is)
