@@ -1,15 +1,9 @@
 -- The list of bindings after each change of the table.
-use Rattle.std.proofs.Common.{◌≡◌, ℕ, true, false, ◌&&◌, ◌||◌, ◌==◌, not, List, [], ◌∷◌, filter, find, is_some}
-use Rattle.std.proofs.Common.{Option, Some, None, refl, sym, ap, ◌∙◌, arith, inl, inr}
-use Rattle.std.specs.List.{list_any, IsDistinct}
-use Rattle.std.specs.Map.{lookup, keys_of}
-use Rattle.std.specs.Option.{option_map}
-use Rattle.std.proofs.lemmas.Bool.{cases_Bool, false≢true}
-use Rattle.std.proofs.lemmas.Bool.Decides.{nat_tests}
-use Rattle.std.proofs.lemmas.Option.{same_Some}
-use Rattle.smx_types.specs.declared.link.Binding.{Binding}
-use Rattle.smx_model.specs.Configuration.{bind_before}
-use Rattle.smx_model.specs.Ordered.{with_inserted}
+use Rattle.smx_model.proofs.Common.{◌≡◌, ℕ, true, false, ◌&&◌, ◌||◌, ◌==◌, not, List, [], ◌∷◌, filter, find, is_some}
+use Rattle.smx_model.proofs.Common.{Option, Some, None, refl, sym, ap, ◌∙◌, arith, inl, inr, list_any}
+use Rattle.smx_model.proofs.Common.{lookup, keys_of, option_map, cases_Bool, false≢true, nat_tests, same_Some, Binding}
+use Rattle.smx_model.proofs.Common.{bind_before, with_inserted}
+use Rattle.std.specs.List.{IsDistinct}
 use Rattle.smx_addresses.specs.BindingLists.{address_of, stream_of, IsBindingList}
 use Rattle.smx_addresses.specs.Keys.{Key, is_key, found, AreApart}
 use Rattle.smx_addresses.specs.TableFields.{Entries, binding_of, bindings_of, AreBindings}

@@ -1,11 +1,7 @@
 -- Look-ups in a table after an entry is set or removed, and the list with the same look-ups.
-use Rattle.std.proofs.Common.{◌≡◌, ℕ, Bool, false, cond, not, List, [], ◌∷◌, filter, Option, Some, None, refl, sym, ap}
-use Rattle.std.proofs.Common.{◌∙◌, inl, inr}
-use Rattle.std.specs.List.{list_any}
-use Rattle.std.specs.Map.{lookup}
-use Rattle.std.proofs.lemmas.Bool.{cases_Bool}
+use Rattle.smx_model.proofs.Common.{◌≡◌, ℕ, Bool, false, cond, not, List, [], ◌∷◌, filter, Option, Some, None, refl}
+use Rattle.smx_model.proofs.Common.{sym, ap, ◌∙◌, inl, inr, list_any, lookup, cases_Bool, with_inserted, IsRising}
 use Rattle.std.proofs.lemmas.Map.Entries.{option_filter}
-use Rattle.smx_model.specs.Ordered.{with_inserted, IsRising}
 use Rattle.smx_addresses.specs.Keys.{Key, is_key, found, by_key, AreApart}
 use Rattle.smx_addresses.specs.TableFields.{Entries, Finds}
 use Rattle.smx_addresses.proofs.KeyLemmas.{is_key_sym, is_key_congr, found_none, found_inserted, found_filter, any_same}

@@ -1,14 +1,8 @@
 -- A list that is built again, element by element.
-use Rattle.std.proofs.Common.{◌≡◌, ℕ, zero, suc, ◌+◌, ◌<◌, Bool, false, true, List, [], ◌∷◌, ◌++◌, length, get_or, take}
-use Rattle.std.proofs.Common.{filter, not, refl, sym, ap, ◌∙◌, arith}
-use Rattle.std.specs.List.{list_any, AllByRecursion}
-use Rattle.std.proofs.lemmas.Bool.{or_from, or_parts}
-use Rattle.std.proofs.lemmas.Bool.Decides.{nat_tests}
-use Rattle.std.proofs.lemmas.List.{take_more}
-use Rattle.smx_types.specs.declared.link.Binding.{Binding}
-use Rattle.smx_types.specs.declared.link.Route.{Route}
-use Rattle.smx_model.specs.Configuration.{pair_before}
-use Rattle.smx_model.specs.Ordered.{with_inserted, IsRising}
+use Rattle.smx_model.proofs.Common.{◌≡◌, ℕ, zero, suc, ◌+◌, ◌<◌, Bool, false, true, List, [], ◌∷◌, ◌++◌, length, get_or}
+use Rattle.smx_model.proofs.Common.{take, filter, not, refl, sym, ap, ◌∙◌, arith, list_any, AllByRecursion, or_from}
+use Rattle.smx_model.proofs.Common.{or_parts, nat_tests, take_more, Binding, Route, pair_before, with_inserted}
+use Rattle.smx_model.proofs.Common.{IsRising}
 use Rattle.smx_addresses.specs.BindingLists.{address_of, stream_of, is_taken, IsBindingList}
 use Rattle.smx_addresses.specs.Keys.{Key, is_key, by_key, AreApart}
 use Rattle.smx_addresses.specs.RouteLists.{target_of, IsRouteList}

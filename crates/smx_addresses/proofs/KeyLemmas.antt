@@ -1,12 +1,8 @@
 -- Look-ups in a list after one more element is inserted, and after some are removed.
-use Rattle.std.proofs.Common.{◌≡◌, ℕ, Bool, true, false, cond, not, List, [], ◌∷◌, filter, find, is_some, Some}
-use Rattle.std.proofs.Common.{None, refl, sym, ap, ◌∙◌, arith, inl, inr}
+use Rattle.smx_model.proofs.Common.{◌≡◌, ℕ, Bool, true, false, cond, not, List, [], ◌∷◌, filter, find, is_some, Some}
+use Rattle.smx_model.proofs.Common.{None, refl, sym, ap, ◌∙◌, arith, inl, inr, list_any, option_map, cases_Bool}
+use Rattle.smx_model.proofs.Common.{false_from_ne_true, false≢true, or_from, or_parts, nat_tests, with_inserted}
 use Rattle.std.specs.Cmp.{IsEquivalence}
-use Rattle.std.specs.List.{list_any}
-use Rattle.std.specs.Option.{option_map}
-use Rattle.std.proofs.lemmas.Bool.{cases_Bool, false_from_ne_true, false≢true, or_from, or_parts}
-use Rattle.std.proofs.lemmas.Bool.Decides.{nat_tests}
-use Rattle.smx_model.specs.Ordered.{with_inserted}
 use Rattle.smx_model.proofs.TestLemmas.{any_of_placed}
 use Rattle.smx_addresses.specs.Keys.{Key, is_key, found, AreApart}
 

@@ -1,20 +1,19 @@
 -- The entries of a table, sorted by their keys, are its list.
-use Rattle.std.proofs.Common.{◌≡◌, ℕ, ◌+◌, true, false, List, [], ◌∷◌, map, refl, subst, ◌∙◌, arith, inl, inr}
+use Rattle.smx_model.proofs.Common.{◌≡◌, ℕ, ◌+◌, true, false, List, [], ◌∷◌, map, refl, subst, ◌∙◌, arith, inl, inr}
+use Rattle.smx_model.proofs.Common.{AllByRecursion, IsPermutation, lookup, keys_of, cases_Bool, nat_tests}
+use Rattle.smx_model.proofs.Common.{ComesBefore, IsRising}
+use Rattle.std.specs.List.{IsDistinct}
 use Rattle.std.specs.Cmp.{IsTotalOrder}
 use Rattle.std.specs.declared.cmp.Ordering.{Ordering}
 use Rattle.std.specs.declared.cmp.Ordering.TheVariants.{Less}
-use Rattle.std.specs.List.{AllByRecursion, IsDistinct, slice_index_or}
-use Rattle.std.specs.List.Sorted.{IsPermutation, IsSortedByKey, IsStrictlySortedBy}
-use Rattle.std.specs.Map.{lookup, keys_of}
+use Rattle.std.specs.List.{slice_index_or}
+use Rattle.std.specs.List.Sorted.{IsSortedByKey, IsStrictlySortedBy}
 use Rattle.std.specs.Ordering.{is_lt, nat_cmp, ordering_then, on}
-use Rattle.std.proofs.lemmas.Bool.{cases_Bool}
-use Rattle.std.proofs.lemmas.Bool.Decides.{nat_tests}
 use Rattle.std.proofs.lemmas.Cmp.{nat_cmp_total, on_total, then_total}
 use Rattle.std.proofs.lemmas.List.Sorted.{IsPermutation-map}
 use Rattle.std.proofs.lemmas.Map.Keys.{IsDistinct-IsPermutation, apart_from_distinct, sorted_from_all_adjacent}
 use Rattle.std.proofs.lemmas.Map.Keys.{sorted_head, sorted_tail}
 use Rattle.indexmap.proofs.MapLemmas.{lookup_permutation}
-use Rattle.smx_model.specs.Ordered.{ComesBefore, IsRising}
 use Rattle.smx_addresses.specs.Keys.{Key, is_key, found, by_key}
 use Rattle.smx_addresses.specs.TableFields.{Entries}
 use Rattle.smx_addresses.proofs.KeyLemmas.{is_key_sym, is_key_congr, keys_equal}

@@ -1,11 +1,9 @@
 -- The list that corresponds to a table.
-use Rattle.std.proofs.Common.{◌≡◌, ℕ, ◌+◌, Bool, false, cond, List, [], ◌∷◌, length, is_some, Some, None, refl, sym, ap}
-use Rattle.std.proofs.Common.{◌∙◌, arith, inl, inr}
-use Rattle.std.specs.List.{list_any, IsDistinct, AllByRecursion}
-use Rattle.std.specs.Map.{lookup, keys_of}
-use Rattle.std.proofs.lemmas.Bool.{cases_Bool}
+use Rattle.smx_model.proofs.Common.{◌≡◌, ℕ, ◌+◌, Bool, false, cond, List, [], ◌∷◌, length, is_some, Some, None, refl}
+use Rattle.smx_model.proofs.Common.{sym, ap, ◌∙◌, arith, inl, inr, list_any, AllByRecursion, lookup}
+use Rattle.smx_model.proofs.Common.{keys_of, cases_Bool, with_inserted, IsRising}
+use Rattle.std.specs.List.{IsDistinct}
 use Rattle.std.proofs.lemmas.Map.Keys.{IsDistinct-head, IsDistinct-tail}
-use Rattle.smx_model.specs.Ordered.{with_inserted, IsRising}
 use Rattle.smx_addresses.specs.Keys.{Key, is_key, by_key}
 use Rattle.smx_addresses.specs.TableFields.{Entries, Finds, in_order}
 use Rattle.smx_addresses.proofs.KeyLemmas.{is_key_sym, found_any}

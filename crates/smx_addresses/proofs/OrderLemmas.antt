@@ -1,12 +1,7 @@
 -- Rising lists: with one more element, with fewer, and determined by their look-ups.
-use Rattle.std.proofs.Common.{◌≡◌, ℕ, Bool, true, false, List, [], ◌∷◌, filter, Some, None}
-use Rattle.std.proofs.Common.{refl, sym, ap, ◌∙◌, arith, inl, inr}
-use Rattle.std.specs.List.{list_any}
-use Rattle.std.proofs.lemmas.Bool.{cases_Bool}
-use Rattle.std.proofs.lemmas.Bool.Decides.{nat_tests}
-use Rattle.std.proofs.lemmas.Option.{same_Some}
-use Rattle.smx_model.specs.Configuration.{pair_before}
-use Rattle.smx_model.specs.Ordered.{with_inserted, ComesBefore, IsRising}
+use Rattle.smx_model.proofs.Common.{◌≡◌, ℕ, Bool, true, false, List, [], ◌∷◌, filter, Some, None, refl, sym, ap, ◌∙◌}
+use Rattle.smx_model.proofs.Common.{arith, inl, inr, list_any, cases_Bool, nat_tests, same_Some, pair_before}
+use Rattle.smx_model.proofs.Common.{with_inserted, ComesBefore, IsRising}
 use Rattle.smx_addresses.specs.Keys.{Key, is_key, found, by_key, AreApart}
 use Rattle.smx_addresses.proofs.KeyLemmas.{is_key_refl, is_key_sym, key_same}
 

@@ -1,15 +1,10 @@
 -- The list of routes after each change of the table.
-use Rattle.std.proofs.Common.{◌≡◌, ℕ, ◌<◌, ◌+◌, ◌&&◌, ◌||◌, ◌==◌, not, List, [], ◌∷◌, ◌++◌, length, get_or, take}
-use Rattle.std.proofs.Common.{filter, find, Option, Some, None, refl, sym, ap, ◌∙◌, inl, inr}
-use Rattle.std.specs.List.{list_any, IsDistinct}
-use Rattle.std.specs.Map.{lookup, keys_of}
-use Rattle.std.specs.Option.{option_map}
-use Rattle.std.proofs.lemmas.Bool.{cases_Bool}
-use Rattle.std.proofs.lemmas.List.{take_more}
+use Rattle.smx_model.proofs.Common.{◌≡◌, ℕ, ◌<◌, ◌+◌, ◌&&◌, ◌||◌, ◌==◌, not, List, [], ◌∷◌, ◌++◌, length, get_or, take}
+use Rattle.smx_model.proofs.Common.{filter, find, Option, Some, None, refl, sym, ap, ◌∙◌, inl, inr, list_any}
+use Rattle.smx_model.proofs.Common.{lookup, keys_of, option_map, cases_Bool, take_more, Route, route_before}
+use Rattle.smx_model.proofs.Common.{with_inserted}
+use Rattle.std.specs.List.{IsDistinct}
 use Rattle.std.proofs.lemmas.Map.Entries.{option_filter}
-use Rattle.smx_types.specs.declared.link.Route.{Route}
-use Rattle.smx_model.specs.Configuration.{route_before}
-use Rattle.smx_model.specs.Ordered.{with_inserted}
 use Rattle.smx_addresses.specs.Keys.{Key, is_key}
 use Rattle.smx_addresses.specs.RouteLists.{target_of}
 use Rattle.smx_addresses.specs.TableFields.{Entries, route_of, routes_of}

@@ -1,13 +1,11 @@
 -- The sets of keys at the links, after each change of the table of routes.
-use Rattle.std.proofs.Common.{◌≡◌, ℕ, Bool, true, false, cond, ◌==◌, not, List}
-use Rattle.std.proofs.Common.{Option, Some, None, Result, Ok, Err, OnErr, refl, sym, ap, ◌∙◌, arith}
-use Rattle.std.proofs.Common.{if◌then◌else◌, inl, inr}
+use Rattle.smx_model.proofs.Common.{◌≡◌, ℕ, Bool, true, false, cond, ◌==◌, not, List, Option, Some, None, Result, Ok}
+use Rattle.smx_model.proofs.Common.{Err, refl, sym, ap, ◌∙◌, arith, if◌then◌else◌, inl, inr, list_any}
+use Rattle.smx_model.proofs.Common.{lookup, keys_of, cases_Bool, eqb-true, nat_tests}
+use Rattle.std.specs.List.{IsDistinct}
+use Rattle.std.proofs.Common.{OnErr}
 use Rattle.std.specs.HashSet.{HashSet}
-use Rattle.std.specs.List.{list_any, IsDistinct}
-use Rattle.std.specs.Map.{lookup, keys_of}
 use Rattle.std.specs.Option.{option_map_or}
-use Rattle.std.proofs.lemmas.Bool.{cases_Bool, eqb-true}
-use Rattle.std.proofs.lemmas.Bool.Decides.{nat_tests}
 use Rattle.std.proofs.lemmas.Map.Entries.{option_filter}
 use Rattle.smx_addresses.specs.Keys.{Key, is_key, left_of}
 use Rattle.smx_addresses.specs.TableFields.{Entries, AreRoutes}

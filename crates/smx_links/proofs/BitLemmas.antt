@@ -1,14 +1,12 @@
 -- Bits of words, and the bits that one more link adds.
-use Rattle.std.proofs.Common.{◌≡◌, ℕ, ◌<◌, ◌≤◌, ◌^◌, Bool, true, false, ◌&&◌, ◌||◌, eqb, cond, List, length}
-use Rattle.std.proofs.Common.{get_or, max, bit_or, refl, sym, ap, ◌∙◌, arith}
-use Rattle.std.proofs.Common.{inl, inr}
+use Rattle.smx_model.proofs.Common.{◌≡◌, ℕ, ◌<◌, ◌≤◌, Bool, true, false, ◌&&◌, ◌||◌, eqb, cond, List, length, get_or}
+use Rattle.smx_model.proofs.Common.{refl, sym, ap, ◌∙◌, arith, inl, inr, eqb-true, eq-eqb, cases_eq, cases_lt}
+use Rattle.smx_model.proofs.Common.{false_from_ne_true, get_or_past, nat_tests}
+use Rattle.std.proofs.Common.{◌^◌, max, bit_or}
 use Rattle.std.proofs.Math.Bool.{or-false, or_comm}
 use Rattle.std.specs.Int.{bit_at}
-use Rattle.std.proofs.lemmas.Bool.{eqb-true, eq-eqb, cases_eq, cases_lt, false_from_ne_true}
-use Rattle.std.proofs.lemmas.List.{get_or_past}
 use Rattle.std.proofs.lemmas.Nat.Bits.{bit_at_or, bit_at-lt, bit_at-pow_same, bit_at-pow_other, bit_at-zero}
 use Rattle.std.proofs.lemmas.Nat.Bits.{bit_at_above}
-use Rattle.std.proofs.lemmas.Bool.Decides.{nat_tests}
 use Rattle.smx_links.specs.declared.masks.TheConstants.{WORD_BITS}
 use Rattle.smx_links.specs.Masks.{is_set, has_bit, AreJoined}
 

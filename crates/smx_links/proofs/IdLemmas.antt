@@ -1,15 +1,9 @@
 -- Links by id.
-use Rattle.std.proofs.Common.{◌≡◌, ℕ, zero, suc, ◌+◌, ◌<◌, Bool, true, false, not, ◌||◌, eqb, List, [], ◌∷◌, ◌++◌}
-use Rattle.std.proofs.Common.{filter, find, get_or, length, take, Some, None, refl, ap, arith, inl, inr}
-use Rattle.std.specs.Prelude.{nat_lt}
-use Rattle.std.specs.List.{All}
-use Rattle.std.proofs.lemmas.Bool.{cases_Bool}
-use Rattle.std.proofs.lemmas.Bool.Decides.{nat_tests}
-use Rattle.std.proofs.lemmas.List.{take_more}
-use Rattle.std.proofs.lemmas.List.Elements.{All-head, All-nil, All-tail, All-cons}
-use Rattle.std.proofs.lemmas.Option.{same_Some}
-use Rattle.smx_types.specs.declared.link.Link.{Link}
-use Rattle.smx_model.specs.Ordered.{ComesBefore, IsRising}
+use Rattle.smx_model.proofs.Common.{◌≡◌, ℕ, zero, suc, ◌+◌, ◌<◌, Bool, true, false, not, ◌||◌, eqb, List, [], ◌∷◌, ◌++◌}
+use Rattle.smx_model.proofs.Common.{filter, find, get_or, length, take, Some, None, refl, ap, arith, inl, inr, nat_lt}
+use Rattle.smx_model.proofs.Common.{All, cases_Bool, nat_tests, take_more, All-nil, same_Some, Link, ComesBefore}
+use Rattle.smx_model.proofs.Common.{IsRising}
+use Rattle.std.proofs.lemmas.List.Elements.{All-head, All-tail, All-cons}
 use Rattle.smx_links.specs.LinkLists.{is_one_of}
 
 -- the first link has the smaller id

@@ -1,15 +1,9 @@
 -- Links as the entries of a map by id, and ids as the entries of a map by lower stream.
-use Rattle.std.proofs.Common.{◌≡◌, ℕ, false, cond, not, eqb, List, [], ◌∷◌, ◌++◌, map, filter, find}
-use Rattle.std.proofs.Common.{Option, Some, None, refl, sym, ap, ◌∙◌, arith, inl, inr}
-use Rattle.std.specs.Prelude.{nat_lt}
-use Rattle.std.specs.Map.{lookup, remove_entry, values_of}
-use Rattle.std.proofs.lemmas.Bool.{cases_Bool, eqb-true}
-use Rattle.std.proofs.lemmas.Bool.Decides.{nat_tests}
+use Rattle.smx_model.proofs.Common.{◌≡◌, ℕ, false, cond, not, eqb, List, [], ◌∷◌, ◌++◌, map, filter, find, Option, Some}
+use Rattle.smx_model.proofs.Common.{None, refl, sym, ap, ◌∙◌, arith, inl, inr, nat_lt, lookup, values_of, cases_Bool}
+use Rattle.smx_model.proofs.Common.{eqb-true, nat_tests, Link, IsRising, AreLowersApart, is_below}
+use Rattle.std.specs.Map.{remove_entry}
 use Rattle.std.proofs.lemmas.List.{map-append}
-use Rattle.smx_types.specs.declared.link.Link.{Link}
-use Rattle.smx_model.specs.Ordered.{IsRising}
-use Rattle.smx_model.specs.Paths.{AreLowersApart}
-use Rattle.smx_model.specs.Standing.{is_below}
 use Rattle.smx_links.specs.Keys.{Key, AreFound, is_key, key_of, under_id}
 use Rattle.smx_links.proofs.IdLemmas.{later_stay}
 use Rattle.smx_links.proofs.LowerLemmas.{ids_less, ids_more}

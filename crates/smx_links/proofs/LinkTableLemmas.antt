@@ -1,17 +1,13 @@
 -- A table of links: how it is made and changed.
-use Rattle.std.proofs.Common.{◌≡◌, ℕ, zero, suc, ◌<◌, ◌≤◌, ◌+◌, Bool, true, false, ◌||◌, eqb, leb, List, [], ◌∷◌, ◌++◌}
-use Rattle.std.proofs.Common.{length, filter, get_or, replicate, take, drop, Option, Some, None, refl, arith}
-use Rattle.std.proofs.Common.{length-append, if◌then◌else◌}
-use Rattle.std.proofs.lemmas.Bool.{leb-false, or_parts}
+use Rattle.smx_model.proofs.Common.{◌≡◌, ℕ, zero, suc, ◌<◌, ◌≤◌, ◌+◌, Bool, true, false, ◌||◌, eqb, leb, List, [], ◌∷◌}
+use Rattle.smx_model.proofs.Common.{◌++◌, length, filter, get_or, replicate, take, Option, Some, None, refl, arith}
+use Rattle.smx_model.proofs.Common.{length-append, if◌then◌else◌, or_parts, All-nil, All-filter, MAX_DRIVERS, MAX_LINKS}
+use Rattle.smx_model.proofs.Common.{NUMBER_END, Link, LinkKind, StreamId, reaches, is_below}
+use Rattle.std.proofs.Common.{drop}
+use Rattle.std.proofs.lemmas.Bool.{leb-false}
 use Rattle.std.proofs.lemmas.List.{length-replicate, take_at}
-use Rattle.std.proofs.lemmas.List.Elements.{All-nil, All-push, All-filter}
+use Rattle.std.proofs.lemmas.List.Elements.{All-push}
 use Rattle.std.proofs.lemmas.List.Sums.{length-filter, count_by-le-length}
-use Rattle.smx_types.specs.declared.limits.TheConstants.{MAX_DRIVERS, MAX_LINKS, NUMBER_END}
-use Rattle.smx_types.specs.declared.link.Link.{Link}
-use Rattle.smx_types.specs.declared.link.LinkKind.{LinkKind}
-use Rattle.smx_types.specs.declared.stream.StreamId.{StreamId}
-use Rattle.smx_model.specs.Paths.{reaches}
-use Rattle.smx_model.specs.Standing.{is_below}
 use Rattle.smx_model.proofs.IdLemmas.{ids_filter, ids_none, ids_push}
 use Rattle.smx_model.proofs.SoundLemmas.{sound_empty, sound_filter, sound_push}
 use Rattle.smx_links.specs.declared.link_fault.LinkFault.{LinkFault}

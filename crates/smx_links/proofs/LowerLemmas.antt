@@ -1,21 +1,10 @@
 -- Links by their lower streams, and the results of look-ups by these.
-use Rattle.std.proofs.Common.{◌≡◌, ℕ, zero, suc, ◌<◌, Bool, true, false, cond, not, eqb, List, [], ◌∷◌, ◌++◌, filter}
-use Rattle.std.proofs.Common.{find, Option}
-use Rattle.std.proofs.Common.{get_or, length, take, Some, None, refl, sym, subst, ap, ◌∙◌, arith, inl, inr}
-use Rattle.std.specs.Prelude.{nat_lt}
-use Rattle.std.specs.List.{All, list_any}
-use Rattle.std.specs.Map.{lookup}
-use Rattle.std.specs.Option.{option_map, is_some}
-use Rattle.std.proofs.lemmas.Bool.{cases_Bool, eq-eqb, eqb-true, false≢true}
-use Rattle.std.proofs.lemmas.Bool.Decides.{nat_tests}
+use Rattle.smx_model.proofs.Common.{◌≡◌, ℕ, zero, suc, ◌<◌, Bool, true, false, cond, not, eqb, List, [], ◌∷◌, ◌++◌}
+use Rattle.smx_model.proofs.Common.{filter, find, Option, get_or, length, take, Some, None, refl, sym, subst, ap, ◌∙◌}
+use Rattle.smx_model.proofs.Common.{arith, inl, inr, nat_lt, All, list_any, lookup, option_map, is_some, cases_Bool}
+use Rattle.smx_model.proofs.Common.{eq-eqb, eqb-true, false≢true, nat_tests, same_Some, Link, StreamId, same_stream}
+use Rattle.smx_model.proofs.Common.{IsRising, AreLowersApart, is_below}
 use Rattle.std.proofs.lemmas.List.Elements.{All-head, All-tail, All-weaker}
-use Rattle.std.proofs.lemmas.Option.{same_Some}
-use Rattle.smx_types.specs.declared.link.Link.{Link}
-use Rattle.smx_types.specs.declared.stream.StreamId.{StreamId}
-use Rattle.smx_model.specs.Configuration.{same_stream}
-use Rattle.smx_model.specs.Ordered.{IsRising}
-use Rattle.smx_model.specs.Paths.{AreLowersApart}
-use Rattle.smx_model.specs.Standing.{is_below}
 use Rattle.smx_links.specs.Keys.{Key, HasIds, id_above, is_key, key_of}
 use Rattle.smx_links.proofs.IdLemmas.{later_stay, before_found}
 

@@ -1,9 +1,7 @@
 -- Masks of links.
-use Rattle.std.proofs.Common.{◌≡◌, ℕ, true, ◌||◌, eqb, subst, inl, inr, List, [], ◌∷◌, ◌++◌}
-use Rattle.std.proofs.Common.{sym, ◌∙◌}
-use Rattle.std.proofs.lemmas.Bool.{cases_Bool, or_cases, or_left, and_parts, eqb-true, false_from_ne_true, both_ways}
-use Rattle.smx_types.specs.declared.link.Link.{Link}
-use Rattle.smx_model.specs.Paths.{reaches}
+use Rattle.smx_model.proofs.Common.{◌≡◌, ℕ, true, ◌||◌, eqb, subst, inl, inr, List, [], ◌∷◌, ◌++◌, sym, ◌∙◌, cases_Bool}
+use Rattle.smx_model.proofs.Common.{or_cases, or_left, and_parts, eqb-true, false_from_ne_true, both_ways, Link}
+use Rattle.smx_model.proofs.Common.{reaches}
 use Rattle.smx_model.proofs.PathLemmas.{reaches_push, reaches_trans}
 use Rattle.smx_links.specs.Masks.{has_bit, AreJoined, AreMasks}
 

@@ -1,13 +1,10 @@
 -- Drivers with links, judged by the bits of their words.
-use Rattle.std.proofs.Common.{◌≡◌, ℕ, ◌<◌, ◌^◌, Bool, true, false, not, eqb, List, [], ◌∷◌, get_or, refl, sym, ap, ◌∙◌}
-use Rattle.std.proofs.Common.{arith, inl, inr}
+use Rattle.smx_model.proofs.Common.{◌≡◌, ℕ, ◌<◌, Bool, true, false, not, eqb, List, [], ◌∷◌, get_or, refl, sym, ap, ◌∙◌}
+use Rattle.smx_model.proofs.Common.{arith, inl, inr, cases_Bool, eqb-true, eq-eqb, false_from_ne_true, false≢true}
+use Rattle.smx_model.proofs.Common.{or_left, or_parts, or_right, nat_tests, Link, reaches}
+use Rattle.std.proofs.Common.{◌^◌}
 use Rattle.std.specs.Int.{trailing_zeros, w128}
-use Rattle.std.proofs.lemmas.Bool.{cases_Bool, eqb-true, eq-eqb, false_from_ne_true, false≢true, or_left, or_parts}
-use Rattle.std.proofs.lemmas.Bool.{or_right}
-use Rattle.std.proofs.lemmas.Bool.Decides.{nat_tests}
 use Rattle.std.proofs.lemmas.Nat.Bits.{bit_at-trailing_zeros}
-use Rattle.smx_types.specs.declared.link.Link.{Link}
-use Rattle.smx_model.specs.Paths.{reaches}
 use Rattle.smx_links.specs.LinkLists.{is_upper}
 use Rattle.smx_links.specs.declared.masks.TheConstants.{WORD_BITS}
 use Rattle.smx_links.specs.Masks.{AreMasks, HasAnyBit, is_set}

@@ -1,37 +1,17 @@
 -- Properties of every accepted command, by the rows of the command table.
-use Rattle.std.proofs.Common.{◌≡◌, ℕ, ◌+◌, Bool, false, ◌&&◌, ◌||◌, not, eqb, leb, List, [], ◌∷◌, ◌++◌, length, filter}
-use Rattle.std.proofs.Common.{Some, Ok, refl, rules}
-use Rattle.std.specs.List.{list_any}
-use Rattle.smx_types.specs.declared.link.Binding.{Binding}
-use Rattle.smx_types.specs.declared.command.Command.{Command}
+use Rattle.smx_model.proofs.Common.{◌≡◌, ℕ, ◌+◌, Bool, false, ◌&&◌, ◌||◌, not, eqb, leb, List, [], ◌∷◌, ◌++◌, length}
+use Rattle.smx_model.proofs.Common.{filter, Some, Ok, refl, rules, list_any, Binding, Command, Which, DriverSpec}
+use Rattle.smx_model.proofs.Common.{MAX_LINKS, NUMBER_END, Link, LinkKind, Route, Message, Reply, Descriptor, Place}
+use Rattle.smx_model.proofs.Common.{StreamId, outcome, done_outcome, unlink_outcome, with_fd, Configuration}
+use Rattle.smx_model.proofs.Common.{bind_before, route_before, minors_of, with_hung, driver_of, stream_of, free_fd}
+use Rattle.smx_model.proofs.Common.{free_minor, free_stream, live_stream, mux_stream, leaf_stream, live_leaf, Outcome}
+use Rattle.smx_model.proofs.Common.{with_inserted, reaches, is_full, first_message, after_arrival, after_leaving}
+use Rattle.smx_model.proofs.Common.{without_queues_at, without_links, is_below, arith}
 use Rattle.smx_types.specs.declared.command.Command.TheVariants as command
 use Rattle.smx_types.specs.declared.command.Sides.{Sides}
-use Rattle.smx_types.specs.declared.command.Which.{Which}
 use Rattle.smx_types.specs.declared.command.Which.TheVariants as which
-use Rattle.smx_types.specs.declared.driver.DriverSpec.{DriverSpec}
-use Rattle.smx_types.specs.declared.limits.TheConstants.{MAX_LINKS, NUMBER_END}
-use Rattle.smx_types.specs.declared.link.Link.{Link}
-use Rattle.smx_types.specs.declared.link.LinkKind.{LinkKind}
-use Rattle.smx_types.specs.declared.link.Route.{Route}
-use Rattle.smx_types.specs.declared.message.Message.{Message}
-use Rattle.smx_types.specs.declared.reply.Reply.{Reply}
 use Rattle.smx_types.specs.declared.reply.Reply.TheVariants as reply
-use Rattle.smx_types.specs.declared.stream.Descriptor.{Descriptor}
-use Rattle.smx_types.specs.declared.stream.Place.{Place}
 use Rattle.smx_types.specs.declared.stream.Side.TheVariants as side
-use Rattle.smx_types.specs.declared.stream.StreamId.{StreamId}
-use Rattle.smx_model.specs.Commands.{outcome, done_outcome, unlink_outcome, with_fd}
-use Rattle.smx_model.specs.Configuration.{Configuration, bind_before, route_before}
-use Rattle.smx_model.specs.DriverList.{minors_of}
-use Rattle.smx_model.specs.Hangups.{with_hung}
-use Rattle.smx_model.specs.Lookups.{driver_of, stream_of, free_fd, free_minor, free_stream, live_stream, mux_stream}
-use Rattle.smx_model.specs.Lookups.{leaf_stream, live_leaf}
-use Rattle.smx_model.specs.Outcomes.{Outcome}
-use Rattle.smx_model.specs.Ordered.{with_inserted}
-use Rattle.smx_model.specs.Paths.{reaches}
-use Rattle.smx_model.specs.Queues.{is_full, first_message, after_arrival, after_leaving}
-use Rattle.smx_model.specs.Removal.{without_queues_at, without_links}
-use Rattle.smx_model.specs.Standing.{is_below}
 use Rattle.smx_model.proofs.OutcomeLemmas.{IfAccepted, at_ok, after_ok, after_test, after_some, after_choice}
 
 -- the configuration with one more message at a place, under the next serial
@@ -122,26 +102,21 @@ unlinked P drivers c (which.Id id) mine h = search (after_test, h, rules) depth 
 pub of_rows : (P : Configuration → Reply → Type 0) (drivers : List DriverSpec) (c : Configuration) (process : ℕ)
     (k : Command) → OfRows P drivers c process k → IfAccepted P (outcome drivers c process k)
 of_rows P drivers c process (command.OpenClone name) h = search (after_ok, at_ok, h.clone, rules) depth 20
-of_rows P drivers c process (command.OpenMinor name minor) h =
-    search (after_test, after_ok, at_ok, h.minor, rules) depth 20
+of_rows P drivers c process (command.OpenMinor name minor) h = grind (arith, after_test, after_ok, at_ok)
 of_rows P drivers c process (command.Dup fd) h = search (after_ok, at_ok, h.dup, rules) depth 20
 of_rows P drivers c process (command.Close fd) h = search (after_ok, h.close fd refl, rules) depth 20
 of_rows P drivers c process command.CloseAll h = h.exit refl _
 of_rows P drivers c process (command.Link fd arg) h = search (after_test, after_ok, at_ok, h.link, rules) depth 24
 of_rows P drivers c process (command.Plink fd arg) h = search (after_test, after_ok, at_ok, h.link, rules) depth 24
-of_rows P drivers c process (command.Unlink fd w) h =
-    search (after_ok, unlinked, h.unlink fd w refl, rules) depth 20
+of_rows P drivers c process (command.Unlink fd w) h = grind (arith, after_ok, unlinked, h.unlink fd w refl)
 of_rows P drivers c process (command.Punlink fd w) h = search (after_ok, unlinked, h.punlink fd w refl, rules) depth 20
 of_rows P drivers c process (command.Bind fd addr) h = search (after_test, after_ok, h.bind, rules) depth 20
 of_rows P drivers c process (command.Unbind fd) h = search (after_test, after_ok, h.unbind fd refl, rules) depth 20
-of_rows P drivers c process (command.Route fd addr id) h =
-    search (after_test, after_ok, h.route fd addr id refl, rules) depth 20
-of_rows P drivers c process (command.Unroute fd addr) h =
-    search (after_test, after_ok, h.unroute fd addr refl, rules) depth 20
+of_rows P drivers c process (command.Route fd addr id) h = search (rules, after_test, after_ok, h.route fd addr id refl)
+of_rows P drivers c process (command.Unroute fd addr) h = search (rules, after_test, after_ok, h.unroute fd addr refl)
 of_rows P drivers c process (command.Write fd addr bytes) h =
     search (after_test, after_ok, at_ok, h.write fd addr bytes refl, rules) depth 20
-of_rows P drivers c process (command.Read fd) h =
-    search (after_choice, after_some, after_ok, at_ok, h.read, h.eof, rules) depth 20
+of_rows P drivers c process (command.Read fd) h = grind (arith, after_choice, after_some, after_ok, at_ok)
 of_rows P drivers c process (command.Flush fd w) h = search (after_ok, h.flush fd w refl, rules) depth 20
 of_rows P drivers c process (command.Inject name minor addr bytes) h =
     search (after_test, after_ok, at_ok, h.inject name minor addr bytes refl, rules) depth 20

@@ -1,26 +1,13 @@
 -- Each accepted message is delivered, dropped or queued.
-use Rattle.std.proofs.Common.{◌≡◌, ℕ, zero, suc, ◌+◌, ◌<◌, ◌≤◌, Bool, cond, eqb, List, [], ◌∷◌, ◌++◌, length, filter}
-use Rattle.std.proofs.Common.{Some, Ok, Err, refl, rules, sym, ap, ◌∙◌, subst, arith, inl, inr}
-use Rattle.std.proofs.Common.{length-append}
-use Rattle.std.specs.List.{range_with_len}
-use Rattle.std.proofs.lemmas.Bool.{cases_Bool, cases_lt, cases_eq, ne_eqb, eq-eqb}
-use Rattle.smx_types.specs.declared.command.Command.{Command}
-use Rattle.smx_types.specs.declared.command.Entry.{Entry}
-use Rattle.smx_types.specs.declared.reply.Reply.{Reply}
+use Rattle.smx_model.proofs.Common.{◌≡◌, ℕ, zero, suc, ◌+◌, ◌<◌, ◌≤◌, Bool, cond, eqb, List, [], ◌∷◌, ◌++◌, length}
+use Rattle.smx_model.proofs.Common.{filter, Some, Ok, Err, refl, rules, ap, ◌∙◌, arith, range_with_len}
+use Rattle.smx_model.proofs.Common.{Command, Entry, Reply, DriverSpec, Message, Place}
+use Rattle.smx_model.proofs.Common.{outcome, step, after_outcome, done_outcome, Configuration, QueuedMessage, empty}
+use Rattle.smx_model.proofs.Common.{is_at, queued_before, after_from, after, IsLegalFrom, IsLegal, delivered_by}
+use Rattle.smx_model.proofs.Common.{dropped_by, taken_serials, with_inserted, without_first, Outcome, first_message}
+use Rattle.smx_model.proofs.Common.{after_leaving, after_sweep, serials, after_settling_within, after_move}
 use Rattle.smx_types.specs.declared.reply.Reply.TheVariants as reply
-use Rattle.smx_types.specs.declared.driver.DriverSpec.{DriverSpec}
-use Rattle.smx_types.specs.declared.message.Message.{Message}
-use Rattle.smx_types.specs.declared.stream.Place.{Place}
-use Rattle.smx_model.specs.Commands.{outcome, step, after_outcome, done_outcome}
-use Rattle.smx_model.specs.Configuration.{Configuration, QueuedMessage, empty, is_at, queued_before}
-use Rattle.smx_model.specs.Histories.{after_from, after, IsLegalFrom, IsLegal}
-use Rattle.smx_model.specs.LawfulHistories.{taken_by, delivered_by, dropped_by, taken_serials, delivered_serials}
-use Rattle.smx_model.specs.LawfulHistories.{dropped_serials, AreMessagesConserved}
-use Rattle.smx_model.specs.Ordered.{with_inserted, without_first}
-use Rattle.smx_model.specs.Outcomes.{Outcome}
-use Rattle.smx_model.specs.Queues.{first_message, after_leaving}
-use Rattle.smx_model.specs.Removal.{after_sweep, serials}
-use Rattle.smx_model.specs.Settling.{after_settling_within, after_move}
+use Rattle.smx_model.specs.LawfulHistories.{taken_by, delivered_serials, dropped_serials, AreMessagesConserved}
 use Rattle.smx_model.proofs.SettledLemmas.{moved_by, settled_by}
 use Rattle.smx_model.proofs.CountLemmas.{times, times_append, times_gone, permuted}
 use Rattle.smx_model.proofs.AcceptedLemmas.{of_rows, taken}
@@ -32,24 +19,19 @@ use Rattle.smx_model.proofs.OutcomeLemmas.{IfAccepted}
 serials_placed : (n : ℕ) (hs : List QueuedMessage) (h : QueuedMessage)
     → times n (serials (with_inserted queued_before hs h)) ≡ cond (eqb h.message.serial n) 1 0 + times n (serials hs)
 serials_placed n [] h = refl
-serials_placed n (k ∷ hs) h =
-    elim (cases_Bool (queued_before h k)) [ inl t ↦ rw t refl | inr f ↦ rw f (omega (arith, serials_placed n hs h)) ]
+serials_placed n (k ∷ hs) h = grind (arith, serials_placed n hs h)
 
 -- a filtered flow has no serial more often than the flow
 serials_filter : (n : ℕ) (test : QueuedMessage → Bool) (hs : List QueuedMessage)
     → times n (serials (filter test hs)) ≤ times n (serials hs)
 serials_filter n test [] = omega arith
-serials_filter n test (h ∷ hs) = elim (cases_Bool (test h))
-    [ inl t ↦ rw t (omega (arith, serials_filter n test hs)) | inr f ↦ rw f (omega (arith, serials_filter n test hs)) ]
+serials_filter n test (h ∷ hs) = grind (arith, serials_filter n test hs)
 
 -- removing the first message of a place takes one from the count of its serial, and leaves the other counts
 serials_front : (n : ℕ) (hs : List QueuedMessage) (p : Place) (m : Message) → first_message hs p ≡ Some m
     → times n (serials hs) ≡ cond (eqb m.serial n) 1 0 + times n (serials (without_first (is_at p) hs))
 serials_front n [] p m e = cc
-serials_front n (h ∷ hs) p m e = elim (cases_Bool (is_at p h)) [
-  | inl t ↦ let k : Some h.message ≡ Some m = rw t at e in let same : h.message ≡ m = cc in rw (t, same) refl
-  | inr f ↦ rw f (omega (arith, serials_front n hs p m (rw f at e)))
-]
+serials_front n (h ∷ hs) p m e = grind (arith, serials_front n hs p m)
 
 -- the change from an old to a new configuration by a reply
 
@@ -108,22 +90,12 @@ goes_still c d r e same none given gone = record {
 -- if a message is accepted under the next serial, none is lost or duplicated
 goes_took : (drivers : List DriverSpec) (c : Configuration) (p : Place) (addr : ℕ) (bytes : List ℕ)
     → Goes c (taken drivers c p addr bytes) (reply.Took c.next_serial)
-goes_took drivers c p addr bytes = record {
-  balance = λ n.
-      omega (
-        arith,
-        serials_placed n c.flow
-            (record { place = p; message = record { serial = c.next_serial; addr = addr; bytes = bytes } }),
-      );
-  numbered = refl;
-  next = refl;
-}
+goes_took drivers c p addr bytes = grind (arith, serials_placed)
 
 -- if the first message of a place is delivered, none is lost or duplicated
 goes_got : (drivers : List DriverSpec) (c : Configuration) (p : Place) (m : Message) → first_message c.flow p ≡ Some m
     → Goes c (after_leaving drivers c p) (reply.Got m.serial m.addr m.bytes)
-goes_got drivers c p m e =
-    record { balance = λ n. omega (arith, serials_front n c.flow p m e); numbered = refl; next = omega arith }
+goes_got drivers c p m e = grind (arith, serials_front)
 
 -- an accepted command loses and duplicates no message, if queued messages have different serials
 pub goes_accepted : (drivers : List DriverSpec) (c : Configuration) (process : ℕ) (k : Command) → IsNumbered c
@@ -136,12 +108,7 @@ goes_accepted drivers c process k h =
 -- a move leaves the same serials in the flow, each as often
 pub moved_same : (n : ℕ) (drivers : List DriverSpec) (c : Configuration) (p : Place)
     → times n (serials (after_move drivers c p).flow) ≡ times n (serials c.flow)
-moved_same n drivers c p = moved_by (λ d. times n (serials d.flow) ≡ times n (serials c.flow)) drivers c p refl
-    (λ q m e. omega (
-      arith,
-      serials_front n c.flow p m e,
-      serials_placed n (after_leaving drivers c p).flow (record { place = q; message = m }),
-    ))
+moved_same n drivers c p = grind (arith, moved_by, times, serials_front, serials_placed)
 
 -- a move doesn't change the next serial
 pub moved_next : (drivers : List DriverSpec) (c : Configuration) (p : Place)
@@ -166,66 +133,36 @@ settled_keeps drivers n c = settled_by (KeepsSerials c) drivers n c (record {
 -- a command loses and duplicates no message, if its accepted outcome loses and duplicates none
 goes_finished : (drivers : List DriverSpec) (c : Configuration) (o : Outcome) → IfAccepted (Goes c) o
     → Goes c (after_outcome drivers c o).0 (after_outcome drivers c o).1
-goes_finished drivers c (Ok x) k = let s = settled_keeps drivers _ x.0 in record {
-  balance = λ n. rw (s.same n) (k.holds.balance n);
-  numbered = k.holds.numbered;
-  next = s.next ∙ k.holds.next;
-}
+goes_finished drivers c (Ok x) k = grind (arith, settled_keeps)
 goes_finished drivers c (Err f) k = record { balance = λ n. omega arith; numbered = refl; next = omega arith }
 
 -- a step loses and duplicates no message, if queued messages have different serials
 pub goes_step : (drivers : List DriverSpec) (c : Configuration) (process : ℕ) (k : Command) → IsNumbered c
     → Goes c (step drivers c process k).0 (step drivers c process k).1
-goes_step drivers c process k h =
-    goes_finished drivers c (outcome drivers c process k) (goes_accepted drivers c process k h)
+goes_step drivers c process k h = grind (arith, goes_finished, goes_accepted)
 
 -- a number below a is not among the numbers from a on
 times_range_below : (n a k : ℕ) → n < a → times n (range_with_len a k) ≡ 0
 times_range_below n a zero lt = refl
-times_range_below n a (suc k) lt =
-    rw (ne_eqb a n (λ e. omega (arith, e))) (omega (arith, times_range_below n (a + 1) k (omega arith)))
+times_range_below n a (suc k) lt = grind (arith, times_range_below n (a + 1) k (omega arith))
 
 -- a number from a + k on is not among the k numbers from a on
 times_range_above : (n a k : ℕ) → a + k ≤ n → times n (range_with_len a k) ≡ 0
 times_range_above n a zero le = refl
-times_range_above n a (suc k) le =
-    rw (ne_eqb a n (λ e. omega (arith, e))) (omega (arith, times_range_above n (a + 1) k (omega arith)))
+times_range_above n a (suc k) le = grind (arith, times_range_above n (a + 1) k (omega arith))
 
 -- no number occurs twice among the k numbers from a on
 times_range_once : (n a k : ℕ) → times n (range_with_len a k) ≤ 1
 times_range_once n a zero = omega arith
-times_range_once n a (suc k) = elim (cases_eq a n) [
-  | inl e ↦ rw (eq-eqb a n e) (omega (arith, times_range_below n (a + 1) k (omega arith)))
-  | inr ne ↦ rw (ne_eqb a n ne) (omega (arith, times_range_once n (a + 1) k))
-]
+times_range_once n a (suc k) = grind (arith, times_range_below, times_range_once n (a + 1) k)
 
 -- the queued messages have lower serials, each once
 pub numbered_goes : (c d : Configuration) (r : Reply) → IsNumbered c → Goes c d r → IsNumbered d
-numbered_goes c d r h g = record { once = at_most; below = λ n le. none n le } where
-  count : (n : ℕ) → times n (taken_by r) ≡ times n (range_with_len c.next_serial (length (taken_by r)))
-  count n = ap (times n) g.numbered
-
-  none : (n : ℕ) → d.next_serial ≤ n → times n (serials d.flow) ≡ 0
-  none n le = omega (
-    arith,
-    g.balance n,
-    count n,
-    g.next,
-    times_range_above n c.next_serial (length (taken_by r))
-        (omega (arith, g.next)),
-    h.below n (omega (arith, g.next)),
-  )
-
-  at_most : (n : ℕ) → times n (serials d.flow) ≤ 1
-  at_most n = elim (cases_lt n c.next_serial) [
-    | inl lt ↦ omega (arith, g.balance n, count n, times_range_below n c.next_serial (length (taken_by r)) lt, h.once n)
-    | inr le ↦ omega (arith, g.balance n, count n, times_range_once n c.next_serial (length (taken_by r)), h.below n le)
-  ]
+numbered_goes c d r h g = grind arith
 
 -- the k numbers from a on, and then the m numbers from a + k on, are the k + m numbers from a on
 range_join : (a k m : ℕ) → range_with_len a k ++ range_with_len (a + k) m ≡ range_with_len a (k + m)
-range_join a zero m = let e : a + 0 ≡ a = omega arith in let f : m ≡ 0 + m = omega arith in
-    ap (λ (x : ℕ). range_with_len x m) e ∙ ap (range_with_len a) f
+range_join a zero m = grind arith
 range_join a (suc k) m =
     let e : a + suc k ≡ (a + 1) + k = omega arith in
     let f : suc (k + m) ≡ suc k + m = omega arith in
@@ -244,31 +181,7 @@ ends : (drivers : List DriverSpec) (c : Configuration) (es : List Entry) → IsN
     → Ends drivers c es
 ends drivers c [] h legal = record { balance = λ n. omega arith; numbered = refl }
 ends drivers c (e ∷ es) h legal =
-    let d : Configuration = (step drivers c e.process e.command).0 in
-    let g : Goes c (step drivers c e.process e.command).0 e.reply = subst
-    (λ (r : Reply). Goes c (step drivers c e.process e.command).0 r) legal.0
-    (goes_step drivers c e.process e.command h) in
-    let i = ends drivers (step drivers c e.process e.command).0 es
-    (numbered_goes c (step drivers c e.process e.command).0 e.reply h g) legal.1 in
-    record {
-      balance = λ n. omega (
-        arith,
-        g.balance n,
-        i.balance n,
-        times_append n (taken_by e.reply) (taken_serials es),
-        times_append n (delivered_by e.reply) (delivered_serials es),
-        times_append n (dropped_by e.reply) (dropped_serials es),
-      );
-      numbered = joined c.next_serial (step drivers c e.process e.command).0.next_serial (taken_by e.reply)
-          (taken_serials es) g.numbered g.next i.numbered;
-    } where
-      joined : (a b : ℕ) (xs ys : List ℕ) → xs ≡ range_with_len a (length xs) → b ≡ a + length xs
-          → ys ≡ range_with_len b (length ys) → xs ++ ys ≡ range_with_len a (length (xs ++ ys))
-      joined a b xs ys h next k = let j = range_join a (length xs) (length ys) in
-          let l = length-append xs ys in
-          ap (λ (zs : List ℕ). zs ++ ys) h
-          ∙ (ap (λ (zs : List ℕ). range_with_len a (length xs) ++ zs)
-          (k ∙ ap (λ (m : ℕ). range_with_len m (length ys)) next) ∙ (j ∙ ap (range_with_len a) (sym l)))
+    grind (arith, goes_step, ends drivers (step drivers c e.process e.command).0 es, numbered_goes, times_append)
 
 -- no message is queued in the empty configuration, so queued messages have different serials
 pub numbered_empty : IsNumbered empty
@@ -282,13 +195,4 @@ numbered_from_one drivers history legal = (ends drivers empty history numbered_e
 -- a legal history loses and duplicates no message
 pub conserving : (drivers : List DriverSpec) (history : List Entry) → IsLegal drivers history
     → AreMessagesConserved history (after drivers history)
-conserving drivers history legal = let e = ends drivers empty history numbered_empty legal in
-    permuted (taken_serials history)
-    (delivered_serials history ++ (dropped_serials history ++ serials (after drivers history).flow))
-    (λ n. omega (
-      arith,
-      e.balance n,
-      times_append n (delivered_serials history)
-          (dropped_serials history ++ serials (after drivers history).flow),
-      times_append n (dropped_serials history) (serials (after drivers history).flow),
-    ))
+conserving drivers history legal = grind (arith, ends, numbered_empty, permuted, times_append)

@@ -1,12 +1,10 @@
 -- The number of occurrences of a number in a list.
-use Rattle.std.proofs.Common.{◌≡◌, ℕ, ◌+◌, ◌≤◌, Bool, true, false, not, cond, eqb, ltb, List, [], ◌∷◌, ◌++◌, filter}
-use Rattle.std.proofs.Common.{refl, sym, ap, ◌∙◌, subst, arith, inl, inr}
-use Rattle.std.specs.List.{list_any}
-use Rattle.std.specs.List.Sorted.{IsPermutation}
-use Rattle.std.proofs.lemmas.Bool.{cases_Bool, cases_eq, eqb-true, eq-eqb, ne_eqb, false≢true, or_cases, or_parts}
+use Rattle.smx_model.proofs.Common.{◌≡◌, ℕ, ◌+◌, ◌≤◌, Bool, true, false, not, cond, eqb, List, [], ◌∷◌, ◌++◌, filter}
+use Rattle.smx_model.proofs.Common.{refl, sym, subst, arith, inl, inr, list_any, IsPermutation, cases_Bool, eq-eqb}
+use Rattle.smx_model.proofs.Common.{false≢true, with_inserted, in_rising_order, without_first, nat_tests}
+use Rattle.std.proofs.Common.{ltb}
 use Rattle.std.proofs.lemmas.List.Sorted.{IsPermutation-refl, IsPermutation-cons, IsPermutation-trans}
 use Rattle.std.proofs.lemmas.List.Sorted.{IsPermutation-sym, IsPermutation-to_front, IsPermutation-append_left}
-use Rattle.smx_model.specs.Ordered.{with_inserted, in_rising_order, without_first}
 
 -- the number of occurrences of n in a list
 abbrev pub times : ℕ → List ℕ → ℕ
@@ -21,8 +19,7 @@ times_append n (x ∷ xs) ys = omega (arith, times_append n xs ys)
 -- inserting a number adds one to its count, and leaves the other counts
 times_placed : (n : ℕ) (xs : List ℕ) (x : ℕ) → times n (with_inserted ltb xs x) ≡ cond (eqb x n) 1 0 + times n xs
 times_placed n [] x = refl
-times_placed n (y ∷ ys) x =
-    elim (cases_Bool (ltb x y)) [ inl t ↦ rw t refl | inr f ↦ rw f (omega (arith, times_placed n ys x)) ]
+times_placed n (y ∷ ys) x = grind (arith, times_placed n ys x)
 
 -- sorting leaves all counts
 pub times_rising : (n : ℕ) (xs : List ℕ) → times n (in_rising_order xs) ≡ times n xs
@@ -32,55 +29,23 @@ times_rising n (x ∷ xs) = omega (arith, times_placed n (in_rising_order xs) x,
 -- a filter leaves the count of a number that passes, and makes that of one that fails 0
 pub times_filter : (n : ℕ) (test : ℕ → Bool) (xs : List ℕ) → times n (filter test xs) ≡ cond (test n) (times n xs) 0
 times_filter n test [] = elim (cases_Bool (test n)) [ inl t ↦ rw t refl | inr f ↦ rw f refl ]
-times_filter n test (x ∷ xs) = elim (cases_eq x n) [
-  | inl e ↦ elim (cases_Bool (test n)) [
-    | inl t ↦ let k : test x ≡ true = ap test e ∙ t in let i = times_filter n test xs in
-        let j : times n (filter test xs) ≡ times n xs = rw t at i in rw (k, t) (omega (arith, j))
-    | inr f ↦ let k : test x ≡ false = ap test e ∙ f in let i = times_filter n test xs in
-        let j : times n (filter test xs) ≡ 0 = rw f at i in rw (k, f) j
-  ]
-  | inr ne ↦ let z : eqb x n ≡ false = ne_eqb x n ne in let i = times_filter n test xs in
-      elim (cases_Bool (test n)) [
-        | inl t ↦ let j : times n (filter test xs) ≡ times n xs = rw t at i in
-            elim (cases_Bool (test x)) [
-              | inl u ↦ rw (u, t, z) (omega (arith, j))
-              | inr u ↦
-                  rw (u, t, z) (omega (arith, j))
-            ]
-        | inr f ↦ let j : times n (filter test xs) ≡ 0 = rw f at i in
-            elim (cases_Bool (test x)) [ inl u ↦ rw (u, f, z) (omega (arith, j)) | inr u ↦ rw (u, f) j ]
-      ]
-]
+times_filter n test (x ∷ xs) = grind (arith, times_filter n test xs, times n (filter test xs), times n xs)
 
 -- a number that equals no element has the count 0
 pub times_none : (n : ℕ) (xs : List ℕ) → list_any (λ m. eqb n m) xs ≡ false → times n xs ≡ 0
 times_none n [] h = refl
-times_none n (x ∷ xs) h = let p = or_parts (eqb n x) (list_any (λ m. eqb n m) xs) h in
-    elim (cases_eq x n) [
-      | inl e ↦ absurd (false≢true (sym p.0 ∙ eq-eqb n x (sym e)))
-      | inr ne ↦
-          rw (ne_eqb x n ne) (omega (arith, times_none n xs p.1))
-    ]
+times_none n (x ∷ xs) h = grind (arith, times_none n xs)
 
 -- a number that equals some element has a count of at least one
 pub times_some : (n : ℕ) (xs : List ℕ) → list_any (λ m. eqb n m) xs ≡ true → 1 ≤ times n xs
 times_some n [] h = absurd (false≢true h)
-times_some n (x ∷ xs) h = elim (or_cases (eqb n x) (list_any (λ m. eqb n m) xs) h)
-    [ inl e ↦ rw (eq-eqb x n (sym (eqb-true n x e))) (omega arith) | inr r ↦ omega (arith, times_some n xs r) ]
+times_some n (x ∷ xs) h = grind (arith, times_some n xs)
 
 -- if a number is at most once in the old list, and no more often in the new one, the removed numbers and the new list
 -- together have it as often as the old list
 pub times_gone : (n : ℕ) (old new : List ℕ) → times n new ≤ times n old → times n old ≤ 1
     → times n (in_rising_order (filter (λ m. not (list_any (λ k. eqb m k) new)) old)) + times n new ≡ times n old
-times_gone n old new fewer once =
-    let r = times_rising n (filter (λ m. not (list_any (λ k. eqb m k) new)) old) in
-    let f = times_filter n (λ m. not (list_any (λ k. eqb m k) new)) old in
-    elim (cases_Bool (list_any (λ k. eqb n k) new)) [
-      | inl t ↦ let g : times n (filter (λ m. not (list_any (λ k. eqb m k) new)) old) ≡ 0 = rw t at f in
-          omega (arith, g, r, times_some n new t)
-      | inr u ↦ let g : times n (filter (λ m. not (list_any (λ k. eqb m k) new)) old) ≡ times n old = rw u at f in
-          omega (arith, g, r, times_none n new u)
-    ]
+times_gone n old new fewer once = grind (arith, times_rising, times_filter, times, times_some, times_none)
 
 -- the list without the first occurrence of this number
 abbrev without_one : ℕ → List ℕ → List ℕ
@@ -94,22 +59,21 @@ swap_two x y xs = IsPermutation-append_left xs (x ∷ y ∷ []) (y ∷ x ∷ [])
 -- moving one number of a list to its front permutes it
 one_in_front : (n : ℕ) (xs : List ℕ) → 1 ≤ times n xs → IsPermutation (n ∷ without_one n xs) xs
 one_in_front n [] h = absurd (omega arith)
-one_in_front n (x ∷ xs) h = elim (cases_eq x n) [
-  | inl e ↦ rw (eq-eqb x n e) (subst (λ (y : ℕ). IsPermutation (n ∷ xs) (y ∷ xs)) (sym e) (IsPermutation-refl (n ∷ xs)))
-  | inr ne ↦ let z : eqb x n ≡ false = ne_eqb x n ne in
-      rw z (IsPermutation-trans (n ∷ x ∷ without_one n xs) (x ∷ n ∷ without_one n xs) (x ∷ xs)
-      (swap_two n x (without_one n xs))
-      (IsPermutation-cons x (n ∷ without_one n xs) xs (one_in_front n xs (omega (arith, rw z at h)))))
-]
+one_in_front n (x ∷ xs) h =
+    grind (
+      arith,
+      nat_tests,
+      IsPermutation-refl (n ∷ xs),
+      IsPermutation-trans (n ∷ x ∷ without_one n xs) (x ∷ n ∷ without_one n xs) (x ∷ xs) (swap_two n x (without_one n xs)),
+      swap_two n x (without_one n xs),
+      IsPermutation-cons x (n ∷ without_one n xs) xs,
+      one_in_front n xs,
+    )
 
 -- removing one occurrence of a number takes one from its count, and leaves the other counts
 times_without : (n m : ℕ) (xs : List ℕ) → 1 ≤ times m xs → times n xs ≡ cond (eqb m n) 1 0 + times n (without_one m xs)
 times_without n m [] h = absurd (omega arith)
-times_without n m (x ∷ xs) h = elim (cases_eq x m) [
-  | inl e ↦ rw (eq-eqb x m e) (rw e refl)
-  | inr ne ↦ let z : eqb x m ≡ false = ne_eqb x m ne in
-      rw z (omega (arith, times_without n m xs (omega (arith, rw z at h))))
-]
+times_without n m (x ∷ xs) h = grind (arith, times_without n m xs)
 
 -- a list in which each number has the count 0 is empty
 none_counted : (xs : List ℕ) → ((n : ℕ) → 0 ≡ times n xs) → xs ≡ []
@@ -120,9 +84,14 @@ none_counted (x ∷ xs) h = let k = h x in absurd (omega (arith, rw (eq-eqb x x 
 pub permuted : (xs ys : List ℕ) → ((n : ℕ) → times n xs ≡ times n ys) → IsPermutation xs ys
 permuted [] ys h = subst (λ (zs : List ℕ). IsPermutation [] zs) (sym (none_counted ys h)) (IsPermutation-refl [])
 permuted (x ∷ xs) ys h =
-    let k = h x in
-    let some : 1 ≤ times x ys = omega (arith, rw (eq-eqb x x refl) at k) in
-    IsPermutation-trans (x ∷ xs) (x ∷ without_one x ys) ys
-    (IsPermutation-cons x xs (without_one x ys)
-    (permuted xs (without_one x ys) (λ n. omega (arith, h n, times_without n x ys some))))
-    (one_in_front x ys some)
+    grind (
+      arith,
+      nat_tests,
+      h x,
+      times x ys,
+      IsPermutation-trans (x ∷ xs) (x ∷ without_one x ys) ys,
+      IsPermutation-cons x xs (without_one x ys),
+      permuted xs (without_one x ys),
+      times_without,
+      one_in_front x ys,
+    )

@@ -1,31 +1,17 @@
 -- Messages keep their serial, address and bytes from acceptance to delivery.
-use Rattle.std.proofs.Common.{◌≡◌, ◌⊎◌, ℕ, Bool, List, [], ◌∷◌, ◌++◌, Some, Ok, Err, refl}
-use Rattle.std.proofs.Common.{rules, ap, sym, ◌∙◌, subst, inl, inr}
-use Rattle.std.specs.List.{All}
-use Rattle.std.proofs.lemmas.Bool.{cases_Bool}
-use Rattle.smx_types.specs.declared.command.Command.{Command}
+use Rattle.smx_model.proofs.Common.{◌≡◌, ◌⊎◌, ℕ, Bool, List, [], ◌∷◌, ◌++◌, Some, Ok, Err, refl, rules}
+use Rattle.smx_model.proofs.Common.{subst, inl, inr, All, Command, Entry, DriverSpec, Message, Reply, Place}
+use Rattle.smx_model.proofs.Common.{outcome, step, after_outcome, done_outcome, Configuration, QueuedMessage, empty}
+use Rattle.smx_model.proofs.Common.{queued_before, after, after_from, IsLegal, IsLegalFrom, without_first}
+use Rattle.smx_model.proofs.Common.{Outcome, first_message, after_leaving, delivered_by, IsTakenIn, Sends}
+use Rattle.smx_model.proofs.Common.{after_settling, AllByRecursion, All-from_recursion, arith}
 use Rattle.smx_types.specs.declared.command.Command.TheVariants as command
-use Rattle.smx_types.specs.declared.command.Entry.{Entry}
-use Rattle.smx_types.specs.declared.driver.DriverSpec.{DriverSpec}
-use Rattle.smx_types.specs.declared.message.Message.{Message}
-use Rattle.smx_types.specs.declared.reply.Reply.{Reply}
 use Rattle.smx_types.specs.declared.reply.Reply.TheVariants as reply
-use Rattle.smx_types.specs.declared.stream.Place.{Place}
-use Rattle.smx_model.specs.Commands.{outcome, step, after_outcome, done_outcome}
-use Rattle.smx_model.specs.Configuration.{Configuration, QueuedMessage, empty, is_at, queued_before}
-use Rattle.smx_model.specs.Histories.{after, after_from, IsLegal, IsLegalFrom}
-use Rattle.smx_model.specs.Ordered.{without_first}
-use Rattle.smx_model.specs.Outcomes.{Outcome}
-use Rattle.smx_model.specs.Queues.{first_message, after_leaving}
-use Rattle.smx_model.specs.LawfulHistories.{delivered_by, IsTakenIn, Sends}
-use Rattle.smx_model.specs.Settling.{after_settling}
 use Rattle.smx_model.proofs.SettledLemmas.{MovesKeep, moved_by, settled_by}
 use Rattle.smx_model.proofs.EachLemmas.{each_filter, each_map, each_placed}
 use Rattle.smx_model.proofs.MemberLemmas.{is_first, is_later}
 use Rattle.smx_model.proofs.AcceptedLemmas.{of_rows, taken}
 use Rattle.smx_model.proofs.OutcomeLemmas.{IfAccepted}
-use Rattle.std.specs.List.{AllByRecursion}
-use Rattle.std.proofs.lemmas.List.Elements.{All-from_recursion}
 
 -- P holds of each queued message
 abbrev OfEach : (Message → Type 0) → List QueuedMessage → Type 0
@@ -35,17 +21,13 @@ OfEach P hs = AllByRecursion (λ h. P h.message) hs
 first_has : (P : Message → Type 0) (hs : List QueuedMessage) (p : Place) (m : Message) → first_message hs p ≡ Some m
     → OfEach P hs → P m
 first_has P [] p m e h = cc
-first_has P (k ∷ ks) p m e h = elim (cases_Bool (is_at p k)) [
-  | inl t ↦ let s : Some k.message ≡ Some m = rw t at e in let same : k.message ≡ m = cc in subst P same h.0
-  | inr f ↦ first_has P ks p m (rw f at e) h.1
-]
+first_has P (k ∷ ks) p m e h = grind (arith, first_has P ks p m)
 
 -- a property of all messages of a flow holds of those without the first that passes a test
 rest_has : (P : Message → Type 0) (test : QueuedMessage → Bool) (hs : List QueuedMessage) → OfEach P hs
     → OfEach P (without_first test hs)
 rest_has P test [] h = tt
-rest_has P test (k ∷ ks) h =
-    elim (cases_Bool (test k)) [ inl t ↦ rw t h.1 | inr f ↦ rw f (h.0, rest_has P test ks h.1) ]
+rest_has P test (k ∷ ks) h = grind (arith, rest_has P test ks h.1)
 
 -- the messages that a command leaves and delivers
 
@@ -63,18 +45,12 @@ each_was_there P k r hs h = each_map _ _ hs (λ x p. inl p) h
 -- if all remaining messages were queued before, and the reply delivers none, no message is new
 carries_still : (P : Message → Type 0) (k : Command) (d : Configuration) (r : Reply) → OfEach P d.flow
     → delivered_by r ≡ [] → Carries P k d r
-carries_still P k d r h none = record {
-  flow = each_was_there P k r d.flow h;
-  got = λ m e. let none_is : [] ≡ m.serial ∷ [] = sym none ∙ ap delivered_by e in cc;
-}
+carries_still P k d r h none = grind (arith, each_was_there P k r d.flow h)
 
 -- if all messages before a sweep were queued before, so were those after it, and none is delivered
 carries_done : (P : Message → Type 0) (k : Command) (drivers : List DriverSpec) (c d : Configuration) → OfEach P d.flow
     → IfAccepted (Carries P k) (done_outcome drivers c d)
-carries_done P k drivers c d h =
-    record {
-      holds = record { flow = each_was_there P k _ _ (each_filter _ _ _ (each_filter _ _ d.flow h)); got = λ m e. cc };
-    }
+carries_done P k drivers c d h = grind (arith, each_was_there, each_filter)
 
 -- a message accepted under the next serial has the address and the bytes that were sent, and all others
 -- were queued before
@@ -92,16 +68,7 @@ carries_took P k drivers c p addr bytes sends h = record {
 carries_got : (P : Message → Type 0) (k : Command) (drivers : List DriverSpec) (c : Configuration) (p : Place)
     (m : Message) → first_message c.flow p ≡ Some m → OfEach P c.flow
     → Carries P k (after_leaving drivers c p) (reply.Got m.serial m.addr m.bytes)
-carries_got P k drivers c p m e h = record {
-  flow = each_was_there P k _ _ (rest_has P (is_at p) c.flow h);
-  got = λ n f. subst P (same m.serial m.addr n.serial n.addr m.bytes n.bytes f) (first_has P c.flow p m e h);
-} where
-  message : ℕ → ℕ → List ℕ → Message
-  message a b bs = record { serial = a; addr = b; bytes = bs }
-
-  same : (a b x y : ℕ) (bs zs : List ℕ) → reply.Got a b bs ≡ reply.Got x y zs → message a b bs ≡ message x y zs
-  same a b x y bs zs e = let f : a ≡ x = cc in let g : b ≡ y = cc in let i : bs ≡ zs = cc in
-      ap (λ (n : ℕ). message n b bs) f ∙ (ap (λ (n : ℕ). message x n bs) g ∙ ap (message x y) i)
+carries_got P k drivers c p m e h = grind (arith, each_was_there, rest_has, first_has)
 
 -- an accepted command leaves messages that were queued before or that it accepted, and delivers one that
 -- was queued before
@@ -129,11 +96,7 @@ carries_accepted P drivers c process k h = search (
 
 -- a property of all messages of a flow holds of all after a move
 moved_has : (P : Message → Type 0) (drivers : List DriverSpec) → MovesKeep (λ d. OfEach P d.flow) drivers
-moved_has P drivers = record {
-  each = λ c p h. moved_by (λ d. OfEach P d.flow) drivers c p h
-      (λ q m e. each_placed _ queued_before _ (record { place = q; message = m }) (first_has P c.flow p m e h)
-      (rest_has P (is_at p) c.flow h));
-}
+moved_has P drivers = grind (arith, moved_by, each_placed, first_has, rest_has)
 
 -- a step
 
@@ -148,8 +111,7 @@ carries_finished P drivers c k (Ok x) h m = record { flow = settled; got = m.hol
 
   settled : OfEach Q (after_settling drivers x.0).flow
   settled = settled_by (λ d. OfEach Q d.flow) drivers _ x.0 (moved_has Q drivers) m.holds.flow
-carries_finished P drivers c k (Err f) h m =
-    record { flow = each_was_there P k (reply.Fault f) c.flow h; got = λ m e. cc }
+carries_finished P drivers c k (Err f) h m = grind (arith, each_was_there P k (reply.Fault f) c.flow h)
 
 -- P holds of the message, or this entry accepted it
 abbrev Known : (Message → Type 0) → Entry → Message → Type 0

@@ -1,28 +1,12 @@
 -- The commands that drop messages.
-use Rattle.std.proofs.Common.{◌≡◌, ℕ, Bool, true, false, not, eqb, List, [], ◌∷◌, filter, Ok, Err, refl, rules}
-use Rattle.std.proofs.Common.{sym, ap, ◌∙◌, inl, inr}
-use Rattle.std.specs.List.{list_any, list_all}
-use Rattle.std.proofs.lemmas.Bool.{cases_Bool, and_parts, and_from, or_left, or_right, eq-eqb, false≢true}
-use Rattle.std.specs.List.{AllByRecursion}
-use Rattle.std.proofs.lemmas.List.Elements.{All-from_recursion}
-use Rattle.smx_types.specs.declared.command.Command.{Command}
-use Rattle.smx_types.specs.declared.command.Entry.{Entry}
-use Rattle.smx_types.specs.declared.driver.DriverSpec.{DriverSpec}
-use Rattle.smx_types.specs.declared.reply.Fault.TheVariants.{NotMux}
+use Rattle.smx_model.proofs.Common.{◌≡◌, ℕ, Bool, true, false, not, eqb, List, [], ◌∷◌, filter, Ok, refl, sym, ap, ◌∙◌}
+use Rattle.smx_model.proofs.Common.{list_any, list_all, and_parts, and_from, or_left, eq-eqb, AllByRecursion}
+use Rattle.smx_model.proofs.Common.{All-from_recursion, Command, Entry, DriverSpec, StreamId, outcome, step}
+use Rattle.smx_model.proofs.Common.{done_outcome, Configuration, QueuedMessage, empty, stream_before, IsLegal}
+use Rattle.smx_model.proofs.Common.{IsLegalFrom, IsKept, dropped_by, AreDropsAllowed, mux_stream, in_rising_order}
+use Rattle.smx_model.proofs.Common.{Outcome, serials_that_left, serials, exists, IsSwept, is_hung, with_hung, arith}
 use Rattle.smx_types.specs.declared.reply.Reply.TheVariants.{Done}
-use Rattle.smx_types.specs.declared.stream.StreamId.{StreamId}
-use Rattle.smx_model.specs.Commands.{outcome, step, after_outcome, done_outcome}
-use Rattle.smx_model.specs.Configuration.{Configuration, QueuedMessage, empty, stream_before}
-use Rattle.smx_model.specs.DriverList.{is_mux}
-use Rattle.smx_model.specs.Histories.{IsLegal, IsLegalFrom}
-use Rattle.smx_model.specs.KeptConfigurations.{IsKept}
-use Rattle.smx_model.specs.LawfulHistories.{dropped_by, may_drop, AreDropsAllowed}
-use Rattle.smx_model.specs.Lookups.{free_stream, mux_stream}
-use Rattle.smx_model.specs.Ordered.{in_rising_order}
-use Rattle.smx_model.specs.Outcomes.{Outcome}
-use Rattle.smx_model.specs.Removal.{serials_that_left, serials}
-use Rattle.smx_model.specs.Standing.{exists}
-use Rattle.smx_model.specs.Swept.{IsSwept}
+use Rattle.smx_model.specs.LawfulHistories.{may_drop}
 use Rattle.smx_model.proofs.IdleSweepLemmas.{swept_idle}
 use Rattle.smx_model.proofs.KeptLemmas.{empty_kept, step_keeps}
 use Rattle.smx_model.proofs.AcceptedLemmas.{of_rows, at_none}
@@ -30,7 +14,6 @@ use Rattle.smx_model.proofs.LookupLemmas.{tested}
 use Rattle.smx_model.proofs.OutcomeLemmas.{IfAccepted, at_ok}
 use Rattle.smx_model.proofs.SweptLemmas.{free_exists, leaf_exists}
 use Rattle.smx_model.proofs.TestLemmas.{all_filter, all_placed}
-use Rattle.smx_model.specs.Hangups.{is_hung, with_hung}
 
 -- if all numbers are in a list, none is left without those of the list
 all_there : (ms ns : List ℕ) → list_all (λ n. list_any (λ m. eqb n m) ms) ns ≡ true
@@ -42,8 +25,7 @@ all_there ms (n ∷ ns) h = let p = and_parts (list_any (λ m. eqb n m) ms) _ h 
 in_more : (m : ℕ) (ms ns : List ℕ) → list_all (λ n. list_any (λ k. eqb n k) ms) ns ≡ true
     → list_all (λ n. list_any (λ k. eqb n k) (m ∷ ms)) ns ≡ true
 in_more m ms [] h = refl
-in_more m ms (n ∷ ns) h =
-    let p = and_parts (list_any (λ k. eqb n k) ms) _ h in and_from _ _ (or_right _ _ p.0) (in_more m ms ns p.1)
+in_more m ms (n ∷ ns) h = grind (arith, in_more m ms ns)
 
 -- the numbers of a list are all in it
 in_itself : (ns : List ℕ) → list_all (λ n. list_any (λ k. eqb n k) ns) ns ≡ true
@@ -57,10 +39,7 @@ none_gone flow = ap in_rising_order (all_there (serials flow) (serials flow) (in
 -- a change that leaves nothing to sweep and keeps the flow is done with no message dropped
 pub done_idle : (drivers : List DriverSpec) (c new : Configuration) → IsSwept drivers new → new.flow ≡ c.flow
     → done_outcome drivers c new ≡ Ok (new, Done [])
-done_idle drivers c new clean same =
-    ap (λ (d : Configuration). Ok (d, Done (serials_that_left c.flow d.flow))) (swept_idle drivers new clean)
-    ∙ (ap (λ (f : List QueuedMessage). Ok (new, Done (serials_that_left c.flow f))) same
-    ∙ ap (λ (ns : List ℕ). Ok (new, Done ns)) (none_gone c.flow))
+done_idle drivers c new clean same = grind (arith, swept_idle drivers new clean, none_gone c.flow)
 
 -- if an outcome is accepted, it names no dropped messages
 abbrev DropsNone : Outcome → Type 0
@@ -74,8 +53,7 @@ idle_drops drivers c d clean same = rw (done_idle drivers c d clean same) (at_ok
 -- a multiplexer's stream that a descriptor names, and that is not linked below, exists
 pub mux_exists : (drivers : List DriverSpec) (c : Configuration) (process fd : ℕ) (s : StreamId)
     → mux_stream drivers c process fd ≡ Ok s → exists drivers c s ≡ true
-mux_exists drivers c process fd s e = free_exists drivers c process fd s
-    (tested NotMux (free_stream c process fd) (λ t. not (is_mux drivers t.driver)) s e).0
+mux_exists drivers c process fd s e = grind (arith, free_exists, tested)
 
 -- a swept configuration stays swept when a stream that exists hangs up
 pub hung_swept : (drivers : List DriverSpec) (c : Configuration) (s : StreamId) → IsSwept drivers c
@@ -94,32 +72,13 @@ hung_swept drivers c s h e = record {
 -- an accepted command that may not drop names no dropped messages
 drops_accepted : (drivers : List DriverSpec) (c : Configuration) (process : ℕ) (k : Command) → may_drop k ≡ false
     → IsSwept drivers c → DropsNone (outcome drivers c process k)
-drops_accepted drivers c process k never h = search (
-  of_rows,
-  idle_drops,
-  all_placed,
-  all_filter,
-  hung_swept,
-  mux_exists,
-  leaf_exists,
-  at_none,
-  drops,
-  rules,
-) depth 24 where
-  drops : (x : Command) → k ≡ x → may_drop x ≡ true → ⊥
-  drops x e may = false≢true (sym never ∙ (ap may_drop e ∙ may))
+drops_accepted drivers c process k never h =
+    grind (arith, of_rows, idle_drops, all_placed, all_filter, hung_swept, mux_exists, leaf_exists, at_none)
 
 -- a command whose reply names dropped messages may drop messages
 pub step_drops : (drivers : List DriverSpec) (c : Configuration) (process : ℕ) (k : Command) → IsSwept drivers c
     → (dropped_by (step drivers c process k).1 ≡ [] → ⊥) → may_drop k ≡ true
-step_drops drivers c process k h some = elim (cases_Bool (may_drop k)) [
-  | inl may ↦ may
-  | inr never ↦
-      absurd (some (by (outcome drivers c process k) (drops_accepted drivers c process k never h)))
-] where
-  by : (o : Outcome) → DropsNone o → dropped_by (after_outcome drivers c o).1 ≡ []
-  by (Ok x) m = m.holds
-  by (Err f) m = refl
+step_drops drivers c process k h some = grind (arith, drops_accepted drivers c process k)
 
 -- each entry of a history that is legal from here names dropped messages only if its command may drop
 drops_from : (drivers : List DriverSpec) (c : Configuration) (es : List Entry) → IsKept drivers c

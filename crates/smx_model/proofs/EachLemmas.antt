@@ -1,17 +1,13 @@
 -- Properties of all elements of a list, and of each with all later ones, by recursion.
-use Rattle.std.proofs.Common.{◌≡◌, suc, Bool, false, arith, List, [], ◌∷◌, ◌++◌, filter, find, Some, subst, inl}
-use Rattle.std.proofs.Common.{inr, true}
-use Rattle.std.specs.List.{list_any, AllByRecursion, AllPairs, list_all}
-use Rattle.std.proofs.lemmas.Bool.{cases_Bool, and_parts, or_parts}
-use Rattle.std.proofs.lemmas.List.Elements.{recursion_from_All}
-use Rattle.smx_model.specs.Ordered.{AllLater, with_inserted, without_first}
+use Rattle.smx_model.proofs.Common.{◌≡◌, suc, Bool, false, arith, List, [], ◌∷◌, ◌++◌, filter, find, Some, inl}
+use Rattle.smx_model.proofs.Common.{inr, true, list_any, AllByRecursion, AllPairs, list_all, cases_Bool}
+use Rattle.smx_model.proofs.Common.{or_parts, recursion_from_All, AllLater, with_inserted, without_first}
 
 -- a property of all elements holds of all that a filter keeps
 pub each_filter : {X : Type 0} (P : X → Type 0) (test : X → Bool) (xs : List X) → AllByRecursion P xs
     → AllByRecursion P (filter test xs)
 each_filter P test [] h = tt
-each_filter P test (x ∷ xs) h = elim (cases_Bool (test x))
-    [ inl t ↦ rw t (h.0, each_filter P test xs h.1) | inr f ↦ rw f (each_filter P test xs h.1) ]
+each_filter P test (x ∷ xs) h = grind (arith, each_filter P test xs h.1)
 
 -- a property of all elements and of one more holds of all after that one is inserted
 pub each_placed : {X : Type 0} (P : X → Type 0) (before : X → X → Bool) (xs : List X) (x : X) → P x
@@ -31,10 +27,7 @@ each_push P (y ∷ ys) x p h = (h.0, each_push P ys x p h.1)
 pub each_find : {X : Type 0} (P : X → Type 0) (test : X → Bool) (xs : List X) (x : X) → find test xs ≡ Some x
     → AllByRecursion P xs → P x
 each_find P test [] x e h = cc
-each_find P test (y ∷ ys) x e h = elim (cases_Bool (test y)) [
-  | inl t ↦ let k : Some y ≡ Some x = rw t at e in let same : y ≡ x = cc in subst P same h.0
-  | inr f ↦ each_find P test ys x (rw f at e) h.1
-]
+each_find P test (y ∷ ys) x e h = grind (arith, each_find P test ys x)
 
 -- if P implies Q and P holds of all elements, Q holds of all
 pub each_map : {X : Type 0} (P Q : X → Type 0) (xs : List X) → ((x : X) → P x → Q x) → AllByRecursion P xs
@@ -52,8 +45,7 @@ each_both P Q (x ∷ xs) h k = ((h.0, k.0), each_both P Q xs h.1 k.1)
 pub each_of_list_all : {X : Type 0} (t : X → Bool) (P : X → Type 0) (xs : List X) → ((x : X) → t x ≡ true → P x)
     → list_all t xs ≡ true → AllByRecursion P xs
 each_of_list_all t P [] f e = tt
-each_of_list_all t P (x ∷ xs) f e =
-    let p = and_parts (t x) (list_all t xs) e in (f x p.0, each_of_list_all t P xs f p.1)
+each_of_list_all t P (x ∷ xs) f e = grind (arith, f x, each_of_list_all t P xs f)
 
 -- if no element passes a test, and P holds of what fails, P holds of all
 pub none_passes : {X : Type 0} (t : X → Bool) (P : X → Type 0) (xs : List X) → ((x : X) → t x ≡ false → P x)
@@ -65,15 +57,13 @@ none_passes t P (x ∷ xs) f e = let p = or_parts (t x) (list_any t xs) e in (f 
 pub kept_passes : {X : Type 0} (t : X → Bool) (P : X → Type 0) (xs : List X) → ((x : X) → t x ≡ true → P x)
     → AllByRecursion P (filter t xs)
 kept_passes t P [] f = tt
-kept_passes t P (x ∷ xs) f =
-    elim (cases_Bool (t x)) [ inl k ↦ rw k (f x k, kept_passes t P xs f) | inr k ↦ rw k (kept_passes t P xs f) ]
+kept_passes t P (x ∷ xs) f = grind (arith, f x, kept_passes t P xs f)
 
 -- a property of all elements holds of all except the first that passes a test
 pub each_without_first : {X : Type 0} (P : X → Type 0) (test : X → Bool) (xs : List X) → AllByRecursion P xs
     → AllByRecursion P (without_first test xs)
 each_without_first P test [] h = tt
-each_without_first P test (x ∷ xs) h =
-    elim (cases_Bool (test x)) [ inl t ↦ rw t h.1 | inr f ↦ rw f (h.0, each_without_first P test xs h.1) ]
+each_without_first P test (x ∷ xs) h = grind (arith, each_without_first P test xs h.1)
 
 -- a property of all values holds of each element
 pub each_of_every : {X : Type 0} (P : X → Type 0) (xs : List X) → ((x : X) → P x) → AllByRecursion P xs
@@ -84,20 +74,13 @@ each_of_every P (x ∷ xs) f = (f x, each_of_every P xs f)
 pub later_filter : {X : Type 0} (R : X → X → Type 0) (keep : X → Bool) (xs : List X) → AllLater R xs
     → AllLater R (filter keep xs)
 later_filter R keep [] h = tt
-later_filter R keep (x ∷ xs) h = elim (cases_Bool (keep x)) [
-  | inl t ↦ rw t (each_filter (R x) keep xs h.0, later_filter R keep xs h.1)
-  | inr f ↦
-      rw f (later_filter R keep xs h.1)
-]
+later_filter R keep (x ∷ xs) h = grind (arith, each_filter (R x) keep xs h.0, later_filter R keep xs h.1)
 
 -- if each element is related to all later ones, so it is without the first that passes a test
 pub later_without_first : {X : Type 0} (R : X → X → Type 0) (test : X → Bool) (xs : List X) → AllLater R xs
     → AllLater R (without_first test xs)
 later_without_first R test [] h = tt
-later_without_first R test (x ∷ xs) h = elim (cases_Bool (test x)) [
-  | inl t ↦ rw t h.1
-  | inr f ↦ rw f (each_without_first (R x) test xs h.0, later_without_first R test xs h.1)
-]
+later_without_first R test (x ∷ xs) h = grind (arith, each_without_first, later_without_first R test xs h.1)
 
 -- if R implies S, and each element is related by R to all later ones, it is related to them by S
 pub later_map : {X : Type 0} (R S : X → X → Type 0) (xs : List X) → ((x y : X) → R x y → S x y) → AllLater R xs
@@ -118,10 +101,8 @@ pub later_placed : {X : Type 0} (R : X → X → Type 0) (before : X → X → B
     → ((y : X) → before x y ≡ true → R x y) → ((y z : X) → before x y ≡ true → R y z → R x z) → (xs : List X)
     → AllByRecursion (λ y. before x y ≡ false → R y x) xs → AllLater R xs → AllLater R (with_inserted before xs x)
 later_placed R before x first later [] other h = (tt, tt)
-later_placed R before x first later (y ∷ ys) other h = elim (cases_Bool (before x y)) [
-  | inl t ↦ rw t ((first y t, each_map (R y) (R x) ys (λ z. later y z t) h.0), h)
-  | inr f ↦ rw f (each_placed (R y) before ys x (other.0 f) h.0, later_placed R before x first later ys other.1 h.1)
-]
+later_placed R before x first later (y ∷ ys) other h =
+    grind (arith, each_map, each_placed, later_placed R before x first later ys other.1 h.1)
 
 -- a relation of each element to all later ones, by index, also holds by recursion
 pub later_pairs : {X : Type 0} (R : X → X → Type 0) (xs : List X) → AllPairs R xs → AllLater R xs

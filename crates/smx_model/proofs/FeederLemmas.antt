@@ -1,14 +1,8 @@
 -- The places that can feed a place, and the place that a move frees.
-use Rattle.std.proofs.Common.{◌≡◌, Bool, true, false, ◌&&◌, not, List, Option}
-use Rattle.std.proofs.Common.{Some, None, refl, ap, ◌∙◌, inl, inr}
-use Rattle.std.proofs.lemmas.Bool.{both_ways, cases_Bool, and_parts, or_left}
-use Rattle.std.proofs.lemmas.Bool.{false≢true}
-use Rattle.smx_types.specs.declared.driver.DriverSpec.{DriverSpec}
-use Rattle.smx_types.specs.declared.message.Message.{Message}
-use Rattle.smx_types.specs.declared.stream.Place.{Place}
-use Rattle.smx_model.specs.Configuration.{Configuration, same_place}
-use Rattle.smx_model.specs.Queues.{first_message, is_full, after_arrival, after_leaving}
-use Rattle.smx_model.specs.Settling.{after_move, after_move_to, next_open_place}
+use Rattle.smx_model.proofs.Common.{◌≡◌, Bool, true, false, ◌&&◌, not, List, Option, Some, None, refl, ap, ◌∙◌, inl}
+use Rattle.smx_model.proofs.Common.{inr, both_ways, cases_Bool, and_parts, false≢true, DriverSpec, Message}
+use Rattle.smx_model.proofs.Common.{Place, Configuration, same_place, first_message, is_full, after_arrival}
+use Rattle.smx_model.proofs.Common.{after_leaving, after_move, after_move_to, next_open_place, arith}
 use Rattle.smx_model.proofs.QueueLemmas.{marked_full}
 use Rattle.smx_model.proofs.SettlingLemmas.{same_place_is}
 use Rattle.smx_model.specs.RunMarks.{is_freed}
@@ -23,10 +17,7 @@ left_keeps drivers c p q f = marked_full p q _ c.fulls ∙ rw f refl
 -- when a message arrives, each place that was full stays full
 pub arrived_more : (drivers : List DriverSpec) (c : Configuration) (p q : Place) (m : Message) → is_full c q ≡ true
     → is_full (after_arrival drivers c p m) q ≡ true
-arrived_more drivers c p q m h = marked_full p q _ c.fulls ∙ elim (cases_Bool (same_place p q)) [
-  | inl t ↦ rw t (or_left _ _ (ap (is_full c) (same_place_is p q t) ∙ h))
-  | inr f ↦ rw f h
-]
+arrived_more drivers c p q m h = grind (arith, marked_full, same_place_is)
 
 -- a move frees only the place that the message leaves
 pub moved_frees : (drivers : List DriverSpec) (c : Configuration) (p q : Place)

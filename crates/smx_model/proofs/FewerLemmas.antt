@@ -1,41 +1,20 @@
 -- With fewer links, routes, bindings and messages, and more hung-up streams, no place is turned.
-use Rattle.std.proofs.Common.{◌≡◌, ℕ, Bool, true, false, ◌&&◌, not, eqb, List, [], filter, find, Option}
-use Rattle.std.proofs.Common.{Some, None, refl, sym, ap, ◌∙◌, inl, inr, rules, ◌<◌, length}
-use Rattle.std.specs.Prelude.{slice_get}
-use Rattle.std.proofs.lemmas.Bool.{both_ways, cases_Bool}
-use Rattle.std.proofs.lemmas.Bool.{false_from_ne_true}
-use Rattle.smx_types.specs.declared.driver.DriverSpec.{DriverSpec}
-use Rattle.smx_types.specs.declared.link.Binding.{Binding}
-use Rattle.smx_types.specs.declared.link.Link.{Link}
-use Rattle.smx_types.specs.declared.link.Route.{Route}
-use Rattle.smx_types.specs.declared.message.Message.{Message}
-use Rattle.smx_types.specs.declared.stream.Place.{Place}
-use Rattle.smx_types.specs.declared.stream.Side.{Side}
+use Rattle.smx_model.proofs.Common.{◌≡◌, ℕ, Bool, true, false, ◌&&◌, not, eqb, List, filter, find, Option, Some, None}
+use Rattle.smx_model.proofs.Common.{refl, ap, ◌∙◌, inl, inr, rules, ◌<◌, length, DriverSpec, Binding, Link, Route}
+use Rattle.smx_model.proofs.Common.{Message, Place, Side, StreamId, Configuration, QueuedMessage, same_stream}
+use Rattle.smx_model.proofs.Common.{first_message, without_queues_at, without_links, without_dead_streams, after_sweep}
+use Rattle.smx_model.proofs.Common.{live_write_side, is_persistent, exists, AreLinksSound, next_of, nowhere, TurnsOnly}
+use Rattle.smx_model.proofs.Common.{is_hung, AllByRecursion, AllLater, arith}
 use Rattle.smx_types.specs.declared.stream.Side.TheVariants as side
-use Rattle.smx_types.specs.declared.stream.StreamId.{StreamId}
-use Rattle.smx_model.specs.Configuration.{Configuration, QueuedMessage, same_stream}
-use Rattle.smx_model.specs.DriverList.{is_mux}
-use Rattle.smx_model.specs.Queues.{first_message, queue}
-use Rattle.smx_model.specs.Removal.{without_queues_at, without_links, without_dead_streams, after_sweep}
-use Rattle.smx_model.specs.Settling.{live_write_side}
-use Rattle.smx_model.specs.Standing.{is_persistent, exists}
-use Rattle.smx_model.specs.SoundLinks.{AreLinksSound}
 use Rattle.smx_model.proofs.EachLemmas.{later_filter, each_filter}
 use Rattle.smx_model.proofs.TestLemmas.{any_filter}
 use Rattle.smx_model.proofs.QueueLemmas.{emptied_queue, front_is}
-use Rattle.smx_model.specs.RunMarks.{next_of}
-use Rattle.smx_model.specs.RunMarks.{nowhere}
-use Rattle.smx_model.specs.RunMarks.{TurnsOnly}
 use Rattle.smx_model.proofs.WaitingLemmas.{next_by}
-use Rattle.smx_model.specs.Hangups.{is_hung}
 use Rattle.smx_model.proofs.SoundLemmas.{sound_filter}
 use Rattle.smx_model.proofs.StandingLemmas.{swept_is}
 use Rattle.smx_model.proofs.SweptLemmas.{AreKeepingLowers, lower_exists}
-use Rattle.smx_model.proofs.FindLemmas.{Finds, finds_by, finds_kept, same_finds}
-use Rattle.smx_model.proofs.FindLemmas.{no_other_number, no_other_pair}
+use Rattle.smx_model.proofs.FindLemmas.{Finds, finds_by, finds_kept, same_finds, no_other_number, no_other_pair}
 use Rattle.smx_model.proofs.TurningLemmas.{bound_side, down_by, lower_side, up_by, stays_by, same_stream_is, turns_then}
-use Rattle.std.specs.List.{AllByRecursion}
-use Rattle.smx_model.specs.Ordered.{AllLater}
 
 -- ---- fewer links, routes, bindings and messages, and more hung-up streams
 
@@ -54,11 +33,7 @@ pub record Fewer (c d : Configuration) : Type 0 where
 -- the write side of a stream is the same as before, or none; a stream that was hung up stays so
 live_finds : (old new : List StreamId) (s : StreamId) → (is_hung old s ≡ true → is_hung new s ≡ true)
     → Finds (live_write_side old s) (live_write_side new s)
-live_finds old new s f = elim (cases_Bool (is_hung new s)) [
-  | inl t ↦ rw t (inr refl)
-  | inr n ↦ let o : is_hung old s ≡ false = false_from_ne_true (is_hung old s)
-      (λ t. both_ways (is_hung new s) n (f t)) in rw (o, n) (inl refl)
-]
+live_finds old new s f = grind arith
 
 -- if each key is found as before or not at all, a route leads down as before, or nowhere
 down_finds : (c d : Configuration) (o n : Option Route) → Fewer c d → Finds o n
@@ -87,10 +62,8 @@ up_finds c d addr o n h (inl e) = rw e (by o) where
 -- if each key is found as before or not at all, the next place by a side is as before, or none
 next_finds : (drivers : List DriverSpec) (c d : Configuration) (s : StreamId) (addr : ℕ) (x : Side) → Fewer c d
     → Finds (next_by drivers c s addr x) (next_by drivers d s addr x)
-next_finds drivers c d s addr side.Write h = elim (cases_Bool (is_mux drivers s.driver)) [
-  | inl t ↦ rw t (down_finds c d _ _ h (h.routes s.driver addr))
-  | inr f ↦ rw f (inl refl)
-]
+next_finds drivers c d s addr side.Write h =
+    grind (arith, down_finds c d _ _ h (h.routes s.driver addr), h.routes s.driver addr)
 next_finds drivers c d s addr side.Read h = up_finds c d addr _ _ h (h.lowers s)
 
 -- if each key and a message are found as before or not at all, the message goes next as before, or nowhere
@@ -118,8 +91,7 @@ pub record IsKeyed (c : Configuration) : Type 0 where
 pub routes_find : (keep : Route → Bool) (c : Configuration) (driver addr : ℕ) → IsKeyed c
     → Finds (find (λ r. eqb r.driver driver && eqb r.addr addr) c.routes)
     (find (λ r. eqb r.driver driver && eqb r.addr addr) (filter keep c.routes))
-routes_find keep c driver addr h =
-    finds_kept _ _ keep c.routes (λ x y t r. no_other_pair x.driver x.addr y.driver y.addr driver addr t r) h.routes
+routes_find keep c driver addr h = grind (arith, finds_kept, no_other_pair)
 
 -- among filtered links the one with an id is found as before, or none
 ids_find : (keep : Link → Bool) (c : Configuration) (id : ℕ) → IsKeyed c
@@ -129,33 +101,23 @@ ids_find keep c id h = finds_kept _ _ keep c.links (λ x y t r. no_other_number 
 -- among filtered links the one above a stream is found as before, or none
 lowers_find : (keep : Link → Bool) (c : Configuration) (s : StreamId) → IsKeyed c
     → Finds (find (λ l. same_stream l.lower s) c.links) (find (λ l. same_stream l.lower s) (filter keep c.links))
-lowers_find keep c s h = finds_kept _ _ keep c.links
-    (λ x y t r. no_other_pair x.lower.driver x.lower.minor y.lower.driver y.lower.minor s.driver s.minor t r) h.lowers
+lowers_find keep c s h = search (rules, finds_kept, no_other_pair)
 
 -- among filtered bindings the one for a driver and an address is found as before, or none
 pub binds_find : (keep : Binding → Bool) (c : Configuration) (driver addr : ℕ) → IsKeyed c
     → Finds (find (λ b. eqb b.driver driver && eqb b.addr addr) c.binds)
     (find (λ b. eqb b.driver driver && eqb b.addr addr) (filter keep c.binds))
-binds_find keep c driver addr h =
-    finds_kept _ _ keep c.binds (λ x y t r. no_other_pair x.driver x.addr y.driver y.addr driver addr t r) h.binds
+binds_find keep c driver addr h = grind (arith, finds_kept, no_other_pair)
 
 -- after places are emptied each place has its first message as before, or none
 pub first_emptied : (flow : List QueuedMessage) (goes : Place → Bool) (r : Place)
     → Finds (first_message flow r) (first_message (filter (λ h. not (goes h.place)) flow) r)
-first_emptied flow goes r = elim (cases_Bool (goes r)) [
-  | inl t ↦ let e : queue (filter (λ h. not (goes h.place)) flow) r ≡ [] = emptied_queue flow goes r ∙ rw t refl in
-      inr (front_is (filter (λ h. not (goes h.place)) flow) r ∙ ap (λ (ms : List Message). slice_get ms 0) e)
-  | inr f ↦ let e : queue (filter (λ h. not (goes h.place)) flow) r ≡ queue flow r = emptied_queue flow goes r
-      ∙ rw f refl in
-      inl (front_is (filter (λ h. not (goes h.place)) flow) r
-      ∙ (ap (λ (ms : List Message). slice_get ms 0) e ∙ sym (front_is flow r)))
-]
+first_emptied flow goes r = grind (arith, emptied_queue flow goes r, front_is, front_is flow r)
 
 -- emptying places turns no place
 pub turns_emptied : (drivers : List DriverSpec) (c : Configuration) (goes : Place → Bool)
     → TurnsOnly drivers c (without_queues_at c goes) nowhere
-turns_emptied drivers c goes = fewer_turns drivers c (without_queues_at c goes) (search (same_finds, rules))
-    (first_emptied c.flow goes)
+turns_emptied drivers c goes = grind (arith, fewer_turns, same_finds, first_emptied)
 
 -- removing links, with their routes and their lower streams' read sides, turns no place
 pub turns_removed : (drivers : List DriverSpec) (c : Configuration) (goes : Link → Bool) → IsKeyed c
@@ -182,12 +144,7 @@ turns_dead drivers c h lowers = fewer_turns drivers c (without_dead_streams driv
 
 -- after links are removed, each key still occurs once
 pub keyed_removed : (c : Configuration) (goes : Link → Bool) → IsKeyed c → IsKeyed (without_links c goes)
-keyed_removed c goes h = record {
-  routes = later_filter _ _ c.routes h.routes;
-  ids = later_filter _ _ c.links h.ids;
-  lowers = later_filter _ _ c.links h.lowers;
-  binds = h.binds;
-}
+keyed_removed c goes h = grind (arith, later_filter)
 
 -- the links are sound, and their upper drivers are in range
 pub record AreRooted (drivers : List DriverSpec) (links : List Link) : Type 0 where
@@ -197,8 +154,7 @@ pub record AreRooted (drivers : List DriverSpec) (links : List Link) : Type 0 wh
 -- sound links whose upper drivers are in range stay so after a filter
 pub rooted_filter : (drivers : List DriverSpec) (links : List Link) (test : Link → Bool) → AreRooted drivers links
     → AreRooted drivers (filter test links)
-rooted_filter drivers links test h =
-    record { sound = sound_filter test links h.sound; below = each_filter _ test links h.below }
+rooted_filter drivers links test h = grind (arith, sound_filter test links h.sound, each_filter _ test links h.below)
 
 -- a sweep turns no place
 pub turns_swept : (drivers : List DriverSpec) (c : Configuration) → IsKeyed c → AreRooted drivers c.links

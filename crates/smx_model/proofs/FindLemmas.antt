@@ -1,17 +1,9 @@
 -- Searches in lists: with fewer elements, with one more, and by keys that differ.
-use Rattle.std.proofs.Common.{◌≡◌, ℕ, Bool, true, false, ◌&&◌, eqb, List, [], ◌∷◌, ◌++◌, filter, find, Option}
-use Rattle.std.proofs.Common.{Some, None, refl, ap, ◌∙◌, inl, inr, arith}
-use mathlib.Core.Logic.{◌⊎◌}
-use Rattle.std.specs.List.{list_any}
-use Rattle.std.proofs.lemmas.Bool.{cases_Bool}
-use Rattle.std.proofs.lemmas.Bool.{false≢true}
-use Rattle.std.proofs.lemmas.Bool.Decides.{nat_tests}
-use Rattle.smx_model.specs.Ordered.{with_inserted}
+use Rattle.smx_model.proofs.Common.{◌≡◌, ℕ, Bool, true, false, ◌&&◌, eqb, List, [], ◌∷◌, ◌++◌, filter, find, Option}
+use Rattle.smx_model.proofs.Common.{None, refl, ap, ◌∙◌, inl, inr, arith, ◌⊎◌, list_any, false≢true}
+use Rattle.smx_model.proofs.Common.{nat_tests, with_inserted, AllByRecursion, AllLater}
 use Rattle.smx_model.proofs.EachLemmas.{each_filter, each_map}
-use Rattle.std.specs.Option.{option_or}
 use Rattle.std.proofs.lemmas.List.Folds.{find-append}
-use Rattle.std.specs.List.{AllByRecursion}
-use Rattle.smx_model.specs.Ordered.{AllLater}
 
 -- ---- lists with fewer elements find the same, or nothing
 
@@ -32,19 +24,7 @@ none_finds t (x ∷ xs) h = rw h.0 (none_finds t xs h.1)
 pub finds_kept : {X : Type 0} (R : X → X → Type 0) (t keep : X → Bool) (xs : List X)
     → ((x y : X) → t x ≡ true → R x y → t y ≡ false) → AllLater R xs → Finds (find t xs) (find t (filter keep xs))
 finds_kept R t keep [] f h = inl refl
-finds_kept R t keep (x ∷ xs) f h = elim (cases_Bool (t x)) [
-  | inl y ↦ elim (cases_Bool (keep x)) [
-    | inl k ↦ rw (k, y) (inl refl)
-    | inr k ↦
-        rw (k, y)
-        (inr (none_finds t (filter keep xs)
-        (each_filter (λ z. t z ≡ false) keep xs (each_map (R x) (λ z. t z ≡ false) xs (λ z r. f x z y r) h.0))))
-  ]
-  | inr n ↦ elim (cases_Bool (keep x)) [
-    | inl k ↦ rw (k, n) (finds_kept R t keep xs f h.1)
-    | inr k ↦ rw (k, n) (finds_kept R t keep xs f h.1)
-  ]
-]
+finds_kept R t keep (x ∷ xs) f h = grind (arith, none_finds, each_filter, each_map, finds_kept R t keep xs f h.1)
 
 -- if each of two searches in turn finds as before or nothing, both together do
 pub finds_then : {X : Type 0} (a b c : Option X) → Finds a b → Finds b c → Finds a c
@@ -63,38 +43,24 @@ finds_by f o n z (inr e) = inr (ap f e ∙ z)
 pub find_placed : {X : Type 0} (t : X → Bool) (before : X → X → Bool) (xs : List X) (x : X) → t x ≡ false
     → find t (with_inserted before xs x) ≡ find t xs
 find_placed t before [] x f = rw f refl
-find_placed t before (y ∷ ys) x f = elim (cases_Bool (before x y)) [
-  | inl b ↦ rw (b, f) refl
-  | inr n ↦ rw n (elim (cases_Bool (t y)) [ inl k ↦ rw k refl | inr k ↦ rw k (find_placed t before ys x f) ])
-]
+find_placed t before (y ∷ ys) x f = grind (arith, find_placed t before ys x f)
 
 -- if all elements that pass a test are kept, a search by it finds the same
 pub find_filter : {X : Type 0} (t keep : X → Bool) (xs : List X) → ((x : X) → t x ≡ true → keep x ≡ true)
     → find t (filter keep xs) ≡ find t xs
 find_filter t keep [] f = refl
-find_filter t keep (x ∷ xs) f = elim (cases_Bool (t x)) [
-  | inl k ↦ rw (f x k, k) refl
-  | inr n ↦ elim (cases_Bool (keep x)) [
-    | inl k ↦ rw (k, n) (find_filter t keep xs f)
-    | inr k ↦
-        rw (k, n) (find_filter t keep xs f)
-  ]
-]
+find_filter t keep (x ∷ xs) f = grind (arith, f x, find_filter t keep xs f)
 
 -- with one more element that fails a test at the end, a search by the test finds the same
 pub find_push_other : {X : Type 0} (t : X → Bool) (xs : List X) (x : X) → t x ≡ false
     → find t (xs ++ x ∷ []) ≡ find t xs
-find_push_other {X} t xs x f = find-append t xs (x ∷ []) ∙ rw f (by (find t xs)) where
-  by : (o : Option X) → option_or o None ≡ o
-  by None = refl
-  by (Some y) = refl
+find_push_other {X} t xs x f = grind (arith, find-append t xs (x ∷ []))
 
 -- with one more element at the end, a search that finds one of the others finds the same
 pub find_push_found : {X : Type 0} (t : X → Bool) (xs : List X) (x : X) → list_any t xs ≡ true
     → find t (xs ++ x ∷ []) ≡ find t xs
 find_push_found t [] x h = absurd (false≢true h)
-find_push_found t (y ∷ ys) x h =
-    elim (cases_Bool (t y)) [ inl k ↦ rw k refl | inr k ↦ rw k (find_push_found t ys x (rw k at h)) ]
+find_push_found t (y ∷ ys) x h = grind (arith, find_push_found t ys x)
 
 -- ---- keys that differ
 

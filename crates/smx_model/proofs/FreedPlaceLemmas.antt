@@ -1,30 +1,13 @@
 -- The places that commands free.
-use Rattle.std.proofs.Common.{◌≡◌, ℕ, Bool, true, false, ◌+◌, ◌&&◌, not, cond, List, [], filter, None}
-use Rattle.std.proofs.Common.{refl, rules, sym, ap, ◌∙◌, subst, inl, inr}
-use mathlib.Core.Logic.{◌⊎◌}
-use Rattle.std.specs.Prelude.{slice_get, IfOk}
-use Rattle.std.specs.List.{list_any}
-use Rattle.std.proofs.lemmas.Bool.{both_ways, cases_Bool, and_parts, false≢true}
-use Rattle.smx_types.specs.declared.command.Command.{Command}
+use Rattle.smx_model.proofs.Common.{◌≡◌, ℕ, Bool, true, false, ◌&&◌, not, cond, List, [], filter, None, refl, rules}
+use Rattle.smx_model.proofs.Common.{sym, ap, ◌∙◌, inl, inr, ◌⊎◌, slice_get, IfOk, list_any, false≢true, Command}
+use Rattle.smx_model.proofs.Common.{DriverSpec, Link, LinkKind, Message, Descriptor, Place, StreamId, outcome}
+use Rattle.smx_model.proofs.Common.{done_outcome, link_outcome, send_outcome, receive_outcome, with_fd, Configuration}
+use Rattle.smx_model.proofs.Common.{QueuedMessage, same_place, FreesOnly, IsSound, live_stream, after_arrival}
+use Rattle.smx_model.proofs.Common.{after_leaving, first_message, is_full, queue, after_sweep, is_read_below}
+use Rattle.smx_model.proofs.Common.{without_links, without_queues_at, nowhere, exists, is_persistent, IsSwept, arith}
 use Rattle.smx_types.specs.declared.command.Command.TheVariants as command
-use Rattle.smx_types.specs.declared.driver.DriverSpec.{DriverSpec}
-use Rattle.smx_types.specs.declared.link.Link.{Link}
-use Rattle.smx_types.specs.declared.link.LinkKind.{LinkKind}
-use Rattle.smx_types.specs.declared.message.Message.{Message}
-use Rattle.smx_types.specs.declared.stream.Descriptor.{Descriptor}
-use Rattle.smx_types.specs.declared.stream.Place.{Place}
-use Rattle.smx_types.specs.declared.stream.StreamId.{StreamId}
-use Rattle.smx_model.specs.Commands.{outcome, done_outcome, link_outcome, send_outcome, receive_outcome}
-use Rattle.smx_model.specs.Commands.{with_fd}
-use Rattle.smx_model.specs.Configuration.{Configuration, QueuedMessage, same_place, read_side, write_side}
-use Rattle.smx_model.specs.FreedPlaces.{FreesOnly, freed_by, is_empty_at, is_side_of}
-use Rattle.smx_model.specs.KeptConfigurations.{IsSound}
-use Rattle.smx_model.specs.Lookups.{free_stream, live_stream, live_leaf}
-use Rattle.smx_model.specs.Queues.{after_arrival, after_leaving, first_message, is_full, queue}
-use Rattle.smx_model.specs.Removal.{after_sweep, is_read_below, without_links, without_queues_at}
-use Rattle.smx_model.specs.RunMarks.{nowhere}
-use Rattle.smx_model.specs.Standing.{exists, is_persistent}
-use Rattle.smx_model.specs.Swept.{IsSwept}
+use Rattle.smx_model.specs.FreedPlaces.{freed_by, is_empty_at, is_side_of}
 use Rattle.smx_model.proofs.DropLemmas.{mux_exists, hung_swept}
 use Rattle.smx_model.proofs.IdleSweepLemmas.{swept_idle}
 use Rattle.smx_model.proofs.AcceptedLemmas.{unlinked}
@@ -44,29 +27,22 @@ never_freed false h = false≢true h
 
 -- if the full places are the same, none is freed
 same_frees : (c d : Configuration) (t : Place → Bool) → d.fulls ≡ c.fulls → FreesOnly c d t
-same_frees c d t e p h = absurd (never_freed (is_full c p)
-    (sym (ap (λ (ps : List Place). is_full c p && not (list_any (same_place p) ps)) e) ∙ h))
+same_frees c d t e p h = grind (arith, never_freed (is_full c p))
 
 -- if each full place other than these stays full, only these are freed
 frees_by : (c d : Configuration) (t : Place → Bool)
     → ((p : Place) → t p ≡ false → is_full c p ≡ true → is_full d p ≡ true) → FreesOnly c d t
-frees_by c d t f p h = elim (cases_Bool (t p)) [
-  | inl y ↦ y
-  | inr n ↦ let a = and_parts (is_full c p) (not (is_full d p)) h in
-      absurd (both_ways (not (is_full d p)) (ap not (f p n a.0)) a.1)
-]
+frees_by c d t f p h = grind (arith, f p)
 
 -- an arrival frees no place
 frees_at_arrival : (drivers : List DriverSpec) (c : Configuration) (p : Place) (m : Message) (n : ℕ)
     → FreesOnly c (record (after_arrival drivers c p m) { next_serial = n }) nowhere
-frees_at_arrival drivers c p m n = frees_by c (record (after_arrival drivers c p m) { next_serial = n }) nowhere
-    (λ q _ h. arrived_more drivers c p q m h)
+frees_at_arrival drivers c p m n = search (rules, frees_by, arrived_more)
 
 -- when a message leaves, only its place may stop being full
 frees_at_leaving : (drivers : List DriverSpec) (c : Configuration) (p : Place)
     → FreesOnly c (after_leaving drivers c p) (same_place p)
-frees_at_leaving drivers c p =
-    frees_by c (after_leaving drivers c p) (same_place p) (λ q n h. left_keeps drivers c p q n ∙ h)
+frees_at_leaving drivers c p = search (rules, frees_by, left_keeps)
 
 -- when some places are emptied, only these may stop being full
 frees_emptied : (c : Configuration) (goes : Place → Bool) → FreesOnly c (without_queues_at c goes) goes
@@ -81,16 +57,7 @@ KeepsOrEmpties c d = (q : Place) → ((is_full d q ≡ is_full c q) × (first_me
 
 -- two changes that each keep or empty each place do so together
 pub keeps_then : (c d e : Configuration) → KeepsOrEmpties c d → KeepsOrEmpties d e → KeepsOrEmpties c e
-keeps_then c d e f g q = by (f q) (g q) where
-  by : ((is_full d q ≡ is_full c q) × (first_message d.flow q ≡ first_message c.flow q))
-      ⊎ (first_message d.flow q ≡ None)
-      → ((is_full e q ≡ is_full d q) × (first_message e.flow q ≡ first_message d.flow q))
-      ⊎ (first_message e.flow q ≡ None)
-      → ((is_full e q ≡ is_full c q) × (first_message e.flow q ≡ first_message c.flow q))
-      ⊎ (first_message e.flow q ≡ None)
-  by a (inr z) = inr z
-  by (inl a) (inl b) = inl (b.0 ∙ a.0, b.1 ∙ a.1)
-  by (inr z) (inl b) = inr (b.1 ∙ z)
+keeps_then c d e f g q = grind (arith, f q, g q)
 
 -- emptying some places keeps or empties each place
 pub emptied_keeps : (c d : Configuration) (goes : Place → Bool) → d.flow ≡ filter (λ h. not (goes h.place)) c.flow
@@ -127,18 +94,14 @@ swept_keeps drivers c = keeps_then c (without_links c loose) (after_sweep driver
 
 -- a change that keeps or empties each place frees only places that are empty afterwards
 frees_empty : (c d : Configuration) → KeepsOrEmpties c d → FreesOnly c d (is_empty_at d)
-frees_empty c d h p freed = elim (h p) [
-  | inl k ↦ absurd (never_freed (is_full c p) (sym (ap (λ (b : Bool). is_full c p && not b) k.0) ∙ freed))
-  | inr e ↦ rw e refl
-]
+frees_empty c d h p freed = grind (arith, h p, never_freed (is_full c p))
 
 -- ---- the rows of the command table
 
 -- if a change leaves nothing to sweep, its sweep frees no more places
 frees_done : (drivers : List DriverSpec) (c new : Configuration) (t : Place → Bool) → IsSwept drivers new
     → FreesOnly c new t → IfAccepted (λ d r. FreesOnly c d t) (done_outcome drivers c new)
-frees_done drivers c new t clean h =
-    record { holds = subst (λ (d : Configuration). FreesOnly c d t) (sym (swept_idle drivers new clean)) h }
+frees_done drivers c new t clean h = grind (arith, swept_idle drivers new clean)
 
 -- if a change leaves nothing to sweep, and the same full places, it frees none with its sweep
 frees_still : (drivers : List DriverSpec) (c new : Configuration) → IsSwept drivers new → new.fulls ≡ c.fulls
@@ -154,19 +117,12 @@ frees_flush drivers c goes h = frees_done drivers c (without_queues_at c goes) g
 -- when descriptors are closed, only places that are empty after the sweep stop being full
 frees_closed : (drivers : List DriverSpec) (c : Configuration) (fds : List Descriptor)
     → IfAccepted (λ d r. FreesOnly c d (is_empty_at d)) (done_outcome drivers c (record c { fds = fds }))
-frees_closed drivers c fds = record {
-  holds = frees_empty c (after_sweep drivers (record c { fds = fds }))
-      (swept_keeps drivers (record c { fds = fds }));
-}
+frees_closed drivers c fds = search (rules, frees_empty, swept_keeps)
 
 -- when links are removed, only places that are empty after the sweep stop being full
 frees_removed : (drivers : List DriverSpec) (c : Configuration) (goes : Link → Bool)
     → IfAccepted (λ d r. FreesOnly c d (is_empty_at d)) (done_outcome drivers c (without_links c goes))
-frees_removed drivers c goes = record {
-  holds = frees_empty c (after_sweep drivers (without_links c goes))
-      (keeps_then c (without_links c goes) (after_sweep drivers (without_links c goes)) (removed_keeps c goes)
-      (swept_keeps drivers (without_links c goes)));
-}
+frees_removed drivers c goes = grind (arith, removed_keeps c goes, swept_keeps drivers (without_links c goes))
 
 -- one more descriptor frees no place
 frees_with_fd : (drivers : List DriverSpec) (c : Configuration) (process fd : ℕ) (s : StreamId)
@@ -186,13 +142,7 @@ frees_linked drivers c process fd arg k = search (after_ok, after_test, at_ok, f
 -- sending a message frees no place
 frees_sent : (drivers : List DriverSpec) (c : Configuration) (p : Place) (addr : ℕ) (bytes : List ℕ)
     → IfAccepted (λ d r. FreesOnly c d nowhere) (send_outcome drivers c p addr bytes)
-frees_sent drivers c p addr bytes = search (
-  after_test,
-  at_ok,
-  frees_at_arrival drivers c p (record { serial = c.next_serial; addr = addr; bytes = bytes })
-      (c.next_serial + 1),
-  rules,
-) depth 12
+frees_sent drivers c p addr bytes = search (rules, after_test, at_ok, frees_at_arrival)
 
 -- delivering a message frees at most its own place
 frees_received : (drivers : List DriverSpec) (c : Configuration) (p : Place)
@@ -203,8 +153,7 @@ frees_received drivers c p = search (after_some, at_ok, frees_at_leaving, rules)
 frees : (drivers : List DriverSpec) (c : Configuration) (process : ℕ) (k : Command) → IsSwept drivers c
     → IfAccepted (λ d r. FreesOnly c d (freed_by drivers c process k d)) (outcome drivers c process k)
 frees drivers c process (command.OpenClone name) h = search (after_ok, at_ok, frees_with_fd drivers, rules) depth 20
-frees drivers c process (command.OpenMinor name minor) h =
-    search (after_test, after_ok, at_ok, frees_with_fd drivers, rules) depth 20
+frees drivers c process (command.OpenMinor name minor) h = grind (arith, after_test, after_ok, at_ok, frees_with_fd)
 frees drivers c process (command.Dup fd) h = search (after_ok, at_ok, frees_with_fd drivers, rules) depth 20
 frees drivers c process (command.Close fd) h = search (after_ok, frees_closed, rules) depth 20
 frees drivers c process command.CloseAll h = frees_closed drivers c _
@@ -214,32 +163,18 @@ frees drivers c process (command.Unlink fd w) h = search (after_ok, unlinked, fr
 frees drivers c process (command.Punlink fd w) h = search (after_ok, unlinked, frees_removed, rules) depth 20
 frees drivers c process (command.Bind fd addr) h =
     search (after_test, after_ok, frees_still, all_placed, mux_exists, rules) depth 20
-frees drivers c process (command.Unbind fd) h =
-    search (after_test, after_ok, frees_still, all_filter, rules) depth 20
+frees drivers c process (command.Unbind fd) h = grind (arith, after_test, after_ok, frees_still, all_filter)
 frees drivers c process (command.Route fd addr id) h = search (after_test, after_ok, frees_still, rules) depth 20
 frees drivers c process (command.Unroute fd addr) h = search (after_test, after_ok, frees_still, rules) depth 20
 frees drivers c process (command.Write fd addr bytes) h = search (after_ok, frees_sent, rules) depth 20
-frees drivers c process (command.Read fd) h = search (
-  at_stream (FreesOnly c) (free_stream c process fd) (λ s. same_place (read_side s)),
-  after_choice,
-  at_ok,
-  same_frees,
-  frees_received,
-  rules,
-) depth 20
+frees drivers c process (command.Read fd) h = grind (arith, at_stream, after_choice, at_ok, same_frees, frees_received)
 frees drivers c process (command.Flush fd w) h =
     search (at_stream (FreesOnly c) (live_stream c process fd) (λ s. is_side_of s w), frees_flush, rules) depth 20
 frees drivers c process (command.Inject name minor addr bytes) h = search (after_ok, frees_sent, rules) depth 20
-frees drivers c process (command.Transmit name minor) h = search (
-  at_stream (FreesOnly c) (live_leaf drivers c name minor) (λ s. same_place (write_side s)),
-  frees_received,
-  rules,
-) depth 20
-frees drivers c process (command.Hangup name minor) h =
-    search (after_ok, frees_still, hung_swept, leaf_exists, rules) depth 20
+frees drivers c process (command.Transmit name minor) h = grind (arith, at_stream, frees_received)
+frees drivers c process (command.Hangup name minor) h = grind (arith, after_ok, frees_still, hung_swept, leaf_exists)
 
 -- the same with the outcome's clauses, from a sound configuration
 pub few_freed : (drivers : List DriverSpec) (c : Configuration) (process : ℕ) (k : Command) → IsSound drivers c
     → IfOk (outcome drivers c process k) (λ x. FreesOnly c x.0 (freed_by drivers c process k x.0))
-few_freed drivers c process k h = if_ok (λ d. FreesOnly c d (freed_by drivers c process k d)) _
-    (outcome drivers c process k) (λ d m. m) (frees drivers c process k h.swept)
+few_freed drivers c process k h = grind (arith, if_ok, frees drivers c process k h.swept)

@@ -1,23 +1,14 @@
 -- A full place has messages.
-use Rattle.std.proofs.Common.{◌≡◌, ℕ, ◌<◌, Bool, true, false, ◌&&◌, ◌||◌, not, cond, leb, ltb, arith}
-use Rattle.std.proofs.Common.{List, [], ◌∷◌, length, filter, Ok, Err, None, refl, rules, sym, ap, ◌∙◌, subst}
-use Rattle.std.proofs.Common.{inl, inr}
-use Rattle.std.specs.Prelude.{slice_get}
-use Rattle.std.specs.List.{list_any}
-use Rattle.std.proofs.lemmas.Bool.{and_parts, cases_Bool, false≢true, ltb-true}
-use Rattle.smx_types.specs.declared.command.Command.{Command}
-use Rattle.smx_types.specs.declared.driver.DriverSpec.{DriverSpec}
-use Rattle.smx_types.specs.declared.link.Link.{Link}
-use Rattle.smx_types.specs.declared.message.Message.{Message}
-use Rattle.smx_types.specs.declared.stream.Place.{Place}
-use Rattle.smx_model.specs.Commands.{after_outcome, done_outcome, outcome, step}
-use Rattle.smx_model.specs.Configuration.{Configuration, QueuedMessage, empty, is_at, queued_before, same_place}
+use Rattle.smx_model.proofs.Common.{◌≡◌, ℕ, ◌<◌, Bool, true, false, ◌&&◌, ◌||◌, not, cond, leb, arith, List, [], ◌∷◌}
+use Rattle.smx_model.proofs.Common.{length, filter, Ok, Err, None, refl, rules, sym, ap, ◌∙◌, subst, inl, inr}
+use Rattle.smx_model.proofs.Common.{slice_get, list_any, and_parts, cases_Bool, false≢true, ltb-true, Command}
+use Rattle.smx_model.proofs.Common.{DriverSpec, Link, Message, Place, after_outcome, done_outcome, outcome, step}
+use Rattle.smx_model.proofs.Common.{Configuration, QueuedMessage, empty, is_at, queued_before, same_place}
+use Rattle.smx_model.proofs.Common.{HaveFullPlacesMessages, with_inserted, without_first, Outcome, after_arrival}
+use Rattle.smx_model.proofs.Common.{after_leaving, is_full, queue, without_links, without_queues_at}
+use Rattle.std.proofs.Common.{ltb}
 use Rattle.smx_model.specs.DriverList.{high_of, low_of}
-use Rattle.smx_model.specs.FreedPlaces.{HaveFullPlacesMessages}
-use Rattle.smx_model.specs.Ordered.{with_inserted, without_first}
-use Rattle.smx_model.specs.Outcomes.{Outcome}
-use Rattle.smx_model.specs.Queues.{after_arrival, after_leaving, bytes_at, bytes_of, is_full, queue}
-use Rattle.smx_model.specs.Removal.{without_links, without_queues_at}
+use Rattle.smx_model.specs.Queues.{bytes_at, bytes_of}
 use Rattle.smx_model.proofs.AcceptedLemmas.{of_rows}
 use Rattle.smx_model.proofs.OrderLemmas.{queue_elsewhere, same_self}
 use Rattle.smx_model.proofs.OutcomeLemmas.{IfAccepted}
@@ -35,11 +26,7 @@ pub record IsFilled (p : Place) (c : Configuration) : Type 0 where
 has_arrived : (flow : List QueuedMessage) (h : QueuedMessage)
     → 0 < length (queue (with_inserted queued_before flow h) h.place)
 has_arrived [] h = rw (same_self h.place) (omega arith)
-has_arrived (k ∷ ks) h = elim (cases_Bool (queued_before h k)) [
-  | inl b ↦ rw (b, same_self h.place) (omega arith)
-  | inr b ↦ rw b (elim (cases_Bool (is_at h.place k))
-      [ inl t ↦ rw t (omega arith) | inr f ↦ rw f (has_arrived ks h) ])
-]
+has_arrived (k ∷ ks) h = grind (arith, same_self h.place, has_arrived ks h)
 
 -- messages with bytes are not an empty list
 some_bytes : (ms : List Message) → 0 < bytes_of ms → 0 < length ms
@@ -53,8 +40,7 @@ filled_alike p c d h q m = record { some = λ e. rw q (h.some (sym m ∙ e)) }
 
 -- this holds of a place if the flow and the full places are unchanged
 filled_same : (p : Place) (c d : Configuration) → IsFilled p c → d.flow ≡ c.flow → d.fulls ≡ c.fulls → IsFilled p d
-filled_same p c d h e f = filled_alike p c d h (ap (λ (hs : List QueuedMessage). queue hs p) e)
-    (ap (λ (ps : List Place). list_any (same_place p) ps) f)
+filled_same p c d h e f = grind (arith, filled_alike p c d h)
 
 -- this holds of a place after some places are emptied and nothing else of the queues changes
 filled_emptied : (p : Place) (c d : Configuration) (goes : Place → Bool) → IsFilled p c
@@ -137,8 +123,7 @@ filled_left drivers p c q h = elim (cases_Bool (same_place q p)) [
 -- this holds of a place after a message is accepted under the next serial
 filled_took : (drivers : List DriverSpec) (p : Place) (c : Configuration) (q : Place) (m : Message) (n : ℕ)
     → IsFilled p c → IsFilled p (record (after_arrival drivers c q m) { next_serial = n })
-filled_took drivers p c q m n h = filled_same p (after_arrival drivers c q m)
-    (record (after_arrival drivers c q m) { next_serial = n }) (filled_arrived drivers p c q m h) refl refl
+filled_took drivers p c q m n h = grind (arith, filled_arrived drivers p c q m h)
 
 -- this holds of a place after some places are flushed
 filled_flushed : (p : Place) (c : Configuration) (goes : Place → Bool) → IsFilled p c
@@ -161,10 +146,7 @@ filled_accepted drivers p c process k h = of_rows _ drivers c process k (search 
 
 -- this holds of a place after each move
 filled_moved : (drivers : List DriverSpec) (p : Place) → MovesKeep (IsFilled p) drivers
-filled_moved drivers p = record {
-  each = λ c q h. moved_by (IsFilled p) drivers c q h
-      (λ r m e. filled_arrived drivers p (after_leaving drivers c q) r m (filled_left drivers p c q h));
-}
+filled_moved drivers p = search (rules, moved_by (IsFilled p) drivers, filled_arrived drivers p, filled_left drivers p)
 
 -- this holds of a place after a command
 filled_step : (drivers : List DriverSpec) (p : Place) (c : Configuration) (process : ℕ) (k : Command) → IsFilled p c

@@ -1,15 +1,9 @@
 -- Legal histories: their prefixes, their replies are determined, and they are lawful.
-use Rattle.std.proofs.Common.{◌≡◌, ◌≢◌, ℕ, List, [], ◌∷◌, ◌++◌, length, map, refl, sym, ap, ◌∙◌, subst, arith}
-use Rattle.std.specs.List.{AllPairs, range_with_len}
+use Rattle.smx_model.proofs.Common.{◌≡◌, ◌≢◌, ℕ, List, [], ◌∷◌, ◌++◌, length, map, refl, subst, arith}
+use Rattle.smx_model.proofs.Common.{AllPairs, range_with_len, Command, Entry, DriverSpec, Reply, step, Configuration}
+use Rattle.smx_model.proofs.Common.{empty, after, after_from, call_of, IsLegal, IsLegalFrom, taken_serials, IsLawful}
+use Rattle.smx_model.proofs.Common.{IsLawfulThroughout, nat_tests}
 use Rattle.std.proofs.lemmas.List.FromFn.{get_or-range_with_len, length-range_with_len}
-use Rattle.smx_types.specs.declared.command.Command.{Command}
-use Rattle.smx_types.specs.declared.command.Entry.{Entry}
-use Rattle.smx_types.specs.declared.driver.DriverSpec.{DriverSpec}
-use Rattle.smx_types.specs.declared.reply.Reply.{Reply}
-use Rattle.smx_model.specs.Commands.{step}
-use Rattle.smx_model.specs.Configuration.{Configuration, empty}
-use Rattle.smx_model.specs.Histories.{after, after_from, call_of, IsLegal, IsLegalFrom}
-use Rattle.smx_model.specs.LawfulHistories.{taken_serials, IsLawful, IsLawfulThroughout}
 use Rattle.smx_model.proofs.ConservationLemmas.{conserving, numbered_from_one}
 use Rattle.smx_model.proofs.KeptLemmas.{always_is_kept}
 
@@ -63,15 +57,7 @@ determined_from drivers c [] [] h k e = refl
 determined_from drivers c [] (y ∷ ys) h k e = let differ : [] ≡ call_of y ∷ map call_of ys = e in absurd cc
 determined_from drivers c (x ∷ xs) [] h k e = let differ : call_of x ∷ map call_of xs ≡ [] = e in absurd cc
 determined_from drivers c (x ∷ xs) (y ∷ ys) h k e =
-    let all : call_of x ∷ map call_of xs ≡ call_of y ∷ map call_of ys = e in
-    let asked : call_of x ≡ call_of y = cc in
-    let rest : map call_of xs ≡ map call_of ys = cc in
-    let steps = ap (step_of drivers c) asked in
-    let reply : x.reply ≡ y.reply = sym h.0 ∙ ap (λ (s : Configuration × Reply). s.1) steps ∙ k.0 in
-    let later = determined_from drivers (step drivers c x.process x.command).0 xs ys h.1
-    (subst (λ (s : Configuration × Reply). IsLegalFrom drivers s.0 ys) (sym steps) k.1) rest in
-    let first : x ≡ y = ap (λ (a : ℕ × Command). entry_of a x.reply) asked ∙ ap (entry_of (call_of y)) reply in
-    cc
+    grind (arith, determined_from drivers (step drivers c x.process x.command).0 xs ys h.1)
 
 -- two legal histories of the same calls in the same order are equal
 pub determined : (drivers : List DriverSpec) (xs ys : List Entry) → IsLegal drivers xs → IsLegal drivers ys
@@ -80,29 +66,19 @@ determined drivers xs ys h k e = determined_from drivers empty xs ys h k e
 
 -- numbers from a on differ
 range_apart : (a n : ℕ) → AllPairs (λ x y. x ≢ y) (range_with_len a n)
-range_apart a n i j d lt within e =
-    let in_range = length-range_with_len a n in
-    omega (
-      arith,
-      e,
-      in_range,
-      within,
-      lt,
-      get_or-range_with_len a n i d (omega (arith, in_range, within, lt)),
-      get_or-range_with_len a n j d (omega (arith, in_range, within)),
-    )
+range_apart a n i j d lt within e = grind (arith, length-range_with_len, get_or-range_with_len)
 
 -- a legal history is lawful
 pub lawful : (drivers : List DriverSpec) (history : List Entry) → IsLegal drivers history → IsLawful drivers history
 lawful drivers history legal =
-    let sound = (always_is_kept drivers history).sound.links in
-    record {
-      no_cycle = sound.no_cycle;
-      lowers_apart = sound.lowers;
-      taken_once = subst (AllPairs (λ x y. x ≢ y)) (sym (numbered_from_one drivers history legal))
-          (range_apart 1 (length (taken_serials history)));
-      conserved = conserving drivers history legal;
-    }
+    grind (
+      arith,
+      nat_tests,
+      always_is_kept drivers history,
+      numbered_from_one drivers history legal,
+      range_apart 1 (length (taken_serials history)),
+      conserving drivers history legal,
+    )
 
 -- a legal history is lawful after each of its entries
 pub lawful_throughout : (drivers : List DriverSpec) (history : List Entry) → IsLegal drivers history

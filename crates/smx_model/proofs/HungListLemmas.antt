@@ -1,12 +1,8 @@
 -- Lists of hung-up streams are determined by their streams.
-use Rattle.std.proofs.Common.{◌≡◌, ℕ, Bool, true, false, ◌&&◌, ◌||◌, eqb, List, [], ◌∷◌, filter, refl, sym, ap, ◌∙◌}
-use Rattle.std.proofs.Common.{arith, inl, inr}
-use Rattle.std.proofs.lemmas.Bool.{both_ways, cases_Bool, false≢true, or_from, or_left}
-use Rattle.std.proofs.lemmas.Bool.Decides.{nat_tests}
-use Rattle.smx_types.specs.declared.stream.StreamId.{StreamId}
-use Rattle.smx_model.specs.Configuration.{pair_before, same_stream, stream_before}
-use Rattle.smx_model.specs.Hangups.{is_hung, with_hung}
-use Rattle.smx_model.specs.Ordered.{ComesBefore, IsRising}
+use Rattle.smx_model.proofs.Common.{◌≡◌, ℕ, Bool, true, false, ◌&&◌, ◌||◌, eqb, List, [], ◌∷◌, filter, refl, sym, ap}
+use Rattle.smx_model.proofs.Common.{◌∙◌, arith, inl, inr, both_ways, cases_Bool, false≢true, or_from, or_left}
+use Rattle.smx_model.proofs.Common.{nat_tests, StreamId, pair_before, same_stream, stream_before, is_hung, with_hung}
+use Rattle.smx_model.proofs.Common.{ComesBefore, IsRising}
 use Rattle.smx_model.proofs.EachLemmas.{each_map}
 use Rattle.smx_model.proofs.RisingLemmas.{stream_trans}
 use Rattle.smx_model.proofs.SweptLemmas.{stream_self}
@@ -65,30 +61,10 @@ one_list (x ∷ xs) (y ∷ ys) h k same = elim (cases_Bool (stream_before x y)) 
 -- after one more stream hangs up, the hung-up streams are those from before and this one
 pub hung_with : (s t : StreamId) (hungs : List StreamId)
     → is_hung (with_hung s hungs) t ≡ (same_stream s t || is_hung hungs t)
-hung_with s t hungs = elim (cases_Bool (is_hung hungs s)) [
-  | inl y ↦ rw y (elim (cases_Bool (same_stream s t)) [
-    | inl e ↦ rw e (ap (is_hung hungs) (sym (same_stream_is s t e)) ∙ y)
-    | inr n ↦ rw n refl
-  ])
-  | inr n ↦ rw n (any_of_placed (λ u. same_stream u t) stream_before hungs s)
-]
+hung_with s t hungs = grind (arith, same_stream_is s t, any_of_placed)
 
 -- a filter keeps exactly the hung-up streams that pass
 pub hung_kept_by : (keep : StreamId → Bool) (s : StreamId) (hungs : List StreamId)
     → is_hung (filter keep hungs) s ≡ (keep s && is_hung hungs s)
-hung_kept_by keep s [] = by (keep s) where
-  by : (b : Bool) → false ≡ (b && false)
-  by true = refl
-  by false = refl
-hung_kept_by keep s (x ∷ xs) = elim (cases_Bool (same_stream x s)) [
-  | inl t ↦
-      let e : x ≡ s = same_stream_is x s t in
-      elim (cases_Bool (keep x)) [
-        | inl k ↦ let ks : keep s ≡ true = ap keep (sym e) ∙ k in rw (k, t, ks) refl
-        | inr k ↦ let ks : keep s ≡ false = ap keep (sym e) ∙ k in rw (k, ks) (hung_kept_by keep s xs ∙ rw ks refl)
-      ]
-  | inr n ↦ elim (cases_Bool (keep x)) [
-    | inl k ↦ rw (k, n) (hung_kept_by keep s xs)
-    | inr k ↦ rw (k, n) (hung_kept_by keep s xs)
-  ]
-]
+hung_kept_by keep s [] = grind arith
+hung_kept_by keep s (x ∷ xs) = grind (arith, same_stream_is x s, hung_kept_by keep s xs)

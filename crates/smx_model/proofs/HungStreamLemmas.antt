@@ -1,28 +1,12 @@
 -- The hung-up streams after a command.
-use Rattle.std.proofs.Common.{◌≡◌, ℕ, true, false, List, [], filter, Option, Some, None, Result, Ok, Err, refl}
-use Rattle.std.proofs.Common.{rules, sym, ap, ◌∙◌, inl, inr, ◌*◌, length}
-use mathlib.Core.Logic.{◌⊎◌}
-use Rattle.std.specs.Option.{is_some}
-use Rattle.std.proofs.lemmas.Bool.{false≢true}
-use Rattle.smx_types.specs.Versions.{is_hangup}
-use Rattle.smx_types.specs.declared.command.Command.{Command}
+use Rattle.smx_model.proofs.Common.{◌≡◌, ℕ, true, false, List, [], filter, Option, Some, None, Result, Ok, Err, refl}
+use Rattle.smx_model.proofs.Common.{rules, sym, ap, ◌∙◌, inl, inr, ◌*◌, length, ◌⊎◌, is_some, false≢true, is_hangup}
+use Rattle.smx_model.proofs.Common.{Command, DriverSpec, Fault, Place, StreamId, outcome, step, after_outcome}
+use Rattle.smx_model.proofs.Common.{done_outcome, Configuration, is_hung, with_hung, IsKept, leaf_stream, Outcome}
+use Rattle.smx_model.proofs.Common.{next_of_first, Stays, IsSettled, exists, IsSwept, arith}
 use Rattle.smx_types.specs.declared.command.Command.TheVariants as command
-use Rattle.smx_types.specs.declared.driver.DriverSpec.{DriverSpec}
-use Rattle.smx_types.specs.declared.reply.Fault.{Fault}
 use Rattle.smx_types.specs.declared.reply.Reply.TheVariants as reply
-use Rattle.smx_types.specs.declared.stream.Place.{Place}
-use Rattle.smx_types.specs.declared.stream.StreamId.{StreamId}
-use Rattle.smx_model.specs.Commands.{outcome, step, after_outcome, done_outcome}
-use Rattle.smx_model.specs.Configuration.{Configuration}
-use Rattle.smx_model.specs.Hangups.{is_hung, with_hung}
-use Rattle.smx_model.specs.KeptConfigurations.{IsKept}
-use Rattle.smx_model.specs.Lookups.{leaf_stream}
-use Rattle.smx_model.specs.Outcomes.{Outcome, ◌>>=◌}
-use Rattle.smx_model.specs.Removal.{without_links}
-use Rattle.smx_model.specs.RunMarks.{next_of_first, Stays}
-use Rattle.smx_model.specs.Settling.{IsSettled}
-use Rattle.smx_model.specs.Standing.{exists}
-use Rattle.smx_model.specs.Swept.{IsSwept}
+use Rattle.smx_model.specs.Outcomes.{◌>>=◌}
 use Rattle.smx_model.proofs.DropLemmas.{done_idle, hung_swept}
 use Rattle.smx_model.proofs.AcceptedLemmas.{of_rows, at_none}
 use Rattle.smx_model.proofs.OutcomeLemmas.{IfAccepted}
@@ -32,7 +16,6 @@ use Rattle.smx_model.proofs.SweptLemmas.{leaf_exists, swept_accepted}
 use Rattle.smx_model.proofs.TestLemmas.{keep_all}
 use Rattle.smx_model.proofs.TurningCommandLemmas.{more_hung_turn_none}
 use Rattle.smx_model.proofs.WaitingLemmas.{if_open, movable_by}
-use Rattle.smx_types.specs.declared.reply.Reply.{Reply}
 
 -- each command other than a hangup keeps the hung-up streams that exist
 
@@ -47,8 +30,7 @@ hungs_same drivers c d e = record { either = inl e }
 -- the sweep keeps the hung-up streams that exist
 hungs_done : (drivers : List DriverSpec) (c d : Configuration) → d.hungs ≡ c.hungs
     → IfAccepted (λ d r. LeavesHungs drivers c d) (done_outcome drivers c d)
-hungs_done drivers c d e =
-    record { holds = record { either = inr (ap (filter (λ s. exists drivers (without_links d _) s)) e) } }
+hungs_done drivers c d e = grind arith
 
 -- an accepted command other than a hangup keeps all hung-up streams, or those that exist
 hungs_accepted : (drivers : List DriverSpec) (c : Configuration) (process : ℕ) (k : Command) → is_hangup k ≡ false
@@ -77,8 +59,7 @@ hungs_finished drivers c (Ok x) h swept_ m = let s = settled_alone drivers (leng
 pub others_leave_hungs : (drivers : List DriverSpec) (c : Configuration) (process : ℕ) (k : Command) → IsSwept drivers c
     → is_hangup k ≡ false → (step drivers c process k).0.hungs
     ≡ filter (λ s. exists drivers (step drivers c process k).0 s) c.hungs
-others_leave_hungs drivers c process k h other = hungs_finished drivers c (outcome drivers c process k) h
-    (swept_accepted drivers c process k h) (hungs_accepted drivers c process k other)
+others_leave_hungs drivers c process k h other = grind (arith, hungs_finished, swept_accepted, hungs_accepted)
 
 -- a hangup moves nothing
 

@@ -1,9 +1,7 @@
 -- Rising ids of links.
-use Rattle.std.proofs.Common.{ℕ, ◌<◌, ◌≤◌, ◌+◌, Bool, List, [], ◌∷◌, ◌++◌, filter, arith}
-use Rattle.std.proofs.lemmas.Bool.{lt-ltb}
-use Rattle.std.proofs.lemmas.List.Elements.{All-nil, All-push, All-filter, recursion_from_All}
-use Rattle.smx_types.specs.declared.link.Link.{Link}
-use Rattle.smx_model.specs.SoundLinks.{AreIdsRising}
+use Rattle.smx_model.proofs.Common.{ℕ, ◌<◌, ◌≤◌, ◌+◌, Bool, List, [], ◌∷◌, ◌++◌, filter, arith, lt-ltb, All-nil}
+use Rattle.smx_model.proofs.Common.{All-filter, recursion_from_All, Link, AreIdsRising, rules}
+use Rattle.std.proofs.lemmas.List.Elements.{All-push}
 use Rattle.smx_model.proofs.EachLemmas.{each_map, later_filter, later_push}
 
 -- without links, ids rise below 1 as the next id
@@ -23,9 +21,4 @@ ids_push ls l h = record {
 
 -- ids of links still rise after a filter, below the same next one
 pub ids_filter : (ls : List Link) (stays : Link → Bool) (n : ℕ) → AreIdsRising ls n → AreIdsRising (filter stays ls) n
-ids_filter ls stays n h = record {
-  rise = later_filter _ stays ls h.rise;
-  from_one = All-filter stays (λ k. 1 ≤ k.id) ls h.from_one;
-  below_next = All-filter stays (λ k. k.id < n) ls h.below_next;
-  next = h.next;
-}
+ids_filter ls stays n h = search (rules, later_filter _ stays ls h.rise, All-filter stays)

@@ -1,18 +1,9 @@
 -- Sweeping a swept configuration changes nothing.
-use Rattle.std.proofs.Common.{arith, ◌≡◌, Bool, true, false, ◌&&◌, ◌||◌, not, eqb, List, [], filter, refl, ap, ◌∙◌}
-use Rattle.std.specs.List.{list_any, list_all}
-use Rattle.smx_types.specs.declared.link.Binding.{Binding}
-use Rattle.smx_types.specs.declared.driver.DriverSpec.{DriverSpec}
-use Rattle.smx_types.specs.declared.link.Link.{Link}
-use Rattle.smx_types.specs.declared.stream.Place.{Place}
-use Rattle.smx_types.specs.declared.link.Route.{Route}
-use Rattle.smx_types.specs.declared.stream.Side.{Side}
+use Rattle.smx_model.proofs.Common.{arith, ◌≡◌, Bool, true, false, ◌&&◌, ◌||◌, not, eqb, List, [], filter, refl, ap}
+use Rattle.smx_model.proofs.Common.{◌∙◌, list_any, list_all, DriverSpec, Link, Place, Route, Side, Configuration}
+use Rattle.smx_model.proofs.Common.{QueuedMessage, same_side, after_sweep, without_links, without_queues_at}
+use Rattle.smx_model.proofs.Common.{without_dead_streams, is_read_below, IsSwept}
 use Rattle.smx_types.specs.declared.stream.Side.TheVariants as side
-use Rattle.smx_types.specs.declared.stream.StreamId.{StreamId}
-use Rattle.smx_model.specs.Configuration.{Configuration, QueuedMessage, same_side}
-use Rattle.smx_model.specs.Removal.{after_sweep, without_links, without_queues_at, without_dead_streams, is_read_below}
-use Rattle.smx_model.specs.Standing.{is_persistent, exists}
-use Rattle.smx_model.specs.Swept.{IsSwept}
 use Rattle.smx_model.proofs.TestLemmas.{keep_all, all_same, all_true, none_kept}
 
 -- two tests don't both fail exactly if one of them passes
@@ -58,34 +49,8 @@ removed_none c goes h = by (filter goes c.links) (none_kept goes c.links h) wher
 
 -- a swept configuration has nothing to remove of streams that don't exist
 dead_none : (drivers : List DriverSpec) (c : Configuration) → IsSwept drivers c → without_dead_streams drivers c ≡ c
-dead_none drivers c h =
-    ap (λ (x : List StreamId).
-    record c {
-      hungs = x;
-      binds = filter (λ b. exists drivers c (record { driver = b.driver; minor = b.minor }))
-          c.binds;
-      flow = filter (λ k. not (not (exists drivers c k.place.stream))) c.flow;
-      fulls = filter (λ p. not (not (exists drivers c p.stream))) c.fulls;
-    }) (keep_all _ c.hungs h.hungs)
-    ∙ (ap (λ (x : List Binding).
-    record c {
-      binds = x;
-      flow = filter (λ k. not (not (exists drivers c k.place.stream))) c.flow;
-      fulls = filter (λ p. not (not (exists drivers c p.stream))) c.fulls;
-    }) (keep_all _ c.binds h.binds)
-    ∙ (ap (λ (x : List QueuedMessage).
-    record c { flow = x; fulls = filter (λ p. not (not (exists drivers c p.stream))) c.fulls })
-    (keep_all _ c.flow (all_same _ (λ k. exists drivers c k.place.stream) c.flow
-    (λ k. not_not (exists drivers c k.place.stream)) ∙ h.flow))
-    ∙ ap (λ (x : List Place). record c { fulls = x })
-    (keep_all _ c.fulls (all_same _ (λ p. exists drivers c p.stream) c.fulls (λ p. not_not (exists drivers c p.stream))
-    ∙ h.fulls))))
+dead_none drivers c h = grind (arith, keep_all, all_same, not_not)
 
 -- a sweep of a swept configuration changes nothing
 pub swept_idle : (drivers : List DriverSpec) (c : Configuration) → IsSwept drivers c → after_sweep drivers c ≡ c
-swept_idle drivers c h =
-    ap (without_dead_streams drivers)
-    (removed_none c (λ l. not (is_persistent l) && not (exists drivers c l.ctl))
-    (all_same _ (λ l. is_persistent l || exists drivers c l.ctl) c.links
-    (λ l. not_gone (is_persistent l) (exists drivers c l.ctl)) ∙ h.links))
-    ∙ dead_none drivers c h
+swept_idle drivers c h = grind (arith, removed_none, all_same, not_gone, dead_none)

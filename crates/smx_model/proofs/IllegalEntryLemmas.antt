@@ -1,18 +1,11 @@
 -- A history is legal or has one first illegal entry; the first illegal entry of an example.
-use Rattle.std.proofs.Common.{◌≡◌, ◌≢◌, ℕ, zero, suc, ◌+◌, ◌<◌, ◌⊎◌, inl, inr, List, [], ◌∷◌, length, take, Some, refl}
-use Rattle.std.proofs.Common.{sym, subst, arith}
-use Rattle.std.specs.Prelude.{slice_get}
-use Rattle.std.proofs.lemmas.Bool.{cases_Bool, cases_order}
+use Rattle.smx_model.proofs.Common.{◌≡◌, ◌≢◌, ℕ, zero, suc, ◌+◌, ◌<◌, ◌⊎◌, inl, inr, List, [], ◌∷◌, length, take, Some}
+use Rattle.smx_model.proofs.Common.{refl, sym, subst, arith, slice_get, Entry, DriverSpec, Reply, step}
+use Rattle.smx_model.proofs.Common.{Configuration, empty, after_from, IsLegal, IsLegalFrom}
 use Rattle.std.proofs.lemmas.Bool.Decides.{not_from_Decides}
 use Rattle.std.proofs.lemmas.List.{take_all}
 use Rattle.std.proofs.lemmas.Option.{slice_get_within}
 use Rattle.smx_types.specs.SameLemmas.{reply_tells}
-use Rattle.smx_types.specs.declared.command.Entry.{Entry}
-use Rattle.smx_types.specs.declared.driver.DriverSpec.{DriverSpec}
-use Rattle.smx_types.specs.declared.reply.Reply.{Reply}
-use Rattle.smx_model.specs.Commands.{step}
-use Rattle.smx_model.specs.Configuration.{Configuration, empty}
-use Rattle.smx_model.specs.Histories.{after_from, IsLegal, IsLegalFrom}
 use Rattle.smx_model.specs.IllegalEntries.{IsFirstIllegal}
 use Rattle.smx_model.specs.Worked.Common.{Fd}
 use Rattle.smx_model.specs.Worked.SecondIsIllegal as second
@@ -23,21 +16,16 @@ reply_to drivers c e = (step drivers c e.process e.command).1
 
 -- two replies are equal, or not
 same_or_not : (r s : Reply) → (r ≡ s) ⊎ (r ≢ s)
-same_or_not r s = elim (cases_Bool _) [
-  | inl t ↦ inl ((reply_tells r s).0 t)
-  | inr f ↦ inr (not_from_Decides _ (reply_tells r s) f)
-]
+same_or_not r s = grind (arith, reply_tells r s, not_from_Decides _ (reply_tells r s))
 
 -- each entry of a prefix that is legal from a configuration has the reply that its command gets
 reply_before : (drivers : List DriverSpec) (c : Configuration) (es : List Entry) (m n : ℕ) (e : Entry)
     → m < n → IsLegalFrom drivers c (take n es) → slice_get es m ≡ Some e
     → reply_to drivers (after_from drivers c (take m es)) e ≡ e.reply
-reply_before drivers c [] m n e lt legal here =
-    let within = slice_get_within [] m e here in absurd (omega (arith, within))
+reply_before drivers c [] m n e lt legal here = grind (arith, slice_get_within)
 reply_before drivers c (x ∷ es) zero zero e lt legal here = absurd (omega (arith, lt))
 reply_before drivers c (x ∷ es) (suc m) zero e lt legal here = absurd (omega (arith, lt))
-reply_before drivers c (x ∷ es) zero (suc n) e lt legal here =
-    let same : x ≡ e = cc in subst (λ (y : Entry). reply_to drivers c y ≡ y.reply) same legal.0
+reply_before drivers c (x ∷ es) zero (suc n) e lt legal here = grind arith
 reply_before drivers c (x ∷ es) (suc m) (suc n) e lt legal here =
     reply_before drivers (step drivers c x.process x.command).0 es m n e (omega (arith, lt)) legal.1 here
 
@@ -88,11 +76,7 @@ not_before drivers es m n h k lt =
 -- the number of the first illegal entry of a history is unique
 pub one_number : (drivers : List DriverSpec) (es : List Entry) (m n : ℕ)
     → IsFirstIllegal drivers es m → IsFirstIllegal drivers es n → m ≡ n
-one_number drivers es m n h k = elim (cases_order h.before k.before) [
-  | inl same ↦ omega (arith, same, h.counted, k.counted)
-  | inr (inl lt) ↦ absurd (not_before drivers es m n h k lt)
-  | inr (inr lt) ↦ absurd (not_before drivers es n m k h lt)
-]
+one_number drivers es m n h k = grind (arith, not_before drivers es m n h k, not_before drivers es n m k h)
 
 -- the second entry of the example is the first illegal one
 pub second_is : IsFirstIllegal second.drivers second.history 2

@@ -1,33 +1,17 @@
 -- Each command preserves the invariant of configurations.
-use Rattle.std.proofs.Common.{◌≡◌, ◌↔◌, ℕ, zero, suc, ◌+◌, ◌<◌, Ok, Err, true, ◌≤◌, List, [], ◌∷◌}
-use Rattle.std.proofs.Common.{length, get_or, refl, sym, ◌∙◌, subst, arith, inl, inr}
-use Rattle.std.specs.Prelude.{IfOk}
-use Rattle.std.specs.List.{All, AllPairs}
-use Rattle.std.proofs.lemmas.Bool.{cases_eq, cases_lt, eq-eqb, ltb-true, ne_eqb}
-use Rattle.std.proofs.lemmas.List.Elements.{recursion_from_All}
-use Rattle.smx_types.specs.declared.command.Command.{Command}
-use Rattle.smx_types.specs.declared.command.Entry.{Entry}
-use Rattle.smx_types.specs.declared.driver.DriverSpec.{DriverSpec}
-use Rattle.smx_model.specs.Commands.{outcome, step, after_outcome}
-use Rattle.smx_model.specs.Configuration.{Configuration, empty}
-use Rattle.smx_model.specs.DriverList.{IsDriverList}
-use Rattle.smx_model.specs.Histories.{after, after_from}
-use Rattle.smx_model.specs.KeptConfigurations.{IsKept, IsSound}
-use Rattle.smx_model.specs.KnownStreams.{AreStreamsKnown, IsKnown}
-use Rattle.smx_model.specs.Outcomes.{Outcome}
-use Rattle.smx_model.specs.Removal.{serials}
-use Rattle.smx_model.specs.Settling.{after_move, after_settling}
-use Rattle.smx_model.specs.SoundLinks.{AreIdsRising, AreRoutesSound, AreLinksSound}
-use Rattle.smx_model.specs.Standing.{exists, Stands}
-use Rattle.smx_model.specs.Swept.{IsSwept}
-use Rattle.smx_model.specs.Views.{view}
+use Rattle.smx_model.proofs.Common.{◌≡◌, ℕ, zero, suc, ◌<◌, Ok, Err, true, ◌≤◌, List, [], ◌∷◌, length, get_or}
+use Rattle.smx_model.proofs.Common.{refl, sym, ◌∙◌, arith, inl, inr, IfOk, All, AllPairs, cases_eq, cases_lt}
+use Rattle.smx_model.proofs.Common.{eq-eqb, ltb-true, ne_eqb, recursion_from_All, Command, Entry, DriverSpec, outcome}
+use Rattle.smx_model.proofs.Common.{step, after_outcome, Configuration, empty, IsDriverList, after, after_from, IsKept}
+use Rattle.smx_model.proofs.Common.{IsSound, AreStreamsKnown, IsKnown, Outcome, serials, after_move, after_settling}
+use Rattle.smx_model.proofs.Common.{AreIdsRising, AreRoutesSound, AreLinksSound, exists, Stands, IsSwept, view}
+use Rattle.smx_model.proofs.Common.{AreListsOrdered, Place, StreamId, rules}
+use Rattle.std.proofs.Common.{◌↔◌}
 use Rattle.smx_model.proofs.SettledLemmas.{settled_by}
-use Rattle.smx_model.proofs.ConservationLemmas.{IsNumbered, Goes, goes_accepted, moved_same, moved_next, numbered_empty}
-use Rattle.smx_model.proofs.ConservationLemmas.{numbered_goes}
+use Rattle.smx_model.proofs.ConservationLemmas.{IsNumbered, goes_accepted, moved_same, moved_next, numbered_empty}
 use Rattle.smx_model.proofs.CountLemmas.{times}
 use Rattle.smx_model.proofs.OutcomeLemmas.{IfAccepted, if_ok}
 use Rattle.smx_model.proofs.RangeLemmas.{AreNamed, named_accepted, named_moved}
-use Rattle.smx_model.specs.OrderedParts.{AreListsOrdered}
 use Rattle.smx_model.proofs.RisingLemmas.{rising_accepted, rising_empty, rising_moved}
 use Rattle.smx_model.proofs.RouteLemmas.{AreRouted, rising_ids, routed_accepted, routed_empty, routed_moved}
 use Rattle.smx_model.proofs.RouteLemmas.{sound_routes}
@@ -35,10 +19,7 @@ use Rattle.smx_model.proofs.SettlingLemmas.{settled_is}
 use Rattle.smx_model.proofs.SoundLemmas.{sound_accepted, sound_empty, sound_moved}
 use Rattle.smx_model.proofs.SweptLemmas.{stands_exists, swept_accepted, swept_moved}
 use Rattle.smx_model.proofs.ViewLemmas.{EachKnown, each_known, known_of_each, one_configuration}
-use Rattle.smx_types.specs.declared.stream.Place.{Place}
-use Rattle.smx_types.specs.declared.stream.StreamId.{StreamId}
-use Rattle.smx_model.proofs.EachLemmas.{each_both, later_map}
-use Rattle.smx_model.proofs.EachLemmas.{each_map}
+use Rattle.smx_model.proofs.EachLemmas.{each_both, later_map, each_map}
 
 -- numbers in a list, by index and by count
 
@@ -69,14 +50,9 @@ at_some n (x ∷ xs) h = elim (cases_eq x n) [
 once_apart : (xs : List ℕ) → ((n : ℕ) → times n xs ≤ 1) → AllPairs (λ m n. m ≡ n → ⊥) xs
 once_apart [] h i j d lt within e = absurd (omega arith)
 once_apart (x ∷ xs) h zero zero d lt within e = absurd (omega arith)
-once_apart (x ∷ xs) h zero (suc j) d lt within e =
-    let k = h x in
-    let k2 : 1 + times x xs ≤ 1 = rw (eq-eqb x x refl) at k in
-    let there : 1 ≤ times x xs = subst (λ (y : ℕ). 1 ≤ times y xs) (sym e) (times_at xs j d (omega (arith, within))) in
-    omega (arith, k2, there)
+once_apart (x ∷ xs) h zero (suc j) d lt within e = grind (arith, h x, times, times_at)
 once_apart (x ∷ xs) h (suc i) zero d lt within e = absurd (omega (arith, lt))
-once_apart (x ∷ xs) h (suc i) (suc j) d lt within e =
-    once_apart xs (λ n. omega (arith, h n)) i j d (omega (arith, lt)) (omega (arith, within)) e
+once_apart (x ∷ xs) h (suc i) (suc j) d lt within e = grind (arith, once_apart xs)
 
 -- if no two elements of a list are equal, each number has a count of at most one
 apart_once : (xs : List ℕ) → AllPairs (λ m n. m ≡ n → ⊥) xs → (n : ℕ) → times n xs ≤ 1
@@ -100,17 +76,13 @@ none_from (x ∷ xs) next h n le = rw (ne_eqb x n (λ e. omega (arith, e, le, h 
 
 -- if no number from one on is in a list, all its elements are below that one
 all_below : (xs : List ℕ) (next : ℕ) → ((n : ℕ) → next ≤ n → times n xs ≡ 0) → All (λ n. n < next) xs
-all_below xs next h k d lt = elim (cases_lt (get_or xs k d) next)
-    [ inl below ↦ below | inr le ↦ absurd (omega (arith, h (get_or xs k d) le, times_at xs k d lt)) ]
+all_below xs next h k d lt = grind (arith, h (get_or xs k d), times_at xs k d lt)
 
 -- from the form of the laws to the form of the lemmas, and back
 
 -- if the drivers have the streams of all parts, they have those of descriptors and links
 named_of : (drivers : List DriverSpec) (c : Configuration) → AreStreamsKnown drivers c → AreNamed drivers c
-named_of drivers c h = record {
-  fds = recursion_from_All _ c.fds h.fds;
-  links = each_both _ _ c.links (recursion_from_All _ c.links h.controlling) (recursion_from_All _ c.links h.lowers);
-}
+named_of drivers c h = grind (arith, recursion_from_All, each_both)
 
 -- if ids rise and routes are sound, links and routes satisfy `AreRouted`
 routed_of : (drivers : List DriverSpec) (c : Configuration) → AreIdsRising c.links c.next_id → AreRoutesSound drivers c
@@ -147,58 +119,27 @@ parts_of drivers c h = record {
 
 -- a configuration with all parts of `Parts` is sound
 of_parts : (drivers : List DriverSpec) (c : Configuration) → Parts drivers c → IsSound drivers c
-of_parts drivers c h = record {
-  links = h.links;
-  ids = rising_ids drivers c h.routed;
-  routes = sound_routes drivers c h.routed;
-  known = known_of_each drivers c (each_known drivers c h.named h.routed h.swept_);
-  ordered = h.ordered;
-  serials = record {
-    apart = once_apart (serials c.flow) h.numbered.once;
-    below_next = all_below (serials c.flow) c.next_serial h.numbered.below;
-  };
-  swept = h.swept_;
-}
+of_parts drivers c h = search (rules, rising_ids, sound_routes, known_of_each, each_known, once_apart, all_below)
 
 -- each accepted outcome
 
 -- an accepted command preserves all parts of `Parts`
 parts_accepted : (drivers : List DriverSpec) (c : Configuration) (process : ℕ) (k : Command) → Parts drivers c
     → IfAccepted (λ d r. Parts drivers d) (outcome drivers c process k)
-parts_accepted drivers c process k h = by (outcome drivers c process k) (sound_accepted drivers c process k h.links)
-    (named_accepted drivers c process k h.named) (routed_accepted drivers c process k h.routed)
-    (rising_accepted drivers c process k h.ordered) (goes_accepted drivers c process k h.numbered)
-    (swept_accepted drivers c process k h.swept_) where
-      by : (o : Outcome) → IfAccepted (λ d r. AreLinksSound d.links) o → IfAccepted (λ d r. AreNamed drivers d) o
-          → IfAccepted (λ d r. AreRouted drivers d) o → IfAccepted (λ d r. AreListsOrdered d) o
-          → IfAccepted (Goes c) o → IfAccepted (λ d r. IsSwept drivers d) o → IfAccepted (λ d r. Parts drivers d) o
-      by (Ok x) e1 e2 e3 e4 e5 e6 = record {
-        holds = record {
-          links = e1.holds;
-          named = e2.holds;
-          routed = e3.holds;
-          ordered = e4.holds;
-          numbered = numbered_goes c x.0 x.1 h.numbered e5.holds;
-          swept_ = e6.holds;
-        };
-      }
-      by (Err f) e1 e2 e3 e4 e5 e6 = record { holds = tt }
+parts_accepted drivers c process k h =
+    grind (arith, sound_accepted, named_accepted, routed_accepted, rising_accepted, goes_accepted, swept_accepted)
 
 -- the outcome of an accepted command on a sound configuration is sound before settling
 pub outcome_sound : (drivers : List DriverSpec) (c : Configuration) (process : ℕ) (k : Command) → IsSound drivers c
     → IfOk (outcome drivers c process k) (λ x. IsSound drivers x.0)
-outcome_sound drivers c process k h = if_ok (Parts drivers) _ (outcome drivers c process k) (of_parts drivers)
-    (parts_accepted drivers c process k (parts_of drivers c h))
+outcome_sound drivers c process k h = grind (arith, if_ok, of_parts, parts_accepted, parts_of)
 
 -- each move
 
 -- after a move queued messages have different serials, below the next one
 numbered_moved : (drivers : List DriverSpec) (c : Configuration) (p : Place) → IsNumbered c
     → IsNumbered (after_move drivers c p)
-numbered_moved drivers c p h = record {
-  once = λ n. omega (arith, moved_same n drivers c p, h.once n);
-  below = λ n le. omega (arith, moved_same n drivers c p, h.below n (omega (arith, moved_next drivers c p, le)));
-}
+numbered_moved drivers c p h = grind (arith, moved_same, moved_next drivers c p)
 
 -- a move preserves all parts of `Parts`
 parts_moved : (drivers : List DriverSpec) (c : Configuration) (p : Place) → Parts drivers c
@@ -239,8 +180,7 @@ finished_kept drivers c (Err f) h k = h
 -- a command keeps a sound and settled configuration sound and settled
 pub step_keeps : (drivers : List DriverSpec) (c : Configuration) (process : ℕ) (k : Command) → IsKept drivers c
     → IsKept drivers (step drivers c process k).0
-step_keeps drivers c process k h =
-    finished_kept drivers c (outcome drivers c process k) h (outcome_sound drivers c process k h.sound)
+step_keeps drivers c process k h = grind (arith, finished_kept, outcome_sound)
 
 -- the empty configuration is sound and settled, over any drivers
 pub empty_kept : (drivers : List DriverSpec) → IsKept drivers empty
@@ -273,18 +213,12 @@ always_is_kept drivers history = after_keeps drivers empty history (empty_kept d
 -- without a cycle, and with known controlling streams, a stream exists exactly if it does within some climbs
 pub exists_is_stands : (drivers : List DriverSpec) (c : Configuration) (s : StreamId) → AreLinksSound c.links
     → All (λ l. IsKnown drivers l.ctl) c.links → (exists drivers c s ≡ true) ↔ Stands c s
-exists_is_stands drivers c s sound known = (
-  λ h. record { climbs = length drivers; within = h },
-  λ h. stands_exists drivers c s sound.no_cycle
-      (each_map (λ l. IsKnown drivers l.ctl) (λ l. l.ctl.driver < length drivers) c.links (λ l p. p.0)
-      (recursion_from_All _ c.links known)) h,
-)
+exists_is_stands drivers c s sound known = grind (arith, stands_exists, each_map, recursion_from_All)
 
 -- after any history a stream exists exactly if it does within some number of climbs
 pub always_exists_is_stands : (drivers : List DriverSpec) (history : List Entry) (s : StreamId)
     → (exists drivers (after drivers history) s ≡ true) ↔ Stands (after drivers history) s
-always_exists_is_stands drivers history s = let k = (always_is_kept drivers history).sound in
-    exists_is_stands drivers (after drivers history) s k.links k.known.controlling
+always_exists_is_stands drivers history s = grind (arith, always_is_kept, exists_is_stands)
 
 -- the drivers of a sound configuration have the stream of each part, and the driver of each route
 known_parts : (drivers : List DriverSpec) (c : Configuration) → IsSound drivers c → EachKnown drivers c
@@ -293,5 +227,4 @@ known_parts drivers c h = let p = parts_of drivers c h in each_known drivers c p
 -- two sound configurations over valid drivers are equal if their views are
 pub view_is_of_one : (drivers : List DriverSpec) (c d : Configuration) → IsDriverList drivers → IsSound drivers c
     → IsSound drivers d → view drivers c ≡ view drivers d → c ≡ d
-view_is_of_one drivers c d h k l e =
-    one_configuration drivers c d h (known_parts drivers c k) (known_parts drivers d l) e
+view_is_of_one drivers c d h k l e = grind (arith, one_configuration, known_parts)

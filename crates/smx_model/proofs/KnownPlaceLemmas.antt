@@ -1,25 +1,13 @@
 -- The drivers have the streams of places with messages, and of next places.
-use Rattle.std.proofs.Common.{List, [], ◌∷◌, None, refl, subst}
-use Rattle.std.proofs.Common.{inl, inr}
-use Rattle.std.specs.Prelude.{◌≢◌}
-use Rattle.std.proofs.lemmas.Bool.{cases_Bool}
-use Rattle.std.specs.List.{AllByRecursion}
-use Rattle.std.proofs.lemmas.List.Elements.{recursion_from_All}
-use Rattle.smx_types.specs.declared.driver.DriverSpec.{DriverSpec}
-use Rattle.smx_types.specs.declared.stream.Place.{Place}
-use Rattle.smx_model.specs.Configuration.{Configuration, QueuedMessage, is_at}
-use Rattle.smx_model.specs.KnownStreams.{AreStreamsKnown, IsKnown}
-use Rattle.smx_model.specs.Queues.{first_message}
+use Rattle.smx_model.proofs.Common.{List, [], ◌∷◌, None, refl, ◌≢◌, AllByRecursion, recursion_from_All, DriverSpec}
+use Rattle.smx_model.proofs.Common.{Place, Configuration, QueuedMessage, AreStreamsKnown, IsKnown, first_message, arith}
 use Rattle.smx_model.proofs.SettlingLemmas.{same_place_is}
 
 -- if the drivers have the streams of all messages, they have the stream of a place with a message
 held_by_known : (drivers : List DriverSpec) (hs : List QueuedMessage) (p : Place)
     → AllByRecursion (λ h. IsKnown drivers h.place.stream) hs → first_message hs p ≢ None → IsKnown drivers p.stream
 held_by_known drivers [] p k some = absurd (some refl)
-held_by_known drivers (h ∷ hs) p k some = elim (cases_Bool (is_at p h)) [
-  | inl t ↦ subst (λ (x : Place). IsKnown drivers x.stream) (same_place_is h.place p t) k.0
-  | inr f ↦ held_by_known drivers hs p k.1 (λ e. some (rw f e))
-]
+held_by_known drivers (h ∷ hs) p k some = grind (arith, same_place_is h.place p, held_by_known drivers hs p k.1)
 
 -- the drivers have the stream of a place with a message
 pub held_known : (drivers : List DriverSpec) (c : Configuration) (p : Place) → AreStreamsKnown drivers c

@@ -1,22 +1,9 @@
 -- The least marked place and the least movable one, and settling move by move.
-use Rattle.std.proofs.Common.{◌≡◌, ℕ, zero, suc, Bool, true, false, List, [], ◌∷◌, find, Option, Some}
-use Rattle.std.proofs.Common.{None, refl}
-use Rattle.std.proofs.Common.{ap, inl, inr}
-use Rattle.std.specs.Option.{option_map}
-use Rattle.std.proofs.lemmas.Bool.{both_ways, cases_Bool}
-use Rattle.smx_types.specs.declared.driver.DriverSpec.{DriverSpec}
-use Rattle.smx_types.specs.declared.stream.Place.{Place}
-use Rattle.smx_model.specs.Configuration.{Configuration, QueuedMessage, place_before, same_place}
-use Rattle.smx_model.specs.FlowOrder.{IsInOrder}
-use Rattle.smx_model.specs.LeastMovable.{IsLeastMovable}
-use Rattle.smx_model.specs.RunMarks.{AreMarked}
-use Rattle.smx_model.specs.Settling.{IsSettled, after_move, after_settling_within, is_movable}
-use Rattle.smx_model.specs.Settling.{least_movable}
-use Rattle.smx_model.specs.RunMarks.{IsLeastMarked}
-use Rattle.smx_model.proofs.OrderLemmas.{place_either}
+use Rattle.smx_model.proofs.Common.{◌≡◌, ℕ, zero, suc, Bool, true, false, List, [], ◌∷◌, find, Option, Some, None, refl}
+use Rattle.smx_model.proofs.Common.{DriverSpec, Place, Configuration, QueuedMessage, IsInOrder, IsSettled, after_move}
+use Rattle.smx_model.proofs.Common.{after_settling_within, is_movable, least_movable, arith, nat_tests}
+use Rattle.smx_model.specs.RunMarks.{AreMarked, IsLeastMarked}
 use Rattle.smx_model.proofs.QueueLemmas.{least_is}
-use Rattle.smx_model.proofs.SettlingLemmas.{same_place_is}
-use Rattle.smx_model.proofs.WaitingLemmas.{waiting_stays}
 
 -- ---- the least marked place
 
@@ -24,17 +11,7 @@ use Rattle.smx_model.proofs.WaitingLemmas.{waiting_stays}
 pub marked_is_least : (drivers : List DriverSpec) (c : Configuration) (run wanted : Place → Bool) (p : Place)
     → IsInOrder c.flow → AreMarked drivers c run wanted → IsLeastMarked run p → is_movable drivers c p ≡ true
     → least_movable drivers c ≡ Some p
-marked_is_least drivers c run wanted p o h l m = by (least_movable drivers c) (least_is drivers c o) where
-  by : (w : Option Place) → IsLeastMovable drivers c w → w ≡ Some p
-  by None s = absurd (both_ways (is_movable drivers c p) (s p) m)
-  by (Some q) s = elim (cases_Bool (same_place q p)) [
-    | inl t ↦ ap Some (same_place_is q p t)
-    | inr f ↦ elim (cases_Bool (place_before q p)) [
-      | inl b ↦
-          absurd (both_ways (is_movable drivers c q) (waiting_stays drivers c wanted q (h q (l.none_before q b))) s.0)
-      | inr b ↦ absurd (both_ways (is_movable drivers c p) (s.1 p (place_either q p f b)) m)
-    ]
-  ]
+marked_is_least drivers c run wanted p o h l m = grind (arith, nat_tests, least_is drivers c o)
 
 -- a search by place finds no message if no place passes the test
 none_found : (t : Place → Bool) (flow : List QueuedMessage) → ((p : Place) → t p ≡ false)
@@ -45,8 +22,7 @@ none_found t (h ∷ hs) f = rw (f h.place) (none_found t hs f)
 -- in a settled configuration there is no least movable place
 pub none_is_least : (drivers : List DriverSpec) (c : Configuration) → IsSettled drivers c
     → least_movable drivers c ≡ None
-none_is_least drivers c s =
-    ap (option_map (λ (h : QueuedMessage). h.place)) (none_found (is_movable drivers c) c.flow s)
+none_is_least drivers c s = grind (arith, none_found (is_movable drivers c) c.flow s)
 
 -- ---- one move of settling, or none
 
@@ -54,8 +30,7 @@ none_is_least drivers c s =
 settling_round : (drivers : List DriverSpec) (n : ℕ) (c : Configuration) (o : Option Place)
     → least_movable drivers c ≡ o → after_settling_within drivers (suc n) c ≡ elim o as (λ _. Configuration)
     [ None ↦ c | Some p ↦ after_settling_within drivers n (after_move drivers c p) ]
-settling_round drivers n c o e = ap (λ (x : Option Place).
-    elim x as (λ _. Configuration) [ None ↦ c | Some p ↦ after_settling_within drivers n (after_move drivers c p) ]) e
+settling_round drivers n c o e = grind arith
 
 -- settling changes nothing if there is no least movable place
 pub settling_stays : (drivers : List DriverSpec) (n : ℕ) (c : Configuration) → least_movable drivers c ≡ None

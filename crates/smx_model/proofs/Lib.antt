@@ -1,3 +1,4 @@
+pub mod Common
 pub mod EachLemmas
 pub mod TestLemmas
 pub mod PathLemmas

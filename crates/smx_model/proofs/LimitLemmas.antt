@@ -1,25 +1,12 @@
 -- Limits: of links, of descriptors of each process, and of numbers.
-use Rattle.std.proofs.Common.{◌≡◌, ℕ, ◌+◌, ◌<◌, ◌≤◌, Bool, true, false, ◌||◌, not, leb, eqb, arith, List, []}
-use Rattle.std.proofs.Common.{◌∷◌, ◌++◌, length, filter, Ok, rules, subst, inl}
-use Rattle.std.proofs.Common.{inr}
-use Rattle.std.specs.List.{count_by, list_any}
-use Rattle.std.proofs.lemmas.Bool.{cases_Bool, eqb-true, leb-false, or_parts}
+use Rattle.smx_model.proofs.Common.{◌≡◌, ℕ, ◌+◌, ◌<◌, ◌≤◌, Bool, false, ◌||◌, leb, eqb, arith, List, [], ◌∷◌, ◌++◌}
+use Rattle.smx_model.proofs.Common.{length, filter, Ok, rules, or_parts, AllByRecursion, Command, Entry, DriverSpec}
+use Rattle.smx_model.proofs.Common.{MAX_DESCRIPTORS, MAX_LINKS, NUMBER_END, Link, TooManyDescriptors, Descriptor}
+use Rattle.smx_model.proofs.Common.{outcome, Configuration, empty, fd_before, after, free_fd, ComesBefore, IsRising}
+use Rattle.std.specs.List.{count_by}
+use Rattle.std.proofs.lemmas.Bool.{leb-false}
 use Rattle.std.proofs.lemmas.List.{length_push}
 use Rattle.std.proofs.lemmas.List.Sums.{count_by-le-length, length-filter}
-use Rattle.std.proofs.lemmas.Bool.Decides.{nat_tests}
-use Rattle.std.specs.List.{AllByRecursion}
-use Rattle.smx_types.specs.declared.command.Command.{Command}
-use Rattle.smx_types.specs.declared.command.Entry.{Entry}
-use Rattle.smx_types.specs.declared.driver.DriverSpec.{DriverSpec}
-use Rattle.smx_types.specs.declared.limits.TheConstants.{MAX_DESCRIPTORS, MAX_LINKS, NUMBER_END}
-use Rattle.smx_types.specs.declared.link.Link.{Link}
-use Rattle.smx_types.specs.declared.reply.Fault.TheVariants.{TooManyDescriptors}
-use Rattle.smx_types.specs.declared.stream.Descriptor.{Descriptor}
-use Rattle.smx_model.specs.Commands.{outcome}
-use Rattle.smx_model.specs.Configuration.{Configuration, empty, fd_before, is_fd, pair_before}
-use Rattle.smx_model.specs.Histories.{after}
-use Rattle.smx_model.specs.Lookups.{free_fd}
-use Rattle.smx_model.specs.Ordered.{ComesBefore, IsRising}
 use Rattle.smx_model.proofs.SettledLemmas.{MovesKeep, after_by, moved_by}
 use Rattle.smx_model.proofs.EachLemmas.{each_filter, each_map, each_of_every, each_placed}
 use Rattle.smx_model.proofs.KeptLemmas.{always_is_kept}
@@ -37,8 +24,7 @@ pub record IsWithin (c : Configuration) : Type 0 where
 
 -- a free number of a process is below the maximum number of its descriptors
 free_below : (c : Configuration) (process fd : ℕ) → free_fd c process ≡ Ok fd → fd < MAX_DESCRIPTORS
-free_below c process fd e =
-    range_below (λ n. not (list_any (is_fd process n) c.fds)) 0 MAX_DESCRIPTORS fd (there_is TooManyDescriptors _ fd e)
+free_below c process fd e = grind (arith, range_below, there_is TooManyDescriptors _ fd e)
 
 -- one more link, and fewer links
 
@@ -49,8 +35,7 @@ fewer_fit test ls h = omega (arith, h, length-filter test ls, count_by-le-length
 -- if there is room for a link, one more link is within the limit
 link_fits : (ls : List Link) (l : Link) (b : Bool) → (leb MAX_LINKS (length ls) || b) ≡ false
     → length (ls ++ l ∷ []) ≤ MAX_LINKS
-link_fits ls l b room =
-    omega (arith, length_push ls l, leb-false MAX_LINKS (length ls) (or_parts (leb MAX_LINKS (length ls)) b room).0)
+link_fits ls l b room = grind (arith, length_push ls l)
 
 -- if a next number is below its end, the one after it is at most the end
 number_fits : (b : Bool) (n : ℕ) → (b || leb NUMBER_END n) ≡ false → n + 1 ≤ NUMBER_END
@@ -66,10 +51,7 @@ within_accepted drivers c process k h = of_rows _ drivers c process k
 
 -- each move keeps the configuration within the limits
 within_moved : (drivers : List DriverSpec) → MovesKeep IsWithin drivers
-within_moved drivers = record {
-  each = λ c p h. moved_by IsWithin drivers c p h
-      (λ q m e. record { links = h.links; numbers = h.numbers; ids = h.ids; serials = h.serials });
-}
+within_moved drivers = grind (arith, moved_by IsWithin drivers)
 
 -- after any history the links, numbers, ids and serials are within the limits
 pub always_within : (drivers : List DriverSpec) (history : List Entry) → IsWithin (after drivers history)
@@ -81,9 +63,7 @@ always_within drivers history = after_by IsWithin drivers empty history (within_
 -- a process' descriptors after one of its own have higher numbers
 later_numbers : (d : Descriptor) (ds : List Descriptor) → ComesBefore fd_before d ds
     → AllByRecursion (λ e. e.process ≡ d.process → d.fd < e.fd) ds
-later_numbers d ds h = each_map _ _ ds (λ e before same. after d.process d.fd e.process e.fd same before) h where
-  after : (a b x y : ℕ) → x ≡ a → pair_before a b x y ≡ true → b < y
-  after a b x y same h = grind (arith, nat_tests)
+later_numbers d ds h = grind (arith, each_map)
 
 -- a process has at most as many descriptors from a number on as there are numbers from there to the limit
 few_from : (ds : List Descriptor) (process a : ℕ) → IsRising fd_before ds
@@ -91,19 +71,8 @@ few_from : (ds : List Descriptor) (process a : ℕ) → IsRising fd_before ds
     → a ≤ MAX_DESCRIPTORS
     → a + length (filter (λ d. eqb d.process process) ds) ≤ MAX_DESCRIPTORS
 few_from [] process a r h k le = omega (arith, le)
-few_from (d ∷ ds) process a r h k le = elim (cases_Bool (eqb d.process process)) [
-  | inl t ↦ let is = eqb-true d.process process t in rw t
-      (omega (
-        arith,
-        h.0 is,
-        k.0,
-        few_from ds process (d.fd + 1) r.1
-            (subst (λ (p : ℕ). AllByRecursion (λ e. e.process ≡ p → d.fd + 1 ≤ e.fd) ds) is
-            (each_map _ _ ds (λ e above same. omega (arith, above same)) (later_numbers d ds r.0)))
-            k.1 (omega (arith, k.0)),
-      ))
-  | inr f ↦ rw f (few_from ds process a r.1 h.1 k.1 le)
-]
+few_from (d ∷ ds) process a r h k le =
+    grind (arith, few_from ds process (d.fd + 1) r.1, each_map, later_numbers, few_from ds process a r.1 h.1 k.1 le)
 
 -- after any history each process has at most the maximum number of descriptors
 pub always_few : (drivers : List DriverSpec) (history : List Entry) (process : ℕ)

@@ -1,19 +1,12 @@
 -- The result of a look-up that is not refused.
-use Rattle.std.proofs.Common.{◌≡◌, ℕ, Bool, true, false, List, Option, Some, None, Result, Ok, Err, refl, sym, ap, ◌∙◌}
-use Rattle.std.specs.List.{find}
-use Rattle.std.specs.Option.{option_map, ok_or}
-use Rattle.smx_types.specs.declared.driver.DriverSpec.{DriverSpec}
-use Rattle.smx_types.specs.declared.reply.Fault.{Fault}
+use Rattle.smx_model.proofs.Common.{◌≡◌, ℕ, Bool, true, false, List, Option, Some, None, Result, Ok, Err, refl, ap}
+use Rattle.smx_model.proofs.Common.{find, DriverSpec, Fault, Place, StreamId, Descriptor}
+use Rattle.smx_model.proofs.Common.{Configuration, is_fd, is_hung, free_stream, leaf_stream, live_leaf, live_stream}
+use Rattle.smx_model.proofs.Common.{stream_of, refuse, live_write_side, arith}
+use Rattle.std.specs.Option.{ok_or}
 use Rattle.smx_types.specs.declared.reply.Fault.TheVariants.{BadDescriptor, HungUp}
-use Rattle.smx_types.specs.declared.stream.Place.{Place}
 use Rattle.smx_types.specs.declared.stream.Side.TheVariants as side
-use Rattle.smx_types.specs.declared.stream.StreamId.{StreamId}
-use Rattle.smx_types.specs.declared.stream.Descriptor.{Descriptor}
-use Rattle.smx_model.specs.Configuration.{Configuration, is_fd}
-use Rattle.smx_model.specs.Hangups.{is_hung}
-use Rattle.smx_model.specs.Lookups.{free_stream, leaf_stream, live_leaf, live_stream, stream_of}
-use Rattle.smx_model.specs.Outcomes.{◌>>=◌, refuse}
-use Rattle.smx_model.specs.Settling.{live_write_side}
+use Rattle.smx_model.specs.Outcomes.{◌>>=◌}
 
 -- if a missing value would be a fault and there is no fault, the value exists
 pub there_is : {A : Type 0} (f : Fault) (o : Option A) (x : A) → ok_or o f ≡ Ok x → o ≡ Some x
@@ -35,24 +28,12 @@ passed f false g x e = (refl, e)
 -- a look-up followed by a test gives the value of the look-up, which passed the test
 pub tested : (f : Fault) (r : Result StreamId Fault) (t : StreamId → Bool) (x : StreamId)
     → (r >>= (λ y. refuse f (t y) >>= (λ _. Ok y))) ≡ Ok x → (r ≡ Ok x) × (t x ≡ false)
-tested f r t x e =
-    let y = looked_up r _ x e in
-    let p = passed f (t y.0) _ x y.2 in
-    let same : y.0 ≡ x = by y.0 p.1 in (y.1 ∙ p.1, ap t (sym same) ∙ p.0) where
-      named : StreamId → Result StreamId Fault
-      named z = Ok z
-
-      by : (y : StreamId) → named y ≡ named x → y ≡ x
-      by y e = cc
+tested f r t x e = grind (arith, looked_up, passed)
 
 -- the stream of a descriptor is that of the first with its process and its number
 pub descriptor_of : (c : Configuration) (process fd : ℕ) (s : StreamId) → stream_of c process fd ≡ Ok s
     → (d : Descriptor) × (find (is_fd process fd) c.fds ≡ Some d) × (d.stream ≡ s)
-descriptor_of c process fd s e = by (find (is_fd process fd) c.fds) (there_is BadDescriptor _ s e) where
-  by : (o : Option Descriptor) → option_map (λ d. d.stream) o ≡ Some s
-      → (d : Descriptor) × (o ≡ Some d) × (d.stream ≡ s)
-  by None k = cc
-  by (Some d) k = (d, refl, cc)
+descriptor_of c process fd s e = grind (arith, there_is BadDescriptor _ s e)
 
 -- a descriptor's stream found as live is also found as one not linked below, and has not hung up
 pub live_is : (c : Configuration) (process fd : ℕ) (s : StreamId) → live_stream c process fd ≡ Ok s
@@ -67,8 +48,4 @@ live_leaf_is drivers c name minor s e = tested HungUp (leaf_stream drivers c nam
 -- the write side of a stream that is not hung up is its write side
 pub live_is_side : (hungs : List StreamId) (s : StreamId) (q : Place) → live_write_side hungs s ≡ Some q
     → record { stream = s; side = side.Write } ≡ q
-live_is_side hungs s q e = by (is_hung hungs s) refl e where
-  by : (b : Bool) → is_hung hungs s ≡ b → live_write_side hungs s ≡ Some q
-      → record { stream = s; side = side.Write } ≡ q
-  by true t k = let z : None ≡ Some q = rw t at k in cc
-  by false f k = let z : Some (record { stream = s; side = side.Write }) ≡ Some q = rw f at k in cc
+live_is_side hungs s q e = grind arith

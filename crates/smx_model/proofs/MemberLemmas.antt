@@ -1,8 +1,7 @@
 -- The elements of a list after an insertion or a filter.
-use Rattle.std.proofs.Common.{suc, Bool, arith, List, ◌∷◌}
-use Rattle.std.proofs.Common.{filter, refl}
-use Rattle.std.specs.List.{All, Contains}
-use Rattle.std.proofs.lemmas.List.Elements.{All-contains, All-contains_itself, All-filter}
+use Rattle.smx_model.proofs.Common.{suc, Bool, arith, List, ◌∷◌, filter, refl, All-filter}
+use Rattle.std.specs.List.{Contains}
+use Rattle.std.proofs.lemmas.List.Elements.{All-contains, All-contains_itself}
 
 -- the first element of a list is in it
 pub is_first : {X : Type 0} (x : X) (xs : List X) → Contains (x ∷ xs) x

@@ -1,17 +1,7 @@
 -- The queues of a flow in order determine it.
-use Rattle.std.proofs.Common.{◌≡◌, true, false, List, [], ◌∷◌, ◌++◌, refl, sym}
-use Rattle.std.proofs.Common.{ap, ◌∙◌, subst, arith, inl, inr}
-use Rattle.std.specs.List.{AllByRecursion}
-use Rattle.std.proofs.lemmas.Bool.{both_ways, cases_Bool}
-use Rattle.std.proofs.lemmas.Bool.Decides.{nat_tests}
-use Rattle.smx_types.specs.declared.message.Message.{Message}
-use Rattle.smx_types.specs.declared.stream.Place.{Place}
-use Rattle.smx_types.specs.declared.driver.DriverSpec.{DriverSpec}
-use Rattle.smx_model.specs.Configuration.{Configuration, QueuedMessage, is_at, queued_before, place_before, same_place}
-use Rattle.smx_model.specs.FlowOrder.{IsInOrder}
-use Rattle.smx_model.specs.Ordered.{with_inserted}
-use Rattle.smx_model.specs.Queues.{queue}
-use Rattle.smx_model.specs.Settling.{after_move}
+use Rattle.smx_model.proofs.Common.{◌≡◌, true, false, List, [], ◌∷◌, ◌++◌, refl, arith, AllByRecursion, nat_tests}
+use Rattle.smx_model.proofs.Common.{Place, DriverSpec, Configuration, QueuedMessage, queued_before, place_before}
+use Rattle.smx_model.proofs.Common.{same_place, IsInOrder, with_inserted, queue, after_move, rules}
 use Rattle.smx_model.proofs.EachLemmas.{each_of_every, later_placed, later_without_first}
 use Rattle.smx_model.proofs.SettledLemmas.{moved_by}
 use Rattle.smx_model.proofs.SettlingLemmas.{same_place_is}
@@ -34,16 +24,7 @@ place_not_after p q h = grind (arith, nat_tests)
 
 -- the order of places is transitive
 pub place_before_trans : (p q r : Place) → place_before p q ≡ true → place_before q r ≡ true → place_before p r ≡ true
-place_before_trans p q r h k = elim (cases_Bool (place_before p r)) [
-  | inl t ↦ t
-  | inr f ↦ elim (cases_Bool (same_place p r)) [
-    | inl s ↦
-        absurd (both_ways (place_before q p) (place_not_after p q h)
-        (subst (λ (x : Place). place_before q x ≡ true) (sym (same_place_is p r s)) k))
-    | inr n ↦ absurd (both_ways (place_before q r)
-        (place_not_before r p q (place_either p r n f) (place_not_after p q h)) k)
-  ]
-]
+place_before_trans p q r h k = search (rules, place_not_after, same_place_is, place_not_before, place_either)
 
 -- a place is the same as itself
 pub same_self : (p : Place) → same_place p p ≡ true
@@ -58,9 +39,7 @@ same_not_before p = grind (arith, nat_tests)
 -- a flow in order stays in order after a message is inserted by its place
 pub order_placed : (hs : List QueuedMessage) (h : QueuedMessage) → IsInOrder hs
     → IsInOrder (with_inserted queued_before hs h)
-order_placed hs h o = later_placed (λ k j. queued_before j k ≡ false) queued_before h
-    (λ k t. place_not_after h.place k.place t) (λ k j t n. place_not_before h.place k.place j.place t n) hs
-    (each_of_every (λ k. queued_before h k ≡ false → queued_before h k ≡ false) hs (λ k f. f)) o
+order_placed hs h o = grind (arith, later_placed, place_not_after h.place, place_not_before h.place, each_of_every)
 
 -- an arriving message goes to the end of its queue, and no other queue changes
 
@@ -74,30 +53,15 @@ none_queued h (j ∷ hs) k lt n = rw (place_differs h.place k.place j.place lt n
 pub queue_placed : (hs : List QueuedMessage) (h : QueuedMessage) → IsInOrder hs
     → queue (with_inserted queued_before hs h) h.place ≡ queue hs h.place ++ h.message ∷ []
 queue_placed [] h o = rw (same_self h.place) refl
-queue_placed (k ∷ hs) h o = elim (cases_Bool (queued_before h k)) [
-  | inl t ↦ let e = none_queued h (k ∷ hs) k t (same_not_before k.place, o.0) in
-      rw (t, same_self h.place) (ap (λ (ms : List Message). h.message ∷ ms) e
-      ∙ ap (λ (ms : List Message). ms ++ h.message ∷ []) (sym e))
-  | inr f ↦ elim (cases_Bool (is_at h.place k)) [
-    | inl at_h ↦ rw (f, at_h) (ap (λ (ms : List Message). k.message ∷ ms) (queue_placed hs h o.1))
-    | inr not_h ↦ rw (f, not_h) (queue_placed hs h o.1)
-  ]
-]
+queue_placed (k ∷ hs) h o = search (rules, none_queued, same_not_before, same_self, queue_placed hs h o.1)
 
 -- a message that is inserted by its place leaves each other queue unchanged
 pub queue_elsewhere : (hs : List QueuedMessage) (h : QueuedMessage) (q : Place) → same_place h.place q ≡ false
     → queue (with_inserted queued_before hs h) q ≡ queue hs q
 queue_elsewhere [] h q apart_ = rw apart_ refl
-queue_elsewhere (k ∷ hs) h q apart_ = elim (cases_Bool (queued_before h k)) [
-  | inl t ↦ rw (t, apart_) refl
-  | inr f ↦ elim (cases_Bool (is_at q k)) [
-    | inl at_q ↦ rw (f, at_q) (ap (λ (ms : List Message). k.message ∷ ms) (queue_elsewhere hs h q apart_))
-    | inr not_q ↦ rw (f, not_q) (queue_elsewhere hs h q apart_)
-  ]
-]
+queue_elsewhere (k ∷ hs) h q apart_ = grind (arith, queue_elsewhere hs h q apart_)
 
 -- a move keeps the flow in order of places
 pub order_moved : (drivers : List DriverSpec) (c : Configuration) (p : Place) → IsInOrder c.flow
     → IsInOrder (after_move drivers c p).flow
-order_moved drivers c p h = moved_by (λ d. IsInOrder d.flow) drivers c p h
-    (λ q m e. order_placed _ (record { place = q; message = m }) (later_without_first _ (is_at p) c.flow h))
+order_moved drivers c p h = grind (arith, moved_by, order_placed, later_without_first)

@@ -1,11 +1,8 @@
 -- Properties of every accepted outcome.
-use Rattle.std.proofs.Common.{◌≡◌, Bool, true, false, Option, Some, None, Result, Ok, Err, refl}
-use Rattle.std.specs.Prelude.{if◌then◌else◌, IfOk}
+use Rattle.smx_model.proofs.Common.{◌≡◌, Bool, true, false, Option, Some, None, Result, Ok, Err, refl, if◌then◌else◌}
+use Rattle.smx_model.proofs.Common.{IfOk, Fault, Reply, Configuration, refuse, Outcome}
 use Rattle.std.specs.Option.{ok_or}
-use Rattle.smx_types.specs.declared.reply.Fault.{Fault}
-use Rattle.smx_types.specs.declared.reply.Reply.{Reply}
-use Rattle.smx_model.specs.Configuration.{Configuration}
-use Rattle.smx_model.specs.Outcomes.{◌>>=◌, refuse, Outcome}
+use Rattle.smx_model.specs.Outcomes.{◌>>=◌}
 
 -- P holds of the configuration and the reply, if the outcome is accepted
 abbrev of_accepted : (Configuration → Reply → Type 0) → Outcome → Type 0

@@ -1,12 +1,11 @@
 -- Paths, and the test for them.
-use Rattle.std.proofs.Common.{◌≡◌, ℕ, zero, suc, ◌<◌, Bool, true, false, ◌&&◌, ◌||◌, eqb, List, [], ◌∷◌, ◌++◌, length}
-use Rattle.std.proofs.Common.{get_or, refl, ◌∙◌, sym, subst, arith, inl, inr, length-append, find, Some}
+use Rattle.smx_model.proofs.Common.{◌≡◌, ℕ, zero, suc, ◌<◌, Bool, true, false, ◌&&◌, ◌||◌, eqb, List, [], ◌∷◌, ◌++◌}
+use Rattle.smx_model.proofs.Common.{length, get_or, refl, sym, subst, arith, inl, inr, length-append, find, Some}
+use Rattle.smx_model.proofs.Common.{false≢true, both_ways, or_cases, and_parts}
+use Rattle.smx_model.proofs.Common.{or_left, or_right, eqb-true, Link, HasNoCycle, reaches, nat_tests}
 use Rattle.std.specs.List.{Contains}
-use Rattle.std.proofs.lemmas.Bool.{false_from_ne_true, cases_Bool, false≢true, both_ways, or_cases, and_parts, and_from}
-use Rattle.std.proofs.lemmas.Bool.{or_left, or_right, eqb-true, eq-eqb}
 use Rattle.std.proofs.lemmas.List.Elements.{Contains-append_cases, Contains-append_left, Contains-append_right}
-use Rattle.smx_types.specs.declared.link.Link.{Link}
-use Rattle.smx_model.specs.Paths.{IsPath, Path, HasNoCycle, reaches}
+use Rattle.smx_model.specs.Paths.{IsPath, Path}
 use Rattle.smx_model.proofs.MemberLemmas.{is_first, is_later}
 
 -- driver a is driver b, or reaches it
@@ -38,8 +37,7 @@ path_more xs ys more a b h = record { path = h.path; some = h.some; leads = walk
 -- if driver a is driver b, or reaches it, links lead from a to b
 comes_walk : (links : List Link) (a b : ℕ) → (reaches links a b ≡ true → Path links a b) → comes links a b ≡ true
     → Walk links a b
-comes_walk links a b f h = elim (or_cases (eqb a b) (reaches links a b) h)
-    [ inl e ↦ record { path = []; leads = eqb-true a b e } | inr r ↦ record { path = (f r).path; leads = (f r).leads } ]
+comes_walk links a b f h = grind arith
 
 -- links to the upper driver of a link, the link, and links from its lower driver form a path
 path_over : (l : Link) (ls : List Link) (a b : ℕ) → Walk ls a l.ctl.driver → Walk ls l.lower.driver b
@@ -55,65 +53,51 @@ path_over l ls a b h k = record {
 -- if the test says that one driver reaches another, a path leads from the first to the second
 pub reaches_path : (links : List Link) (a b : ℕ) → reaches links a b ≡ true → Path links a b
 reaches_path [] a b h = absurd (false≢true h)
-reaches_path (l ∷ ls) a b h = elim (or_cases (reaches ls a b) _ h) [
-  | inl r ↦ path_more ls (l ∷ ls) (λ k. is_later k l ls) a b (reaches_path ls a b r)
-  | inr via ↦ let v = and_parts (comes ls a l.ctl.driver) (comes ls l.lower.driver b) via in
-      path_over l ls a b (comes_walk ls a l.ctl.driver (reaches_path ls a l.ctl.driver) v.0)
-      (comes_walk ls l.lower.driver b (reaches_path ls l.lower.driver b) v.1)
-]
+reaches_path (l ∷ ls) a b h =
+    grind (
+      arith,
+      nat_tests,
+      path_more ls (l ∷ ls),
+      is_later,
+      reaches_path ls a b,
+      path_over l ls a b,
+      comes_walk ls a l.ctl.driver (reaches_path ls a l.ctl.driver),
+      reaches_path ls a l.ctl.driver,
+      comes_walk ls l.lower.driver b (reaches_path ls l.lower.driver b),
+      reaches_path ls l.lower.driver b,
+    )
 
 -- a driver that reaches a second one reaches every driver that the second is or reaches
 reaches_comes : (links : List Link) (a b c : ℕ)
     → ((x y z : ℕ) → reaches links x y ≡ true → reaches links y z ≡ true → reaches links x z ≡ true)
     → reaches links a b ≡ true → comes links b c ≡ true → reaches links a c ≡ true
-reaches_comes links a b c trans h k = elim (or_cases (eqb b c) (reaches links b c) k)
-    [ inl e ↦ subst (λ (x : ℕ). reaches links a x ≡ true) (eqb-true b c e) h | inr r ↦ trans a b c h r ]
+reaches_comes links a b c trans h k = grind (arith, trans a b c h)
 
 -- a driver that is or reaches a second one reaches every driver that the second reaches
 comes_reaches : (links : List Link) (a b c : ℕ)
     → ((x y z : ℕ) → reaches links x y ≡ true → reaches links y z ≡ true → reaches links x z ≡ true)
     → comes links a b ≡ true → reaches links b c ≡ true → reaches links a c ≡ true
-comes_reaches links a b c trans h k = elim (or_cases (eqb a b) (reaches links a b) h)
-    [ inl e ↦ subst (λ (x : ℕ). reaches links x c ≡ true) (sym (eqb-true a b e)) k | inr r ↦ trans a b c r k ]
+comes_reaches links a b c trans h k = grind (arith, trans a b c)
 
 -- a driver that reaches a second one reaches every driver that the second reaches
 pub reaches_trans : (links : List Link) (a b c : ℕ) → reaches links a b ≡ true → reaches links b c ≡ true
     → reaches links a c ≡ true
 reaches_trans [] a b c h k = h
-reaches_trans (l ∷ ls) a b c h k =
-    elim (or_cases (reaches ls a b) (comes ls a l.ctl.driver && comes ls l.lower.driver b) h) [
-      | inl h1 ↦ elim (or_cases (reaches ls b c) (comes ls b l.ctl.driver && comes ls l.lower.driver c) k) [
-        | inl k1 ↦ or_left _ _ (reaches_trans ls a b c h1 k1)
-        | inr k2 ↦ let v = and_parts (comes ls b l.ctl.driver) (comes ls l.lower.driver c) k2 in
-            or_right _ _ (and_from _ _ (or_right _ _ (reaches_comes ls a b l.ctl.driver (reaches_trans ls) h1 v.0)) v.1)
-      ]
-      | inr h2 ↦ let u = and_parts (comes ls a l.ctl.driver) (comes ls l.lower.driver b) h2 in
-          elim (or_cases (reaches ls b c) (comes ls b l.ctl.driver && comes ls l.lower.driver c) k) [
-            | inl k1 ↦
-                or_right _ _
-                (and_from _ _ u.0 (or_right _ _ (comes_reaches ls l.lower.driver b c (reaches_trans ls) u.1 k1)))
-            | inr k2 ↦ let v = and_parts (comes ls b l.ctl.driver) (comes ls l.lower.driver c) k2 in
-                or_right _ _ (and_from _ _ u.0 v.1)
-          ]
-    ]
+reaches_trans (l ∷ ls) a b c h k = grind (arith, reaches_trans ls a b c, reaches_comes, reaches_trans ls, comes_reaches)
 
 -- the upper driver of a link reaches its lower driver
 pub reaches_at : (links : List Link) (k : ℕ) (l : Link) → k < length links → get_or links k l ≡ l
     → reaches links l.ctl.driver l.lower.driver ≡ true
 reaches_at [] k l lt e = absurd (omega arith)
-reaches_at (m ∷ ls) zero l lt e = subst (λ (x : Link). reaches (x ∷ ls) l.ctl.driver l.lower.driver ≡ true) (sym e)
-    (or_right _ _ (and_from _ _ (or_left _ _ (eq-eqb l.ctl.driver l.ctl.driver refl))
-    (or_left _ _ (eq-eqb l.lower.driver l.lower.driver refl))))
+reaches_at (m ∷ ls) zero l lt e = grind arith
 reaches_at (m ∷ ls) (suc k) l lt e = or_left _ _ (reaches_at ls k l (omega arith) e)
 
 -- if links that begin with a given one lead from one driver to another, the test says that it reaches the other
 walk_reaches : (links : List Link) (a : ℕ) (l : Link) (p : List Link) (b : ℕ) → IsPath links a (l ∷ p) b
     → reaches links a b ≡ true
-walk_reaches links a l [] b h = subst (λ (x : ℕ). reaches links x b ≡ true) h.1
-    (subst (λ (x : ℕ). reaches links l.ctl.driver x ≡ true) h.2 (reaches_at links h.0.0 l h.0.1 h.0.2))
-walk_reaches links a l (m ∷ p) b h = subst (λ (x : ℕ). reaches links x b ≡ true) h.1
-    (reaches_trans links l.ctl.driver l.lower.driver b (reaches_at links h.0.0 l h.0.1 h.0.2)
-    (walk_reaches links l.lower.driver m p b h.2))
+walk_reaches links a l [] b h = grind (arith, reaches_at links h.0.0 l h.0.1 h.0.2)
+walk_reaches links a l (m ∷ p) b h =
+    grind (arith, reaches_trans, reaches_at, walk_reaches links l.lower.driver m p b h.2)
 
 -- if a nonempty list of links leads from one driver to another, the test says that it reaches the other
 nonempty_reaches : (links : List Link) (a : ℕ) (p : List Link) (b : ℕ) → 0 < length p → IsPath links a p b
@@ -156,25 +140,24 @@ no_cycle_fewer xs ys less none d h = none d (path_more ys xs less d d h)
 pub reaches_link : (links : List Link) (test : Link → Bool) (l : Link) → find test links ≡ Some l
     → reaches links l.ctl.driver l.lower.driver ≡ true
 reaches_link [] test l e = cc
-reaches_link (m ∷ ls) test l e = elim (cases_Bool (test m)) [
-  | inl t ↦ let k : Some m ≡ Some l = rw t at e in let same : m ≡ l = cc in reaches_at (m ∷ ls) 0 l (omega arith) same
-  | inr f ↦ or_left _ _ (reaches_link ls test l (rw f at e))
-]
+reaches_link (m ∷ ls) test l e = grind (arith, reaches_at (m ∷ ls) 0 l (omega arith), reaches_link ls test l)
 
 -- an element of links with one more at the head is one of them with that one at the end
 head_to_end : (ls : List Link) (l k : Link) → Contains (l ∷ ls) k → Contains (ls ++ l ∷ []) k
-head_to_end ls l k h = elim (Contains-append_cases (l ∷ []) ls k h)
-    [ inl c ↦ Contains-append_right ls (l ∷ []) k c | inr c ↦ Contains-append_left ls (l ∷ []) k c ]
+head_to_end ls l k h = grind (arith, Contains-append_cases, Contains-append_right, Contains-append_left)
 
 -- paths are the same with one more link at the end or at the head
 pub reaches_push : (links : List Link) (l : Link) (a b : ℕ) → reaches (links ++ l ∷ []) a b ≡ reaches (l ∷ links) a b
-reaches_push links l a b = elim (cases_Bool (reaches (l ∷ links) a b)) [
-  | inl t ↦ path_reaches (links ++ l ∷ []) a b
-      (path_more (l ∷ links) (links ++ l ∷ []) (head_to_end links l) a b (reaches_path (l ∷ links) a b t)) ∙ sym t
-  | inr f ↦
-      false_from_ne_true _
-      (λ t. both_ways _ f
-      (path_reaches (l ∷ links) a b
-      (path_more (links ++ l ∷ []) (l ∷ links) (end_to_head links l) a b
-      (reaches_path (links ++ l ∷ []) a b t)))) ∙ sym f
-]
+reaches_push links l a b =
+    grind (
+      arith,
+      nat_tests,
+      path_reaches (links ++ l ∷ []) a b,
+      path_more (l ∷ links) (links ++ l ∷ []) (head_to_end links l) a b,
+      head_to_end links l,
+      reaches_path (l ∷ links) a b,
+      path_reaches (l ∷ links) a b,
+      path_more (links ++ l ∷ []) (l ∷ links) (end_to_head links l) a b,
+      end_to_head links l,
+      reaches_path (links ++ l ∷ []) a b,
+    )

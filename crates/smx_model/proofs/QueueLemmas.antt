@@ -1,26 +1,16 @@
 -- Changes of single queues and full marks, the least movable place, and the dropped serials.
-use Rattle.std.proofs.Common.{◌≡◌, ℕ, Bool, true, false, ◌||◌, not, cond, eqb, List, [], ◌∷◌, ◌++◌}
-use Rattle.std.proofs.Common.{filter, find, drop, Option, Some, None, refl, sym, ap, ◌∙◌, subst, inl}
-use Rattle.std.proofs.Common.{inr}
-use Rattle.std.specs.Prelude.{slice_get}
-use Rattle.std.specs.List.{AllPairs, list_any}
-use Rattle.std.proofs.lemmas.Bool.{both_ways, cases_Bool, eq-eqb, eqb-true, false_from_ne_true, ne_eqb}
-use Rattle.smx_types.specs.declared.driver.DriverSpec.{DriverSpec}
-use Rattle.smx_types.specs.declared.message.Message.{Message}
-use Rattle.smx_types.specs.declared.stream.Place.{Place}
-use Rattle.smx_model.specs.Configuration.{Configuration, QueuedMessage, queued_before, is_at, place_before, same_place}
-use Rattle.smx_model.specs.FlowOrder.{IsInOrder}
-use Rattle.smx_model.specs.LeastMovable.{IsLeastMovable}
-use Rattle.smx_model.specs.Ordered.{with_inserted, in_rising_order, without_first}
-use Rattle.smx_model.specs.Queues.{first_message, with_mark, queue}
-use Rattle.smx_model.specs.Removal.{serials_that_left, serials}
-use Rattle.smx_model.specs.Settling.{is_movable, least_movable}
+use Rattle.smx_model.proofs.Common.{◌≡◌, ℕ, Bool, true, false, not, cond, eqb, List, [], ◌∷◌, ◌++◌, filter, find}
+use Rattle.smx_model.proofs.Common.{Option, Some, None, refl, sym, ap, subst, inl, inr, slice_get, AllPairs}
+use Rattle.smx_model.proofs.Common.{list_any, both_ways, cases_Bool, eq-eqb, eqb-true, false_from_ne_true, ne_eqb}
+use Rattle.smx_model.proofs.Common.{DriverSpec, Message, Place, Configuration, QueuedMessage, queued_before, is_at}
+use Rattle.smx_model.proofs.Common.{place_before, same_place, IsInOrder, IsLeastMovable, with_inserted, in_rising_order}
+use Rattle.smx_model.proofs.Common.{without_first, first_message, with_mark, queue, serials_that_left, serials}
+use Rattle.smx_model.proofs.Common.{is_movable, least_movable, AllByRecursion, AllLater, arith, rules, nat_tests}
+use Rattle.std.proofs.Common.{drop}
 use Rattle.smx_model.proofs.OrderLemmas.{queue_elsewhere, queue_placed, same_self, same_not_before}
 use Rattle.smx_model.proofs.SettlingLemmas.{no_front, none_least, same_place_is, some_least}
 use Rattle.smx_model.proofs.EachLemmas.{later_pairs}
 use Rattle.smx_model.proofs.TestLemmas.{find_passes, any_of_placed}
-use Rattle.std.specs.List.{AllByRecursion}
-use Rattle.smx_model.specs.Ordered.{AllLater}
 
 -- equal places have the same equalities with a third
 same_places : (p q r : Place) → same_place p q ≡ true → same_place p r ≡ same_place q r
@@ -40,12 +30,14 @@ not_same_turned p q h = false_from_ne_true _ (λ t. both_ways (same_place p q) h
 pub arrived_queue : (flow : List QueuedMessage) (p q : Place) (m : Message) → IsInOrder flow
     → queue (with_inserted queued_before flow (record { place = p; message = m })) q
     ≡ cond (same_place p q) (queue flow q ++ m ∷ []) (queue flow q)
-arrived_queue flow p q m o = elim (cases_Bool (same_place p q)) [
-  | inl t ↦
-      rw t (subst (λ (x : Place). queue (with_inserted queued_before flow (record { place = p; message = m })) x
-      ≡ queue flow x ++ m ∷ []) (same_place_is p q t) (queue_placed flow (record { place = p; message = m }) o))
-  | inr f ↦ rw f (queue_elsewhere flow (record { place = p; message = m }) q f)
-]
+arrived_queue flow p q m o =
+    grind (
+      arith,
+      nat_tests,
+      same_place_is p q,
+      queue_placed flow (record { place = p; message = m }) o,
+      queue_elsewhere flow (record { place = p; message = m }) q,
+    )
 
 -- the first message leaves
 
@@ -53,21 +45,7 @@ arrived_queue flow p q m o = elim (cases_Bool (same_place p q)) [
 pub left_queue : (flow : List QueuedMessage) (p q : Place)
     → queue (without_first (is_at p) flow) q ≡ cond (same_place p q) (drop 1 (queue flow q)) (queue flow q)
 left_queue [] p q = elim (cases_Bool (same_place p q)) [ inl t ↦ rw t refl | inr f ↦ rw f refl ]
-left_queue (k ∷ ks) p q = elim (cases_Bool (same_place k.place p)) [
-  | inl at_p ↦ let e = same_places k.place p q at_p in elim (cases_Bool (same_place p q)) [
-    | inl t ↦ rw (at_p, e, t) refl
-    | inr f ↦ rw (at_p, e, f) refl
-  ]
-  | inr not_p ↦ elim (cases_Bool (same_place p q)) [
-    | inl t ↦ let f : same_place k.place q ≡ false = subst (λ (x : Place). same_place k.place x ≡ false)
-        (same_place_is p q t) not_p in
-        let i = left_queue ks p q in let j : queue (without_first (is_at p) ks) q ≡ drop 1 (queue ks q) = rw t at i in
-        rw (not_p, t, f) j
-    | inr f ↦ let i = left_queue ks p q in let j : queue (without_first (is_at p) ks) q ≡ queue ks q = rw f at i in
-        elim (cases_Bool (same_place k.place q))
-        [ inl u ↦ rw (not_p, f, u) (ap (λ (ms : List Message). k.message ∷ ms) j) | inr u ↦ rw (not_p, f, u) j ]
-  ]
-]
+left_queue (k ∷ ks) p q = grind (arith, nat_tests, same_places k.place p q, same_place_is p q, left_queue ks p q)
 
 -- the first message at a place is the first one of its queue
 pub front_is : (flow : List QueuedMessage) (p : Place) → first_message flow p ≡ slice_get (queue flow p) 0
@@ -80,18 +58,7 @@ front_is (k ∷ ks) p = elim (cases_Bool (is_at p k)) [ inl t ↦ rw t refl | in
 pub emptied_queue : (flow : List QueuedMessage) (goes : Place → Bool) (q : Place)
     → queue (filter (λ h. not (goes h.place)) flow) q ≡ cond (goes q) [] (queue flow q)
 emptied_queue [] goes q = elim (cases_Bool (goes q)) [ inl t ↦ rw t refl | inr f ↦ rw f refl ]
-emptied_queue (k ∷ ks) goes q = elim (cases_Bool (same_place k.place q)) [
-  | inl at_q ↦ let e : goes k.place ≡ goes q = ap goes (same_place_is k.place q at_q) in
-      let i = emptied_queue ks goes q in elim (cases_Bool (goes q)) [
-        | inl t ↦ let j : queue (filter (λ h. not (goes h.place)) ks) q ≡ [] = rw t at i in rw (e, t) j
-        | inr f ↦ let j : queue (filter (λ h. not (goes h.place)) ks) q ≡ queue ks q = rw f at i in
-            rw (e, f, at_q) (ap (λ (ms : List Message). k.message ∷ ms) j)
-      ]
-  | inr not_q ↦ elim (cases_Bool (goes k.place)) [
-    | inl t ↦ rw (t, not_q) (emptied_queue ks goes q)
-    | inr f ↦ rw (f, not_q) (emptied_queue ks goes q)
-  ]
-]
+emptied_queue (k ∷ ks) goes q = grind (arith, same_place_is k.place q, emptied_queue ks goes q)
 
 -- full marks
 
@@ -99,47 +66,19 @@ emptied_queue (k ∷ ks) goes q = elim (cases_Bool (same_place k.place q)) [
 any_unmarked : (p q : Place) (ps : List Place) → list_any (same_place q) (filter (λ r. not (same_place p r)) ps)
     ≡ cond (same_place p q) false (list_any (same_place q) ps)
 any_unmarked p q [] = elim (cases_Bool (same_place p q)) [ inl t ↦ rw t refl | inr f ↦ rw f refl ]
-any_unmarked p q (r ∷ rs) = let i = any_unmarked p q rs in elim (cases_Bool (same_place p q)) [
-  | inl t ↦ let j : list_any (same_place q) (filter (λ r. not (same_place p r)) rs) ≡ false = rw t at i in
-      let e = same_places p q r t in
-      elim (cases_Bool (same_place q r)) [ inl u ↦ rw (t, e, u) j | inr u ↦ rw (t, e, u) (rw u j) ]
-  | inr f ↦ let j : list_any (same_place q) (filter (λ r. not (same_place p r)) rs)
-      ≡ list_any (same_place q) rs = rw f at i in
-      elim (cases_Bool (same_place p r)) [
-        | inl u ↦ let w : same_place q r ≡ false = false_from_ne_true _
-            (λ v. both_ways (same_place p q) f
-            (subst (λ (x : Place). same_place p x ≡ true) (sym (same_place_is q r v)) u)) in rw (f, u, w) j
-        | inr u ↦ rw (f, u, j) refl
-      ]
-]
+any_unmarked p q (r ∷ rs) = grind (arith, any_unmarked p q rs, same_places p q r, same_place_is q r)
 
 -- setting or clearing the mark of a place decides whether it is full, and each other place is as full as before
 pub marked_full : (p q : Place) (full : Bool) (ps : List Place)
     → list_any (same_place q) (with_mark p full ps) ≡ cond (same_place p q) full (list_any (same_place q) ps)
-marked_full p q true ps =
-    any_of_placed (same_place q) place_before (filter (λ r. not (same_place p r)) ps) p ∙ by (any_unmarked p q ps) where
-      by : list_any (same_place q) (filter (λ r. not (same_place p r)) ps)
-          ≡ cond (same_place p q) false (list_any (same_place q) ps)
-          → (same_place q p || list_any (same_place q) (filter (λ r. not (same_place p r)) ps))
-          ≡ cond (same_place p q) true (list_any (same_place q) ps)
-      by i = elim (cases_Bool (same_place p q)) [
-        | inl t ↦ rw (t, same_turned p q t) refl
-        | inr f ↦ let j : list_any (same_place q) (filter (λ r. not (same_place p r)) ps)
-            ≡ list_any (same_place q) ps = rw f at i in rw (f, not_same_turned p q f) j
-      ]
+marked_full p q true ps = search (rules, any_of_placed (same_place q) place_before, any_unmarked p q ps)
 marked_full p q false ps = any_unmarked p q ps
 
 -- emptied places are not full, and each other place is as full as before
 pub emptied_full : (ps : List Place) (goes : Place → Bool) (q : Place)
     → list_any (same_place q) (filter (λ p. not (goes p)) ps) ≡ cond (goes q) false (list_any (same_place q) ps)
 emptied_full [] goes q = elim (cases_Bool (goes q)) [ inl t ↦ rw t refl | inr f ↦ rw f refl ]
-emptied_full (r ∷ rs) goes q = let i = emptied_full rs goes q in elim (cases_Bool (same_place q r)) [
-  | inl at_r ↦ let e : goes q ≡ goes r = ap goes (same_place_is q r at_r) in elim (cases_Bool (goes r)) [
-    | inl t ↦ let j : list_any (same_place q) (filter (λ p. not (goes p)) rs) ≡ false = rw (e, t) at i in rw (e, t) j
-    | inr f ↦ rw (e, f, at_r) refl
-  ]
-  | inr not_r ↦ elim (cases_Bool (goes r)) [ inl t ↦ rw (t, not_r) i | inr f ↦ rw (f, not_r) i ]
-]
+emptied_full (r ∷ rs) goes q = grind (arith, emptied_full rs goes q, same_place_is q r)
 
 -- the least movable place
 
@@ -148,36 +87,15 @@ no_front_before : (k : QueuedMessage) (hs : List QueuedMessage) (q : Place)
     → AllByRecursion (λ j. queued_before j k ≡ false) hs
     → place_before q k.place ≡ true → first_message hs q ≡ None
 no_front_before k [] q n h = refl
-no_front_before k (j ∷ hs) q n h = elim (cases_Bool (is_at q j)) [
-  | inl t ↦
-      absurd (both_ways (place_before q k.place)
-      (subst (λ (x : Place). place_before x k.place ≡ false) (same_place_is j.place q t) n.0) h)
-  | inr f ↦ rw f (no_front_before k hs q n.1 h)
-]
+no_front_before k (j ∷ hs) q n h = grind (arith, same_place_is j.place q, no_front_before k hs q n.1 h)
 
 -- if a message is the first of a flow in order whose place passes a test, no place with a message before its own passes
 first_is_least : (t : Place → Bool) (hs : List QueuedMessage) (h : QueuedMessage) (q : Place) (m : Message)
     → IsInOrder hs → find (λ h. t h.place) hs ≡ Some h → place_before q h.place ≡ true → first_message hs q ≡ Some m
     → t q ≡ false
 first_is_least t [] h q m o e b f = cc
-first_is_least t (k ∷ hs) h q m o e b f = elim (cases_Bool (t k.place)) [
-  | inl t1 ↦
-      let same : Some k ≡ Some h = rw t1 at e in
-      let is : k ≡ h = cc in
-      let before : place_before q k.place ≡ true = subst (λ (x : QueuedMessage). place_before q x.place ≡ true)
-      (sym is) b in
-      elim (cases_Bool (is_at q k)) [
-        | inl at_q ↦
-            absurd (both_ways (place_before q q) (same_not_before q)
-            (subst (λ (x : Place). place_before q x ≡ true) (same_place_is k.place q at_q) before))
-        | inr not_q ↦ let none = no_front_before k hs q o.0 before in
-            let g : first_message hs q ≡ Some m = rw not_q at f in let no : None ≡ Some m = sym none ∙ g in cc
-      ]
-  | inr t0 ↦ elim (cases_Bool (is_at q k)) [
-    | inl at_q ↦ ap t (sym (same_place_is k.place q at_q)) ∙ t0
-    | inr not_q ↦ first_is_least t hs h q m o.1 (rw t0 at e) b (rw not_q at f)
-  ]
-]
+first_is_least t (k ∷ hs) h q m o e b f =
+    grind (arith, same_not_before q, same_place_is k.place q, no_front_before k hs q o.0, first_is_least t hs h q m o.1)
 
 -- in a flow in order, the first movable place is the least one; without such a place the configuration is settled
 pub least_is : (drivers : List DriverSpec) (c : Configuration) → IsInOrder c.flow
@@ -204,8 +122,7 @@ not_kept : (n : ℕ) (keep : QueuedMessage → Bool) (hs : List QueuedMessage)
     → AllByRecursion (λ m. eqb n m ≡ false) (serials hs)
     → list_any (λ m. eqb n m) (serials (filter keep hs)) ≡ false
 not_kept n keep [] h = refl
-not_kept n keep (k ∷ ks) h =
-    elim (cases_Bool (keep k)) [ inl t ↦ rw (t, h.0) (not_kept n keep ks h.1) | inr f ↦ rw f (not_kept n keep ks h.1) ]
+not_kept n keep (k ∷ ks) h = grind (arith, not_kept n keep ks h.1)
 
 -- inequality of numbers is symmetric
 turned_eqb : (m n : ℕ) → eqb m n ≡ false → eqb n m ≡ false
@@ -238,10 +155,7 @@ those_gone : (keep : QueuedMessage → Bool) (new : List ℕ) (hs : List QueuedM
     → AllByRecursion (λ h. list_any (λ m. eqb h.message.serial m) new ≡ keep h) hs
     → filter (λ n. not (list_any (λ m. eqb n m) new)) (serials hs) ≡ serials (filter (λ h. not (keep h)) hs)
 those_gone keep new [] h = refl
-those_gone keep new (k ∷ ks) h = elim (cases_Bool (keep k)) [
-  | inl t ↦ rw (h.0, t) (those_gone keep new ks h.1)
-  | inr f ↦ rw (h.0, f) (ap (λ (ns : List ℕ). k.message.serial ∷ ns) (those_gone keep new ks h.1))
-]
+those_gone keep new (k ∷ ks) h = grind (arith, those_gone keep new ks h.1)
 
 -- the serials that leave a filtered flow are those of the messages that don't pass, rising
 pub gone_is : (flow : List QueuedMessage) (keep : QueuedMessage → Bool) → AllPairs (λ m n. m ≡ n → ⊥) (serials flow)

@@ -1,43 +1,24 @@
 -- A history without a hangup reports none.
-use Rattle.std.proofs.Common.{◌≡◌, ℕ, zero, suc, Bool, true, false, ◌&&◌, ◌||◌, not, eqb, ltb, List, [], ◌∷◌, length}
-use Rattle.std.proofs.Common.{filter, Option, Some, None, Result, Ok, Err, refl, rules, sym, ap, ◌∙◌, inl, inr}
-use Rattle.std.specs.Prelude.{slice_index_or, if◌then◌else◌}
-use Rattle.std.specs.List.{list_any}
-use Rattle.std.specs.Option.{is_some, ok_or}
-use Rattle.std.proofs.lemmas.Bool.{both_ways, cases_Bool, and_from, eq-eqb, false_from_ne_true, false≢true, or_cases}
-use Rattle.std.proofs.lemmas.Bool.{or_from, or_left, or_parts, or_right}
-use Rattle.smx_types.specs.ProgramLists.{ProgramLists}
-use Rattle.smx_types.specs.Versions.{are_more_drivers, is_hangup, is_of_hangup, least_of_programs}
+use Rattle.smx_model.proofs.Common.{◌≡◌, ℕ, zero, suc, Bool, true, false, ◌&&◌, eqb, List, [], ◌∷◌, Option, Some, None}
+use Rattle.smx_model.proofs.Common.{Result, Ok, Err, refl, rules, sym, ap, ◌∙◌, inl, inr, list_any, both_ways, and_from}
+use Rattle.smx_model.proofs.Common.{eq-eqb, false_from_ne_true, false≢true, or_cases, or_left, or_parts, or_right}
+use Rattle.smx_model.proofs.Common.{ProgramLists, is_hangup, Command, Entry, Which, DriverSpec, Link, LinkKind, Fault}
+use Rattle.smx_model.proofs.Common.{Place, StreamId, Transcript, outcome, step, done_outcome, link_outcome}
+use Rattle.smx_model.proofs.Common.{receive_outcome, unlink_outcome, Configuration, empty, is_hung, IsReportOf, after}
+use Rattle.smx_model.proofs.Common.{after_from, HoldsPrograms, IsLegal, IsLegalFrom, IsKept, free_stream, live_leaf}
+use Rattle.smx_model.proofs.Common.{live_stream, mux_stream, Outcome, refuse, without_links, arith, nat_tests}
+use Rattle.std.specs.Prelude.{slice_index_or}
+use Rattle.std.specs.Option.{ok_or}
+use Rattle.smx_types.specs.Versions.{is_of_hangup, least_of_programs}
 use Rattle.smx_types.specs.Versions.{least_of_transcript, tells_of_hangup, version_2_where}
-use Rattle.smx_types.specs.declared.command.Command.{Command}
 use Rattle.smx_types.specs.declared.command.Command.TheVariants as command
-use Rattle.smx_types.specs.declared.command.Entry.{Entry}
-use Rattle.smx_types.specs.declared.command.Which.{Which}
 use Rattle.smx_types.specs.declared.command.Which.TheVariants as which
-use Rattle.smx_types.specs.declared.driver.DriverSpec.{DriverSpec}
-use Rattle.smx_types.specs.declared.link.Link.{Link}
-use Rattle.smx_types.specs.declared.link.LinkKind.{LinkKind}
-use Rattle.smx_types.specs.declared.reply.Fault.{Fault}
 use Rattle.smx_types.specs.declared.reply.Fault.TheVariants as fault
 use Rattle.smx_types.specs.declared.reply.Reply.TheVariants as reply
-use Rattle.smx_types.specs.declared.stream.Place.{Place}
-use Rattle.smx_types.specs.declared.stream.Side.TheVariants as side
-use Rattle.smx_types.specs.declared.stream.StreamId.{StreamId}
-use Rattle.smx_types.specs.declared.transcript.Transcript.{Transcript}
 use Rattle.smx_types.specs.declared.version.Version.TheVariants.{V1}
-use Rattle.smx_model.specs.Commands.{outcome, step, after_outcome, done_outcome, link_outcome, read_outcome}
-use Rattle.smx_model.specs.Commands.{receive_outcome, unlink_outcome}
-use Rattle.smx_model.specs.Configuration.{Configuration, empty}
-use Rattle.smx_model.specs.Hangups.{is_hung}
-use Rattle.smx_model.specs.Headline.{IsReportOf}
-use Rattle.smx_model.specs.Histories.{after, after_from, commands_of, HoldsPrograms, IsLegal, IsLegalFrom}
-use Rattle.smx_model.specs.KeptConfigurations.{IsKept}
-use Rattle.smx_model.specs.Lookups.{free_stream, live_leaf, live_stream}
-use Rattle.smx_model.specs.Lookups.{mux_stream}
-use Rattle.smx_model.specs.Outcomes.{Outcome, ◌>>=◌, refuse}
-use Rattle.smx_model.specs.Queues.{first_message}
-use Rattle.smx_model.specs.Removal.{without_links}
-use Rattle.smx_model.specs.Standing.{exists}
+use Rattle.smx_model.specs.Commands.{read_outcome}
+use Rattle.smx_model.specs.Histories.{commands_of}
+use Rattle.smx_model.specs.Outcomes.{◌>>=◌}
 use Rattle.smx_model.proofs.HungStreamLemmas.{others_leave_hungs}
 use Rattle.smx_model.proofs.KeptLemmas.{empty_kept, step_keeps}
 
@@ -95,8 +76,7 @@ calm_mux drivers c process fd = search (calm_then, calm_free, calm_test, calm_ok
 -- without hung-up streams, the look-up of a leaf driver's live stream is not refused for a hangup
 calm_live_leaf : (drivers : List DriverSpec) (c : Configuration) (name : List ℕ) (minor : ℕ) → c.hungs ≡ []
     → IsCalm (λ s. false) (live_leaf drivers c name minor)
-calm_live_leaf drivers c name minor none =
-    search (calm_then, calm_hung, calm_test, calm_some, calm_ok, rules) depth 16
+calm_live_leaf drivers c name minor none = grind (arith, calm_then, calm_hung, calm_test, calm_some, calm_ok)
 
 -- neither the reply of an accepted command nor the fault of a refused one reports a hangup
 abbrev IsQuiet : Outcome → Type 0
@@ -109,8 +89,7 @@ quiet_done drivers c d = record { told = refl }
 -- without hung-up streams, linking reports no hangup
 quiet_linked : (drivers : List DriverSpec) (c : Configuration) (process fd arg : ℕ) (k : LinkKind) → c.hungs ≡ []
     → IsQuiet (link_outcome drivers c process fd arg k)
-quiet_linked drivers c process fd arg k none =
-    search (calm_then, calm_hung, calm_test, calm_some, calm_ok, rules) depth 30
+quiet_linked drivers c process fd arg k none = grind (arith, calm_then, calm_hung, calm_test, calm_some, calm_ok)
 
 -- unlinking reports no hangup
 quiet_unlinked : (drivers : List DriverSpec) (c : Configuration) (w : Which) (mine : Link → Bool)
@@ -125,32 +104,21 @@ quiet_received drivers c p = search (calm_then, calm_some, calm_ok, rules) depth
 -- without hung-up streams, a read reports no hangup
 quiet_read : (drivers : List DriverSpec) (c : Configuration) (s : StreamId) → c.hungs ≡ []
     → IsQuiet (read_outcome drivers c s)
-quiet_read drivers c s none = by (is_hung c.hungs s) (ap (λ (hs : List StreamId). is_hung hs s) none) where
-  p : Place
-  p = record { stream = s; side = side.Read }
-
-  by : (b : Bool) → b ≡ false
-      → IsQuiet (if b && not (is_some (first_message c.flow p)) then Ok (c, reply.Eof) else receive_outcome drivers c p)
-  by true e = absurd (false≢true (sym e))
-  by false e = quiet_received drivers c p
+quiet_read drivers c s none = grind arith
 
 -- without hung-up streams, the outcome of a command other than a hangup reports none
 quiet_accepted : (drivers : List DriverSpec) (c : Configuration) (process : ℕ) (k : Command) → c.hungs ≡ []
     → is_hangup k ≡ false → IsQuiet (outcome drivers c process k)
-quiet_accepted drivers c process (command.OpenClone name) none other =
-    search (calm_then, calm_some, calm_ok, rules) depth 20
+quiet_accepted drivers c process (command.OpenClone name) none other = grind (arith, calm_then, calm_some, calm_ok)
 quiet_accepted drivers c process (command.OpenMinor name minor) none other =
     search (calm_then, calm_test, calm_some, calm_ok, rules) depth 20
 quiet_accepted drivers c process (command.Dup fd) none other = search (calm_then, calm_some, calm_ok, rules) depth 20
-quiet_accepted drivers c process (command.Close fd) none other =
-    search (calm_then, calm_some, quiet_done, rules) depth 20
+quiet_accepted drivers c process (command.Close fd) none other = grind (arith, calm_then, calm_some, quiet_done)
 quiet_accepted drivers c process command.CloseAll none other = search (quiet_done, rules) depth 20
 quiet_accepted drivers c process (command.Link fd arg) none other = quiet_linked drivers c process fd arg _ none
 quiet_accepted drivers c process (command.Plink fd arg) none other = quiet_linked drivers c process fd arg _ none
-quiet_accepted drivers c process (command.Unlink fd w) none other =
-    search (calm_then, calm_mux, quiet_unlinked, rules) depth 20
-quiet_accepted drivers c process (command.Punlink fd w) none other =
-    search (calm_then, calm_mux, quiet_unlinked, rules) depth 20
+quiet_accepted drivers c process (command.Unlink fd w) none other = grind (arith, calm_then, calm_mux, quiet_unlinked)
+quiet_accepted drivers c process (command.Punlink fd w) none other = grind (arith, calm_then, calm_mux, quiet_unlinked)
 quiet_accepted drivers c process (command.Bind fd addr) none other =
     search (calm_then, calm_test, calm_mux, quiet_done, rules) depth 20
 quiet_accepted drivers c process (command.Unbind fd) none other =
@@ -161,10 +129,8 @@ quiet_accepted drivers c process (command.Unroute fd addr) none other =
     search (calm_then, calm_test, calm_mux, quiet_done, rules) depth 20
 quiet_accepted drivers c process (command.Write fd addr bytes) none other =
     search (calm_then, calm_test, calm_live, calm_ok, rules) depth 20
-quiet_accepted drivers c process (command.Read fd) none other =
-    search (calm_then, calm_free, quiet_read, rules) depth 20
-quiet_accepted drivers c process (command.Flush fd w) none other =
-    search (calm_then, calm_live, quiet_done, rules) depth 20
+quiet_accepted drivers c process (command.Read fd) none other = grind (arith, calm_then, calm_free, quiet_read)
+quiet_accepted drivers c process (command.Flush fd w) none other = grind (arith, calm_then, calm_live, quiet_done)
 quiet_accepted drivers c process (command.Inject name minor addr bytes) none other =
     search (calm_then, calm_test, calm_live_leaf, calm_ok, rules) depth 20
 quiet_accepted drivers c process (command.Transmit name minor) none other =
@@ -174,17 +140,12 @@ quiet_accepted drivers c process (command.Hangup name minor) none other = absurd
 -- without hung-up streams, the reply to a command other than a hangup reports none
 quiet_step : (drivers : List DriverSpec) (c : Configuration) (process : ℕ) (k : Command) → c.hungs ≡ []
     → is_hangup k ≡ false → tells_of_hangup (step drivers c process k).1 ≡ false
-quiet_step drivers c process k none other =
-    by (outcome drivers c process k) (quiet_accepted drivers c process k none other) where
-      by : (o : Outcome) → IsQuiet o → tells_of_hangup (after_outcome drivers c o).1 ≡ false
-      by (Ok x) h = h.told
-      by (Err f) h = h.told
+quiet_step drivers c process k none other = grind (arith, quiet_accepted drivers c process k none other)
 
 -- if no stream of a sound and settled configuration has hung up, none has after a command other than a hangup
 none_left : (drivers : List DriverSpec) (c : Configuration) (process : ℕ) (k : Command) → IsKept drivers c
     → c.hungs ≡ [] → is_hangup k ≡ false → (step drivers c process k).0.hungs ≡ []
-none_left drivers c process k h none other = others_leave_hungs drivers c process k h.sound.swept other
-    ∙ ap (filter (λ s. exists drivers (step drivers c process k).0 s)) none
+none_left drivers c process k h none other = grind (arith, others_leave_hungs drivers c process k h.sound.swept other)
 
 -- ---- a history without a hangup
 
@@ -194,10 +155,14 @@ quiet_from : (drivers : List DriverSpec) (c : Configuration) (es : List Entry) �
     → IsLegalFrom drivers c es → list_any (λ e. is_hangup e.command) es ≡ false → list_any is_of_hangup es ≡ false
 quiet_from drivers c [] h none legal other = refl
 quiet_from drivers c (e ∷ es) h none legal other =
-    let p = or_parts (is_hangup e.command) (list_any (λ e. is_hangup e.command) es) other in
-    or_from _ _ (or_from _ _ p.0 (ap tells_of_hangup (sym legal.0) ∙ quiet_step drivers c e.process e.command none p.0))
-    (quiet_from drivers (step drivers c e.process e.command).0 es (step_keeps drivers c e.process e.command h)
-    (none_left drivers c e.process e.command h none p.0) legal.1 p.1)
+    grind (
+      arith,
+      nat_tests,
+      quiet_step drivers c e.process e.command none,
+      quiet_from drivers (step drivers c e.process e.command).0 es (step_keeps drivers c e.process e.command h),
+      step_keeps drivers c e.process e.command h,
+      none_left drivers c e.process e.command h none,
+    )
 
 -- a legal history without a hangup has no entry that only version 2 has
 pub quiet_replies : (drivers : List DriverSpec) (history : List Entry) → IsLegal drivers history
@@ -224,14 +189,7 @@ quiet_streams drivers history other = hungs_from drivers empty history (empty_ke
 of_process : (p : ℕ) (es : List Entry) → list_any (λ e. eqb e.process p && is_hangup e.command) es ≡ true
     → list_any is_hangup (commands_of p es) ≡ true
 of_process p [] h = h
-of_process p (e ∷ es) h = elim (cases_Bool (eqb e.process p)) [
-  | inl t ↦ let k : (is_hangup e.command || list_any (λ e. eqb e.process p && is_hangup e.command) es)
-      ≡ true = rw t at h in
-      rw t (elim (or_cases (is_hangup e.command) _ k)
-      [ inl a ↦ or_left _ _ a | inr b ↦ or_right _ _ (of_process p es b) ])
-  | inr f ↦ let k : list_any (λ e. eqb e.process p && is_hangup e.command) es ≡ true = rw f at h in
-      rw f (of_process p es k)
-]
+of_process p (e ∷ es) h = grind (arith, of_process p es)
 
 -- a process with an entry that is a hangup
 record OfSome (es : List Entry) : Type 0 where
@@ -268,15 +226,4 @@ needs_none false e = refl
 -- version 1 can express a report for programs that it can express
 pub report_is_quiet : (programs : ProgramLists) (report : Transcript) → IsReportOf programs report
     → least_of_programs programs.drivers programs.programs ≡ V1 → least_of_transcript report ≡ V1
-report_is_quiet programs report h least =
-    let p = or_parts (are_more_drivers programs.drivers) (list_any (list_any is_hangup) programs.programs)
-    (needs_none _ least) in
-    let other : list_any (λ e. is_hangup e.command) report.entries
-    ≡ false = none_held report.entries programs.programs h.holds p.1 in
-    let told : list_any is_of_hangup report.entries
-    ≡ false = quiet_replies programs.drivers report.entries h.legal other in
-    let hung : (after programs.drivers report.entries).hungs
-    ≡ [] = quiet_streams programs.drivers report.entries other in
-    let few : are_more_drivers report.drivers ≡ false = ap are_more_drivers h.drivers ∙ p.0 in
-    let none : ltb 0 (length report.view.hungs) ≡ false = rw (h.shown, hung) refl in
-    ap version_2_where (or_from _ _ few (or_from _ _ told none))
+report_is_quiet programs report h least = grind (arith, needs_none, none_held, quiet_replies, quiet_streams)

@@ -1,27 +1,13 @@
 -- The drivers have the streams of descriptors and links.
-use Rattle.std.proofs.Common.{◌≡◌, ℕ, zero, suc, ◌+◌, ◌<◌, Bool, false, not, leb, arith, List, [], ◌∷◌, length}
-use Rattle.std.proofs.Common.{find, Some, Ok, rules, subst, inl, inr}
+use Rattle.smx_model.proofs.Common.{◌≡◌, ℕ, zero, suc, ◌+◌, ◌<◌, Bool, false, leb, arith, List, [], ◌∷◌, length}
+use Rattle.smx_model.proofs.Common.{find, Some, Ok, range_with_len, AllByRecursion, Command, NoDriver}
+use Rattle.smx_model.proofs.Common.{DriverSpec, Link, Place, StreamId, outcome, Configuration, minors_of, IsKnown}
+use Rattle.smx_model.proofs.Common.{driver_of, stream_of, free_minor, after_move, nat_tests}
 use Rattle.std.specs.Prelude.{position}
 use Rattle.std.specs.Str.{bytes_eq}
-use Rattle.std.specs.List.{range_with_len}
-use Rattle.std.proofs.lemmas.Bool.{cases_Bool, leb-false}
+use Rattle.std.proofs.lemmas.Bool.{leb-false}
 use Rattle.std.proofs.lemmas.List.Quantifiers.{position-Some}
-use Rattle.std.specs.List.{AllByRecursion}
-use Rattle.smx_types.specs.declared.command.Command.{Command}
-use Rattle.smx_types.specs.declared.reply.Fault.TheVariants.{NoDriver, NoMinor}
-use Rattle.smx_types.specs.declared.driver.DriverSpec.{DriverSpec}
-use Rattle.smx_types.specs.declared.link.Link.{Link}
-use Rattle.smx_types.specs.declared.stream.Place.{Place}
-use Rattle.smx_types.specs.declared.stream.StreamId.{StreamId}
-use Rattle.smx_model.specs.Commands.{outcome}
-use Rattle.smx_model.specs.Configuration.{Configuration, is_fd}
-use Rattle.smx_model.specs.DriverList.{minors_of}
-use Rattle.smx_model.specs.KnownStreams.{IsKnown}
-use Rattle.smx_model.specs.Lookups.{driver_of, stream_of, free_minor}
-use Rattle.smx_model.specs.Settling.{after_move}
-use Rattle.smx_model.specs.Standing.{exists}
 use Rattle.smx_model.proofs.SettledLemmas.{moved_by}
-use Rattle.smx_model.proofs.AcceptedLemmas.{of_rows}
 use Rattle.smx_model.proofs.LookupLemmas.{descriptor_of, there_is}
 use Rattle.smx_model.proofs.OutcomeLemmas.{IfAccepted}
 use Rattle.smx_model.proofs.EachLemmas.{each_filter, each_placed, each_push, each_find, each_map}
@@ -50,20 +36,12 @@ driver_below drivers name n e = position_below drivers (λ d. bytes_eq d.name na
 -- a number found in a range is below its end
 pub range_below : (test : ℕ → Bool) (a n m : ℕ) → find test (range_with_len a n) ≡ Some m → m < a + n
 range_below test a zero m e = cc
-range_below test a (suc n) m e = elim (cases_Bool (test a)) [
-  | inl t ↦ let k : Some a ≡ Some m = rw t at e in let same : a ≡ m = cc in omega (arith, same)
-  | inr f ↦ omega (arith, range_below test (a + 1) n m (rw f at e))
-]
+range_below test a (suc n) m e = grind (arith, range_below test (a + 1) n m)
 
 -- a minor that is found free is one of the driver's
 minor_free : (drivers : List DriverSpec) (c : Configuration) (n m : ℕ) → free_minor drivers c n ≡ Ok m
     → m < minors_of drivers n
-minor_free drivers c n m e =
-    omega (
-      arith,
-      range_below (λ m. not (exists drivers c (record { driver = n; minor = m }))) 0 (minors_of drivers n) m
-          (there_is NoMinor _ m e),
-    )
+minor_free drivers c n m e = grind (arith, range_below, there_is)
 
 -- a minor below the number of minors of its driver is one of them
 minor_in : (drivers : List DriverSpec) (n m : ℕ) → leb (minors_of drivers n) m ≡ false → m < minors_of drivers n
@@ -77,27 +55,26 @@ known_made drivers n m lt lt2 = (lt, lt2)
 -- if the drivers have the streams of descriptors, they have the stream of a process' descriptor
 stream_known : (drivers : List DriverSpec) (c : Configuration) (process fd : ℕ) (s : StreamId) → AreNamed drivers c
     → stream_of c process fd ≡ Ok s → IsKnown drivers s
-stream_known drivers c process fd s h e =
-    let d = descriptor_of c process fd s e in
-    subst (IsKnown drivers) d.2 (each_find (λ d. IsKnown drivers d.stream) (is_fd process fd) c.fds d.0 d.1 h.fds)
+stream_known drivers c process fd s h e = grind (arith, descriptor_of c process fd s e, each_find)
 
 -- after an accepted command the drivers have the streams of descriptors and links
 pub named_accepted : (drivers : List DriverSpec) (c : Configuration) (process : ℕ) (k : Command) → AreNamed drivers c
     → IfAccepted (λ d r. AreNamed drivers d) (outcome drivers c process k)
-named_accepted drivers c process k h = of_rows _ drivers c process k (search (
-  each_placed,
-  each_push,
-  each_filter,
-  known_made,
-  minor_free,
-  minor_in,
-  driver_below,
-  stream_known,
-  rules,
-) depth 24)
+named_accepted drivers c process k h =
+    grind (
+      arith,
+      nat_tests,
+      each_placed,
+      each_push,
+      each_filter,
+      known_made,
+      minor_free,
+      minor_in,
+      driver_below,
+      stream_known,
+    )
 
 -- after a move the drivers have the streams of descriptors and links
 pub named_moved : (drivers : List DriverSpec) (c : Configuration) (p : Place) → AreNamed drivers c
     → AreNamed drivers (after_move drivers c p)
-named_moved drivers c p h =
-    moved_by (AreNamed drivers) drivers c p h (λ q m e. record { fds = h.fds; links = h.links })
+named_moved drivers c p h = grind (arith, moved_by (AreNamed drivers) drivers c p h, AreNamed drivers)

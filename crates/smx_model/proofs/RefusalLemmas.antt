@@ -1,14 +1,7 @@
 -- No accepted outcome has a fault as its reply.
-use Rattle.std.proofs.Common.{◌≡◌, ℕ, Bool, true, false, List, Ok, Err, refl, rules, sym, ap, ◌∙◌}
-use Rattle.std.proofs.lemmas.Bool.{false≢true}
-use Rattle.smx_types.specs.declared.command.Command.{Command}
-use Rattle.smx_types.specs.declared.driver.DriverSpec.{DriverSpec}
-use Rattle.smx_types.specs.declared.reply.Fault.{Fault}
-use Rattle.smx_types.specs.declared.reply.Reply.{Reply}
+use Rattle.smx_model.proofs.Common.{◌≡◌, ℕ, Bool, true, false, List, refl, rules, Command, DriverSpec, Fault, Reply}
+use Rattle.smx_model.proofs.Common.{outcome, step, done_outcome, Configuration, Outcome, arith}
 use Rattle.smx_types.specs.declared.reply.Reply.TheVariants as reply
-use Rattle.smx_model.specs.Commands.{outcome, step, after_outcome, done_outcome}
-use Rattle.smx_model.specs.Configuration.{Configuration}
-use Rattle.smx_model.specs.Outcomes.{Outcome}
 use Rattle.smx_model.proofs.AcceptedLemmas.{of_rows}
 use Rattle.smx_model.proofs.OutcomeLemmas.{IfAccepted}
 
@@ -40,7 +33,4 @@ answers_accepted drivers c process k = search (of_rows, done_answers, rules) dep
 -- a command whose reply is a fault changes nothing
 pub refused_same : (drivers : List DriverSpec) (c : Configuration) (process : ℕ) (k : Command) (f : Fault)
     → (step drivers c process k).1 ≡ reply.Fault f → (step drivers c process k).0 ≡ c
-refused_same drivers c process k f e = by (outcome drivers c process k) (answers_accepted drivers c process k) e where
-  by : (o : Outcome) → IsAnswered o → (after_outcome drivers c o).1 ≡ reply.Fault f → (after_outcome drivers c o).0 ≡ c
-  by (Ok x) h e = absurd (false≢true (sym h.holds ∙ ap is_fault e))
-  by (Err g) h e = refl
+refused_same drivers c process k f e = grind (arith, answers_accepted drivers c process k)

@@ -1,19 +1,7 @@
 -- Reports of the same programs in the same order are equal; the example, and transcripts that are not reports.
-use Rattle.std.proofs.Common.{◌≡◌, zero, suc, false, List, [], ◌∷◌, map, refl, sym, ap, ◌∙◌, length, arith}
-use Rattle.std.specs.Prelude.{◌==◌, Ok}
-use Rattle.std.proofs.lemmas.Bool.Decides.{nat_tests}
-use Rattle.std.proofs.lemmas.List.Elements.{All-from_recursion}
-use Rattle.smx_types.specs.Drivers.{spec_check}
-use Rattle.smx_types.specs.ProgramLists.{ProgramLists}
-use Rattle.smx_types.specs.declared.command.Command.{Command}
-use Rattle.smx_types.specs.declared.command.Entry.{Entry}
-use Rattle.smx_types.specs.declared.driver.DriverSpec.{DriverSpec}
-use Rattle.smx_types.specs.declared.transcript.Transcript.{Transcript}
-use Rattle.smx_types.specs.declared.view.ConfigView.{ConfigView}
-use Rattle.smx_model.specs.DriverList.{IsDriverList}
-use Rattle.smx_model.specs.Headline.{IsReportOf}
-use Rattle.smx_model.specs.Histories.{after, call_of, HoldsPrograms, IsLegal}
-use Rattle.smx_model.specs.Views.{view}
+use Rattle.smx_model.proofs.Common.{◌≡◌, zero, suc, List, [], ◌∷◌, map, refl, ap, length, arith, nat_tests}
+use Rattle.smx_model.proofs.Common.{All-from_recursion, ProgramLists, Command, Entry, DriverSpec, Transcript, rules}
+use Rattle.smx_model.proofs.Common.{ConfigView, IsDriverList, IsReportOf, after, call_of, HoldsPrograms, IsLegal, view}
 use Rattle.smx_model.specs.Worked.Common.{OpenClone, Dup, CloseAll, Fd, Fault, BadDescriptor, ip}
 use Rattle.smx_model.specs.Worked.Reports.{another_exited, copied, drivers, exited, once_more, one, opened, programs}
 use Rattle.smx_model.specs.Worked.Reports.{report_with, three, too_early, two}
@@ -33,10 +21,7 @@ transcript_of n ds ds2 es es2 v v2 e f g = cc
 -- the calls determine the drivers, the history and the view of a report
 pub one_report : (programs : ProgramLists) (r s : Transcript) → IsReportOf programs r → IsReportOf programs s
     → map call_of r.entries ≡ map call_of s.entries → r ≡ record s { version = r.version }
-one_report programs r s h k e =
-    let same : r.entries ≡ s.entries = determined programs.drivers r.entries s.entries h.legal k.legal e in
-    transcript_of r.version r.drivers s.drivers r.entries s.entries r.view s.view (h.drivers ∙ sym k.drivers) same
-    (h.shown ∙ (ap (λ (es : List Entry). view programs.drivers (after programs.drivers es)) same ∙ sym k.shown))
+one_report programs r s h k e = grind (arith, determined, transcript_of)
 
 -- the first parts of a report suffice for all
 pub report_of : (programs : ProgramLists) (r : Transcript) → r.drivers ≡ programs.drivers
@@ -58,23 +43,15 @@ report_of programs r same can legal holds shown = record {
 example_holds : HoldsPrograms (opened ∷ exited ∷ copied ∷ []) programs.programs
 example_holds zero = refl
 example_holds (suc zero) = refl
-example_holds (suc (suc p)) =
-    let not_first : (0 == suc (suc p)) ≡ false = grind (arith, nat_tests) in
-    let not_second : (1 == suc (suc p)) ≡ false = grind (arith, nat_tests) in
-    rw (not_first, not_second) refl
+example_holds (suc (suc p)) = grind (arith, nat_tests)
 
 -- the drivers of the example are valid
 example_drivers : IsDriverList drivers
-example_drivers = record {
-  few = omega arith;
-  each = All-from_recursion (λ d. spec_check d ≡ Ok tt) drivers (refl, tt);
-  names = λ i j d lt lt2. absurd (omega (arith, lt, lt2));
-}
+example_drivers = grind (arith, All-from_recursion)
 
 -- the example, an open of process 0, the exit of process 1 and a dup of process 0, is a report
 pub is_report : IsReportOf programs (report_with (opened ∷ exited ∷ copied ∷ []) two)
-is_report = report_of programs (report_with (opened ∷ exited ∷ copied ∷ []) two) refl example_drivers
-    (refl, (refl, (refl, tt))) example_holds refl
+is_report = search (rules, report_of, example_drivers, example_holds)
 
 -- transcripts that are not reports
 

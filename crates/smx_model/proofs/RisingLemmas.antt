@@ -1,29 +1,13 @@
 -- Descriptors, bindings, routes, full places and hung-up streams stay in their order.
-use Rattle.std.proofs.Common.{◌≡◌, ℕ, Bool, true, false, ◌&&◌, ◌||◌, not, eqb, List, filter}
-use Rattle.std.proofs.Common.{Ok, refl, rules, arith}
-use Rattle.std.specs.List.{list_any, range_with_len}
+use Rattle.smx_model.proofs.Common.{◌≡◌, ℕ, Bool, true, false, ◌&&◌, ◌||◌, not, eqb, List, filter, Ok, refl, rules}
+use Rattle.smx_model.proofs.Common.{arith, list_any, nat_tests, AllByRecursion, Command, DriverSpec}
+use Rattle.smx_model.proofs.Common.{TooManyDescriptors, Place, StreamId, outcome, with_fd}
+use Rattle.smx_model.proofs.Common.{Configuration, empty, is_fd, fd_before, bind_before, route_before, place_before}
+use Rattle.smx_model.proofs.Common.{pair_before, same_place, same_stream, stream_before, is_hung, with_hung, free_fd}
+use Rattle.smx_model.proofs.Common.{with_inserted, IsRising, with_mark, after_move, AreListsOrdered}
 use Rattle.std.proofs.lemmas.Bool.{not-true}
-use Rattle.std.proofs.lemmas.Bool.Decides.{nat_tests}
-use Rattle.std.specs.List.{AllByRecursion}
-use Rattle.smx_types.specs.declared.command.Command.{Command}
-use Rattle.smx_types.specs.declared.driver.DriverSpec.{DriverSpec}
-use Rattle.smx_types.specs.declared.limits.TheConstants.{MAX_DESCRIPTORS}
-use Rattle.smx_types.specs.declared.reply.Fault.TheVariants.{TooManyDescriptors}
-use Rattle.smx_types.specs.declared.stream.Place.{Place}
-use Rattle.smx_types.specs.declared.stream.StreamId.{StreamId}
-use Rattle.smx_model.specs.Commands.{outcome}
-use Rattle.smx_model.specs.Commands.{with_fd}
-use Rattle.smx_model.specs.Configuration.{Configuration, empty, is_fd, fd_before, bind_before, route_before}
-use Rattle.smx_model.specs.Configuration.{place_before, pair_before, same_place, same_stream, stream_before}
-use Rattle.smx_model.specs.Hangups.{is_hung, with_hung}
-use Rattle.smx_model.specs.Lookups.{free_fd}
-use Rattle.smx_model.specs.Ordered.{with_inserted, IsRising}
-use Rattle.smx_model.specs.Queues.{with_mark}
-use Rattle.smx_model.specs.Settling.{after_move}
-use Rattle.smx_model.specs.OrderedParts.{AreListsOrdered}
-use Rattle.smx_model.proofs.SettledLemmas.{ChangesQueuesAlone, moved_alone, moved_by}
-use Rattle.smx_model.proofs.OrderLemmas.{order_moved, order_placed}
-use Rattle.smx_model.proofs.OrderLemmas.{place_before_trans, place_either}
+use Rattle.smx_model.proofs.SettledLemmas.{moved_by}
+use Rattle.smx_model.proofs.OrderLemmas.{order_moved, order_placed, place_before_trans, place_either}
 use Rattle.smx_model.proofs.AcceptedLemmas.{of_rows}
 use Rattle.smx_model.proofs.LookupLemmas.{there_is}
 use Rattle.smx_model.proofs.OutcomeLemmas.{IfAccepted}
@@ -40,8 +24,7 @@ IsTransitive {X} before = (x y z : X) → before x y ≡ true → before y z ≡
 pub rising_placed : {X : Type 0} (before : X → X → Bool) → IsTransitive before → (x : X) (xs : List X)
     → AllByRecursion (λ y. before x y ≡ false → before y x ≡ true) xs → IsRising before xs
     → IsRising before (with_inserted before xs x)
-rising_placed before trans x xs other h =
-    later_placed (λ y z. before y z ≡ true) before x (λ y t. t) (λ y z. trans x y z) xs other h
+rising_placed before trans x xs other h = grind (arith, later_placed)
 
 -- the orders
 
@@ -78,27 +61,19 @@ bind_other a b c d e m h = grind (arith, nat_tests)
 -- a free number of a process is not the number of one of its descriptors
 free_number_is_new : (c : Configuration) (process fd : ℕ) → free_fd c process ≡ Ok fd
     → list_any (is_fd process fd) c.fds ≡ false
-free_number_is_new c process fd e =
-    not-true _ (find_passes (λ n. not (list_any (is_fd process n) c.fds)) (range_with_len 0 MAX_DESCRIPTORS) fd
-    (there_is TooManyDescriptors _ fd e))
+free_number_is_new c process fd e = grind (arith, find_passes, there_is TooManyDescriptors _ fd e)
 
 -- rising descriptors still rise with one more under a free number
 fds_rise : (c : Configuration) (process fd : ℕ) (s : StreamId) → AreListsOrdered c → free_fd c process ≡ Ok fd
     → IsRising fd_before (with_fd c process fd s).fds
-fds_rise c process fd s h e = rising_placed fd_before fd_trans (record { process = process; fd = fd; stream = s }) c.fds
-    (none_passes (is_fd process fd) _ c.fds (λ d f k. pair_after process fd d.process d.fd f k)
-    (free_number_is_new c process fd e)) h.fds
+fds_rise c process fd s h e = grind (arith, rising_placed, fd_trans, none_passes, pair_after, free_number_is_new)
 
 -- rising bindings still rise with one more, if neither its address nor its stream is bound
 binds_rise : (c : Configuration) (driver addr minor : ℕ) → AreListsOrdered c
     → list_any (λ b. eqb b.driver driver && (eqb b.addr addr || eqb b.minor minor)) c.binds ≡ false
     → IsRising bind_before
     (with_inserted bind_before c.binds (record { driver = driver; addr = addr; minor = minor }))
-binds_rise c driver addr minor h e =
-    rising_placed bind_before bind_trans (record { driver = driver; addr = addr; minor = minor }) c.binds
-    (none_passes (λ b. eqb b.driver driver && (eqb b.addr addr || eqb b.minor minor)) _ c.binds
-    (λ b f k. pair_after driver addr b.driver b.addr (bind_other driver addr b.driver b.addr b.minor minor f) k) e)
-    h.binds
+binds_rise c driver addr minor h e = grind (arith, rising_placed, bind_trans, none_passes, pair_after, bind_other)
 
 -- rising routes still rise with one more in place of that of its driver and address
 routes_rise : (c : Configuration) (driver addr id : ℕ) → AreListsOrdered c
@@ -145,17 +120,7 @@ rising_accepted drivers c process k h = of_rows _ drivers c process k (search (
 -- a move keeps all lists in order
 pub rising_moved : (drivers : List DriverSpec) (c : Configuration) (p : Place) → AreListsOrdered c
     → AreListsOrdered (after_move drivers c p)
-rising_moved drivers c p h = record {
-  fds = rw m.fds h.fds;
-  binds = rw m.binds h.binds;
-  routes = rw m.routes h.routes;
-  fulls = moved_by (λ d. IsRising place_before d.fulls) drivers c p h.fulls
-      (λ q m e. rising_marked q _ _ (rising_marked p _ c.fulls h.fulls));
-  hungs = rw m.hungs h.hungs;
-  flow = order_moved drivers c p h.flow;
-} where
-  m : ChangesQueuesAlone c (after_move drivers c p)
-  m = moved_alone drivers c p
+rising_moved drivers c p h = grind (arith, moved_by, rising_marked, order_moved)
 
 -- the lists of the empty configuration are in order
 pub rising_empty : AreListsOrdered empty

@@ -1,34 +1,16 @@
 -- Ids of links rise, and routes name links of their own upper driver.
-use Rattle.std.proofs.Common.{◌≡◌, ℕ, ◌+◌, ◌<◌, ◌≤◌, Bool, true, false, ◌&&◌, ◌||◌, not, eqb, List, [], ◌∷◌, ◌++◌}
-use Rattle.std.proofs.Common.{filter, Ok, refl, rules, sym, ◌∙◌, subst, arith, inl, inr}
-use Rattle.std.specs.List.{list_any}
-use Rattle.std.proofs.lemmas.Bool.{lt-ltb, cases_Bool, eqb-true, and_parts, not-false, or_cases, or_left, or_right}
-use Rattle.std.proofs.lemmas.Bool.{false≢true}
-use Rattle.std.specs.List.{AllByRecursion}
-use Rattle.std.proofs.lemmas.List.Elements.{All-from_recursion}
-use Rattle.smx_types.specs.declared.command.Command.{Command}
-use Rattle.smx_types.specs.declared.driver.DriverSpec.{DriverSpec}
-use Rattle.smx_types.specs.declared.link.Link.{Link}
-use Rattle.smx_types.specs.declared.link.LinkKind.{LinkKind}
-use Rattle.smx_types.specs.declared.link.Route.{Route}
-use Rattle.smx_types.specs.declared.reply.Fault.TheVariants.{NotMux}
-use Rattle.smx_types.specs.declared.stream.Place.{Place}
-use Rattle.smx_types.specs.declared.stream.StreamId.{StreamId}
-use Rattle.smx_model.specs.Commands.{outcome, done_outcome}
-use Rattle.smx_model.specs.Configuration.{Configuration, empty, route_before}
-use Rattle.smx_model.specs.DriverList.{is_mux}
-use Rattle.smx_model.specs.Lookups.{free_stream, mux_stream}
-use Rattle.smx_model.specs.Ordered.{with_inserted}
-use Rattle.smx_model.specs.Removal.{without_links}
-use Rattle.smx_model.specs.Settling.{after_move}
-use Rattle.smx_model.specs.SoundLinks.{AreIdsRising, AreRoutesSound}
+use Rattle.smx_model.proofs.Common.{◌≡◌, ℕ, ◌+◌, ◌<◌, ◌≤◌, Bool, true, false, ◌&&◌, not, eqb, List, [], ◌∷◌, ◌++◌}
+use Rattle.smx_model.proofs.Common.{filter, Ok, rules, subst, arith, inl, inr, list_any, cases_Bool, eqb-true}
+use Rattle.smx_model.proofs.Common.{and_parts, not-false, or_cases, false≢true, AllByRecursion, All-from_recursion}
+use Rattle.smx_model.proofs.Common.{Command, DriverSpec, Link, LinkKind, Route, NotMux, Place, StreamId, outcome}
+use Rattle.smx_model.proofs.Common.{done_outcome, Configuration, empty, route_before, is_mux, free_stream, mux_stream}
+use Rattle.smx_model.proofs.Common.{with_inserted, without_links, after_move, AreIdsRising, AreRoutesSound, AllLater}
 use Rattle.smx_model.proofs.SettledLemmas.{moved_by}
 use Rattle.smx_model.proofs.AcceptedLemmas.{of_rows}
 use Rattle.smx_model.proofs.LookupLemmas.{tested}
 use Rattle.smx_model.proofs.OutcomeLemmas.{IfAccepted}
 use Rattle.smx_model.proofs.EachLemmas.{each_filter, each_placed, each_push, each_map, later_filter, later_map}
 use Rattle.smx_model.proofs.EachLemmas.{later_push}
-use Rattle.smx_model.specs.Ordered.{AllLater}
 
 -- each id is below those of the later links
 abbrev pub Rising : List Link → Type 0
@@ -53,11 +35,7 @@ below_found : (links : List Link) (i id driver : ℕ) → AllByRecursion (λ k. 
     → leads_from links id driver ≡ true
     → i < id
 below_found [] i id driver h e = absurd (false≢true e)
-below_found (l ∷ ls) i id driver h e =
-    elim (or_cases (eqb l.id id && eqb l.ctl.driver driver) (leads_from ls id driver) e) [
-      | inl k ↦ subst (λ (x : ℕ). i < x) (eqb-true l.id id (and_parts (eqb l.id id) (eqb l.ctl.driver driver) k).0) h.0
-      | inr k ↦ below_found ls i id driver h.1 k
-    ]
+below_found (l ∷ ls) i id driver h e = grind (arith, below_found ls i id driver h.1)
 
 -- if an id is below that of each link, no link with that id has another upper driver
 none_above : (links : List Link) (id driver : ℕ) → AllByRecursion (λ k. id < k.id) links
@@ -92,28 +70,14 @@ routes_lead drivers c h = each_map _ _ c.routes (λ r p. one_driver c.links r.id
 leads_push : (ls : List Link) (l : Link) (id driver : ℕ) → leads_from ls id driver ≡ true
     → leads_from (ls ++ l ∷ []) id driver ≡ true
 leads_push [] l id driver e = absurd (false≢true e)
-leads_push (k ∷ ls) l id driver e = elim (or_cases (eqb k.id id && eqb k.ctl.driver driver) (leads_from ls id driver) e)
-    [ inl t ↦ or_left _ _ t | inr t ↦ or_right _ _ (leads_push ls l id driver t) ]
+leads_push (k ∷ ls) l id driver e = grind (arith, leads_push ls l id driver)
 
 -- if no link with an id is removed, the id of a link with this upper driver is still one among the remaining links
 leads_kept : (goes : Link → Bool) (ls : List Link) (id driver : ℕ) → leads_from ls id driver ≡ true
     → not (list_any (λ l. eqb l.id id) (filter goes ls)) ≡ true
     → leads_from (filter (λ l. not (goes l)) ls) id driver ≡ true
 leads_kept goes [] id driver e h = absurd (false≢true e)
-leads_kept goes (l ∷ ls) id driver e h = elim (cases_Bool (goes l)) [
-  | inl g ↦ let h2 : not (eqb l.id id || list_any (λ l. eqb l.id id) (filter goes ls)) ≡ true = rw g at h in
-      let p = not_either (eqb l.id id) (list_any (λ l. eqb l.id id) (filter goes ls)) h2 in
-      rw g (leads_kept goes ls id driver
-      (elim (or_cases (eqb l.id id && eqb l.ctl.driver driver) (leads_from ls id driver) e)
-      [ inl t ↦ absurd (false≢true (sym p.0 ∙ (and_parts (eqb l.id id) (eqb l.ctl.driver driver) t).0)) | inr t ↦ t ])
-      p.1)
-  | inr k ↦ let h2 : not (list_any (λ l. eqb l.id id) (filter goes ls)) ≡ true = rw k at h in
-      rw k (elim (or_cases (eqb l.id id && eqb l.ctl.driver driver) (leads_from ls id driver) e)
-      [ inl t ↦ or_left _ _ t | inr t ↦ or_right _ _ (leads_kept goes ls id driver t h2) ])
-] where
-  not_either : (a b : Bool) → not (a || b) ≡ true → (a ≡ false) × (not b ≡ true)
-  not_either true b h = absurd (false≢true h)
-  not_either false b h = (refl, h)
+leads_kept goes (l ∷ ls) id driver e h = grind (arith, leads_kept goes ls id driver)
 
 -- for each accepted outcome
 
@@ -152,14 +116,7 @@ routed_link : (drivers : List DriverSpec) (c : Configuration) (ctl lower : Strea
       links = c.links ++ record { id = c.next_id; ctl = ctl; lower = lower; kind = k } ∷ [];
       next_id = c.next_id + 1;
     })
-routed_link drivers c ctl lower k h = record {
-  rise = later_push _ c.links l (each_map _ _ c.links (λ m p. p.1) h.ids) h.rise;
-  ids = each_push _ c.links l (h.start, omega arith) (each_map _ _ c.links (λ m p. (p.0, omega (arith, p.1))) h.ids);
-  start = omega arith;
-  routes = each_map _ _ c.routes (λ r p. (p.0, leads_push c.links l r.id r.driver p.1)) h.routes;
-} where
-  l : Link
-  l = record { id = c.next_id; ctl = ctl; lower = lower; kind = k }
+routed_link drivers c ctl lower k h = grind (arith, later_push, each_map, each_push, leads_push)
 
 -- after one more route of a multiplexer to one of its links, each route names a link of its own driver
 routed_route : (drivers : List DriverSpec) (c : Configuration) (test : Route → Bool) (driver addr id : ℕ)
@@ -180,8 +137,7 @@ routed_route drivers c test driver addr id h mux there = record {
 -- the driver of a stream found as that of a multiplexer is one
 mux_is : (drivers : List DriverSpec) (c : Configuration) (process fd : ℕ) (s : StreamId)
     → mux_stream drivers c process fd ≡ Ok s → is_mux drivers s.driver ≡ true
-mux_is drivers c process fd s e =
-    not-false _ (tested NotMux (free_stream c process fd) (λ t. not (is_mux drivers t.driver)) s e).1
+mux_is drivers c process fd s e = grind (arith, tested NotMux (free_stream c process fd))
 
 -- an accepted command keeps ids rising, and each route with a link of its own driver
 pub routed_accepted : (drivers : List DriverSpec) (c : Configuration) (process : ℕ) (k : Command) → AreRouted drivers c
@@ -192,8 +148,7 @@ routed_accepted drivers c process k h = of_rows _ drivers c process k
 -- a move keeps ids rising, and each route with a link of its own driver
 pub routed_moved : (drivers : List DriverSpec) (c : Configuration) (p : Place) → AreRouted drivers c
     → AreRouted drivers (after_move drivers c p)
-routed_moved drivers c p h = moved_by (AreRouted drivers) drivers c p h
-    (λ q m e. record { rise = h.rise; ids = h.ids; start = h.start; routes = h.routes })
+routed_moved drivers c p h = grind (arith, moved_by (AreRouted drivers) drivers c p h, AreRouted drivers)
 
 -- in the empty configuration, without links and routes, ids rise and no route lacks its link
 pub routed_empty : (drivers : List DriverSpec) → AreRouted drivers empty
@@ -203,16 +158,8 @@ routed_empty drivers = record { rise = tt; ids = tt; start = omega arith; routes
 
 -- ids that rise by recursion satisfy `AreIdsRising`
 pub rising_ids : (drivers : List DriverSpec) (c : Configuration) → AreRouted drivers c → AreIdsRising c.links c.next_id
-rising_ids drivers c h = record {
-  rise = later_map _ _ c.links (λ l k. lt-ltb l.id k.id) h.rise;
-  from_one = All-from_recursion _ c.links (each_map _ _ c.links (λ l p. p.0) h.ids);
-  below_next = All-from_recursion _ c.links (each_map _ _ c.links (λ l p. p.1) h.ids);
-  next = h.start;
-}
+rising_ids drivers c h = grind (arith, later_map, All-from_recursion, each_map)
 
 -- routes with links of their own drivers, by recursion, satisfy `AreRoutesSound`
 pub sound_routes : (drivers : List DriverSpec) (c : Configuration) → AreRouted drivers c → AreRoutesSound drivers c
-sound_routes drivers c h = record {
-  mux = All-from_recursion _ c.routes (each_map _ _ c.routes (λ r p. p.0) h.routes);
-  lead = All-from_recursion _ c.routes (each_map _ _ c.routes (λ r p. p.1) h.routes);
-}
+sound_routes drivers c h = grind (arith, All-from_recursion, each_map)

@@ -1,16 +1,8 @@
 -- Properties that moves and settling preserve, and parts that they don't change.
-use Rattle.std.proofs.Common.{◌≡◌, ℕ, zero, suc, List, [], ◌∷◌, Option, Some, None, Ok, Err, refl, ◌∙◌}
-use Rattle.smx_types.specs.declared.command.Command.{Command}
-use Rattle.smx_types.specs.declared.command.Entry.{Entry}
-use Rattle.smx_types.specs.declared.driver.DriverSpec.{DriverSpec}
-use Rattle.smx_types.specs.declared.message.Message.{Message}
-use Rattle.smx_types.specs.declared.stream.Place.{Place}
-use Rattle.smx_model.specs.Configuration.{Configuration}
-use Rattle.smx_model.specs.Queues.{after_arrival, after_leaving, first_message}
-use Rattle.smx_model.specs.Commands.{after_outcome, outcome, step}
-use Rattle.smx_model.specs.Histories.{after_from}
-use Rattle.smx_model.specs.Outcomes.{Outcome}
-use Rattle.smx_model.specs.Settling.{after_move, after_move_to, after_settling_within, least_movable, next_open_place}
+use Rattle.smx_model.proofs.Common.{◌≡◌, ℕ, zero, suc, List, [], ◌∷◌, Some, Ok, Err, Command}
+use Rattle.smx_model.proofs.Common.{Entry, DriverSpec, Message, Place, Configuration, after_arrival, after_leaving}
+use Rattle.smx_model.proofs.Common.{first_message, after_outcome, outcome, step, after_from, Outcome, after_move}
+use Rattle.smx_model.proofs.Common.{after_settling_within, arith}
 use Rattle.smx_model.proofs.OutcomeLemmas.{IfAccepted}
 
 -- a property that holds before a move, and after a first message left and arrived at another place, holds
@@ -18,11 +10,7 @@ use Rattle.smx_model.proofs.OutcomeLemmas.{IfAccepted}
 pub moved_by : (P : Configuration → Type 0) (drivers : List DriverSpec) (c : Configuration) (p : Place) → P c
     → ((q : Place) (m : Message) → first_message c.flow p ≡ Some m
     → P (after_arrival drivers (after_leaving drivers c p) q m)) → P (after_move drivers c p)
-moved_by P drivers c p h f = by (next_open_place drivers c p) (first_message c.flow p) refl where
-  by : (o : Option Place) (m : Option Message) → first_message c.flow p ≡ m → P (after_move_to drivers c p o m)
-  by (Some q) (Some m) e = f q m e
-  by (Some q) None e = h
-  by None m e = h
+moved_by P drivers c p h f = grind arith
 
 -- each move preserves the property P of configurations
 pub record MovesKeep (P : Configuration → Type 0) (drivers : List DriverSpec) : Type 0 where
@@ -32,10 +20,7 @@ pub record MovesKeep (P : Configuration → Type 0) (drivers : List DriverSpec) 
 pub settled_by : (P : Configuration → Type 0) (drivers : List DriverSpec) (n : ℕ) (c : Configuration)
     → MovesKeep P drivers → P c → P (after_settling_within drivers n c)
 settled_by P drivers zero c k h = h
-settled_by P drivers (suc n) c k h = elim (least_movable drivers c) as
-    (λ o. P (elim o as (λ _. Configuration)
-    [ None ↦ c | Some p ↦ after_settling_within drivers n (after_move drivers c p) ]))
-    [ None ↦ h | Some p ↦ settled_by P drivers n (after_move drivers c p) k (k.each c p h) ]
+settled_by P drivers (suc n) c k h = grind (arith, settled_by P drivers n, k.each c)
 
 -- if each accepted outcome and each move preserve a property, a history preserves it
 pub after_by : (P : Configuration → Type 0) (drivers : List DriverSpec) (c : Configuration) (es : List Entry)
@@ -60,19 +45,10 @@ pub record ChangesQueuesAlone (c d : Configuration) : Type 0 where
 -- a move changes only the messages and the full marks
 pub moved_alone : (drivers : List DriverSpec) (c : Configuration) (p : Place)
     → ChangesQueuesAlone c (after_move drivers c p)
-moved_alone drivers c p = moved_by (ChangesQueuesAlone c) drivers c p
-    (record { fds = refl; links = refl; binds = refl; routes = refl; hungs = refl })
-    (λ q m e. record { fds = refl; links = refl; binds = refl; routes = refl; hungs = refl })
+moved_alone drivers c p = grind (arith, moved_by, ChangesQueuesAlone)
 
 -- settling changes only the messages and the full marks
 pub settled_alone : (drivers : List DriverSpec) (n : ℕ) (c : Configuration)
     → ChangesQueuesAlone c (after_settling_within drivers n c)
-settled_alone drivers n c = settled_by (ChangesQueuesAlone c) drivers n c (record {
-  each = λ d p r. let m = moved_alone drivers d p in record {
-    fds = m.fds ∙ r.fds;
-    links = m.links ∙ r.links;
-    binds = m.binds ∙ r.binds;
-    routes = m.routes ∙ r.routes;
-    hungs = m.hungs ∙ r.hungs;
-  };
-}) (record { fds = refl; links = refl; binds = refl; routes = refl; hungs = refl })
+settled_alone drivers n c =
+    grind (arith, settled_by (ChangesQueuesAlone c) drivers n c, ChangesQueuesAlone c, moved_alone drivers)

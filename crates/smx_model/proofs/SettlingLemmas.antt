@@ -1,30 +1,17 @@
 -- Settling ends: each move lowers a rank.
-use Rattle.std.proofs.Common.{◌≡◌, ℕ, zero, suc, ◌+◌, ◌*◌, ◌<◌, ◌≤◌, Bool, true, false, ◌&&◌, cond, eqb, List, [], ◌∷◌}
-use Rattle.std.proofs.Common.{length, find, Option, Some, None, refl, sym, ap, ◌∙◌, subst, arith, inl, inr}
-use Rattle.std.specs.Option.{is_some, option_map}
-use Rattle.std.proofs.lemmas.Bool.{cases_Bool, cases_eq, eqb-true, and_parts, false≢true, false_from_ne_true}
-use Rattle.std.specs.List.{AllByRecursion}
-use Rattle.smx_types.specs.declared.link.Binding.{Binding}
-use Rattle.smx_types.specs.declared.driver.DriverSpec.{DriverSpec}
-use Rattle.smx_types.specs.declared.link.Link.{Link}
-use Rattle.smx_types.specs.declared.message.Message.{Message}
-use Rattle.smx_types.specs.declared.stream.Place.{Place}
-use Rattle.smx_types.specs.declared.link.Route.{Route}
-use Rattle.smx_types.specs.declared.stream.Side.{Side}
+use Rattle.smx_model.proofs.Common.{◌≡◌, ℕ, zero, suc, ◌+◌, ◌*◌, ◌<◌, ◌≤◌, Bool, true, false, ◌&&◌, cond, eqb, List, []}
+use Rattle.smx_model.proofs.Common.{◌∷◌, length, find, Option, Some, None, refl, sym, ◌∙◌, subst, arith, inl, inr}
+use Rattle.smx_model.proofs.Common.{is_some, option_map, cases_Bool, cases_eq, eqb-true, and_parts, false≢true}
+use Rattle.smx_model.proofs.Common.{false_from_ne_true, AllByRecursion, Binding, DriverSpec, Link, Message, Place}
+use Rattle.smx_model.proofs.Common.{Route, Side, StreamId, Configuration, QueuedMessage, is_at, queued_before}
+use Rattle.smx_model.proofs.Common.{same_place, same_stream, same_side, with_inserted, without_first}
+use Rattle.smx_model.proofs.Common.{HasNoCycle, reaches, first_message, is_full, after_settling}
+use Rattle.smx_model.proofs.Common.{after_settling_within, least_movable, after_move, next_open_place, is_movable}
+use Rattle.smx_model.proofs.Common.{next_place, place_below, place_above, IsSettled, AreLinksSound, nat_tests}
 use Rattle.smx_types.specs.declared.stream.Side.TheVariants as side
-use Rattle.smx_types.specs.declared.stream.StreamId.{StreamId}
-use Rattle.smx_model.specs.Configuration.{Configuration, QueuedMessage, is_at, queued_before, same_place, same_stream}
-use Rattle.smx_model.specs.Configuration.{same_side}
-use Rattle.smx_model.specs.DriverList.{is_mux}
-use Rattle.smx_model.specs.Ordered.{with_inserted, without_first}
-use Rattle.smx_model.specs.Paths.{HasNoCycle, reaches}
-use Rattle.smx_model.specs.Queues.{first_message, after_leaving, is_full}
-use Rattle.smx_model.specs.Settling.{◌>>=◌, after_settling, after_settling_within, least_movable, after_move}
-use Rattle.smx_model.specs.Settling.{next_open_place, is_movable, next_place, live_write_side}
-use Rattle.smx_model.specs.Settling.{place_below, place_above, IsSettled}
+use Rattle.smx_model.specs.Settling.{◌>>=◌}
 use Rattle.smx_model.proofs.SettledLemmas.{moved_by}
 use Rattle.smx_model.proofs.LookupLemmas.{live_is_side}
-use Rattle.smx_model.specs.SoundLinks.{AreLinksSound}
 use Rattle.smx_model.proofs.PathLemmas.{reaches_path, reaches_trans, reaches_link}
 use Rattle.smx_model.proofs.RangeLemmas.{links_below, AreNamed}
 use Rattle.smx_model.proofs.RouteLemmas.{AreRouted, routes_lead, routed_moved}
@@ -39,20 +26,12 @@ count f (suc n) = cond (f n) 1 0 + count f n
 -- at most n of the numbers below n pass
 pub count_le : (f : ℕ → Bool) (n : ℕ) → count f n ≤ n
 count_le f zero = omega arith
-count_le f (suc n) =
-    elim (cases_Bool (f n)) [ inl t ↦ rw t (omega (arith, count_le f n)) | inr u ↦ rw u (omega (arith, count_le f n)) ]
+count_le f (suc n) = grind (arith, count_le f n)
 
 -- if all numbers that pass one test pass another, at most as many numbers below n pass the first as the second
 count_more : (f g : ℕ → Bool) (n : ℕ) → ((x : ℕ) → f x ≡ true → g x ≡ true) → count f n ≤ count g n
 count_more f g zero h = omega arith
-count_more f g (suc n) h = elim (cases_Bool (f n)) [
-  | inl t ↦ rw (t, h n t) (omega (arith, count_more f g n h))
-  | inr u ↦ elim (cases_Bool (g n)) [
-    | inl v ↦ rw (u, v) (omega (arith, count_more f g n h))
-    | inr v ↦
-        rw (u, v) (omega (arith, count_more f g n h))
-  ]
-]
+count_more f g (suc n) h = grind (arith, h n, count_more f g n h)
 
 -- if all numbers that pass one test pass another, and one number below n passes only the second, fewer numbers below
 -- n pass the first
@@ -115,11 +94,7 @@ pub below_link : (links : List Link) (routes : List Route) (hungs : List StreamI
     → place_below links routes hungs d addr ≡ Some q
     → (r : Route) × (find (λ r. eqb r.driver d && eqb r.addr addr) routes ≡ Some r) × (l : Link)
     × (find (λ l. eqb l.id r.id) links ≡ Some l) × (record { stream = l.lower; side = side.Write } ≡ q)
-below_link links routes hungs d addr q e =
-    let r = bound (find (λ r. eqb r.driver d && eqb r.addr addr) routes)
-    (λ r. find (λ l. eqb l.id r.id) links >>= (λ l. live_write_side hungs l.lower)) q e in
-    let l = bound (find (λ l. eqb l.id r.0.id) links) (λ l. live_write_side hungs l.lower) q r.2 in
-    (r.0, r.1, l.0, l.1, live_is_side hungs l.0.lower q l.2)
+below_link links routes hungs d addr q e = grind (arith, bound, live_is_side hungs)
 
 -- the place above is the read side of the stream that is bound to the address on the upper driver of the link above
 pub above_binding : (links : List Link) (binds : List Binding) (s : StreamId) (addr : ℕ) (q : Place)
@@ -127,13 +102,7 @@ pub above_binding : (links : List Link) (binds : List Binding) (s : StreamId) (a
     → (l : Link) × (find (λ l. same_stream l.lower s) links ≡ Some l) × (b : Binding)
     × (find (λ b. eqb b.driver l.ctl.driver && eqb b.addr addr) binds ≡ Some b)
     × (record { stream = record { driver = b.driver; minor = b.minor }; side = side.Read } ≡ q)
-above_binding links binds s addr q e =
-    let l = bound (find (λ l. same_stream l.lower s) links)
-    (λ l. find (λ b. eqb b.driver l.ctl.driver && eqb b.addr addr)
-    binds >>= (λ b. Some (record { stream = record { driver = b.driver; minor = b.minor }; side = side.Read }))) q e in
-    let b = bound (find (λ b. eqb b.driver l.0.ctl.driver && eqb b.addr addr) binds)
-    (λ b. Some (record { stream = record { driver = b.driver; minor = b.minor }; side = side.Read })) q l.2 in
-    (l.0, l.1, b.0, b.1, cc)
+above_binding links binds s addr q e = grind (arith, bound)
 
 -- without a cycle the place below may lead to fewer drivers than the write side that leads to it
 down_falls : (links : List Link) (routes : List Route) (hungs : List StreamId) (n d addr : ℕ) (q : Place)
@@ -176,27 +145,20 @@ up_falls links binds n addr s q none below e = via (above_binding links binds s 
 next_falls : (drivers : List DriverSpec) (c : Configuration) (s : StreamId) (addr : ℕ) (side_ : Side) (q : Place)
     → CanSettle drivers c → next_place drivers c (record { stream = s; side = side_ }) addr ≡ Some q
     → rank c.links (length drivers) q < rank_by c.links (length drivers) s.driver side_
-next_falls drivers c s addr side.Write q h e = elim (cases_Bool (is_mux drivers s.driver)) [
-  | inl t ↦ down_falls c.links c.routes c.hungs (length drivers) s.driver addr q h.no_cycle h.below
-      (routes_lead drivers c h.routed) (rw t at e)
-  | inr f ↦ let k : None ≡ Some q = rw f at e in cc
-]
+next_falls drivers c s addr side.Write q h e =
+    grind (
+      arith,
+      nat_tests,
+      down_falls c.links c.routes c.hungs (length drivers) s.driver addr q h.no_cycle h.below (routes_lead drivers c h.routed),
+      routes_lead drivers c h.routed,
+    )
 next_falls drivers c s addr side.Read q h e = up_falls c.links c.binds (length drivers) addr s q h.no_cycle h.below e
 
 -- a place that a first message may go on to is the next place for its address, and not full
 pub open_next : (drivers : List DriverSpec) (c : Configuration) (p q : Place) → next_open_place drivers c p ≡ Some q
     → (m : Message) × (first_message c.flow p ≡ Some m) × (next_place drivers c p m.addr ≡ Some q)
     × (is_full c q ≡ false)
-open_next drivers c p q e =
-    let m = bound (first_message c.flow p)
-    (λ m. next_place drivers c p m.addr >>= (λ r. cond (is_full c r) None (Some r))) q e in
-    let r = bound (next_place drivers c p m.0.addr) (λ r. cond (is_full c r) None (Some r)) q m.2 in
-    let is = room r.0 (is_full c r.0) refl r.2 in
-    (m.0, m.1, r.1 ∙ ap (λ (x : Place). Some x) is.0, subst (λ (x : Place). is_full c x ≡ false) is.0 is.1) where
-      room : (r : Place) (full : Bool) → is_full c r ≡ full → cond full None (Some r) ≡ Some q
-          → (r ≡ q) × (is_full c r ≡ false)
-      room r true f e = absurd cc
-      room r false f e = (cc, f)
+open_next drivers c p q e = grind (arith, bound)
 
 -- the sum of the weights of the places of all messages
 abbrev weight : (Place → ℕ) → List QueuedMessage → ℕ
@@ -206,16 +168,13 @@ weight f (h ∷ hs) = f h.place + weight f hs
 -- if no place weighs more than n, a flow weighs at most n times the number of its messages
 weight_le : (f : Place → ℕ) (n : ℕ) (hs : List QueuedMessage) → ((p : Place) → f p ≤ n) → weight f hs ≤ length hs * n
 weight_le f n [] h = omega arith
-weight_le f n (k ∷ hs) h = rw (mul_suc (length hs) n) (omega (arith, weight_le f n hs h, h k.place)) where
-  mul_suc : (m n : ℕ) → suc m * n ≡ n + m * n
-  mul_suc m n = grind arith
+weight_le f n (k ∷ hs) h = grind (arith, weight_le f n hs h, h k.place)
 
 -- one more message makes a flow heavier by the weight of its place
 weight_placed : (f : Place → ℕ) (hs : List QueuedMessage) (h : QueuedMessage)
     → weight f (with_inserted queued_before hs h) ≡ f h.place + weight f hs
 weight_placed f [] h = refl
-weight_placed f (k ∷ hs) h =
-    elim (cases_Bool (queued_before h k)) [ inl t ↦ rw t refl | inr u ↦ rw u (omega (arith, weight_placed f hs h)) ]
+weight_placed f (k ∷ hs) h = grind (arith, weight_placed f hs h)
 
 -- sides that pass the test for equality are equal
 same_side_is : (s t : Side) → same_side s t ≡ true → s ≡ t
@@ -230,56 +189,30 @@ at_place d m s = record { stream = record { driver = d; minor = m }; side = s }
 
 -- places with the same driver, minor and side are equal
 made : (a b : ℕ) (s : Side) (c d : ℕ) (t : Side) → a ≡ c → b ≡ d → s ≡ t → at_place a b s ≡ at_place c d t
-made a b s c d t e f g =
-    ap (λ (x : ℕ). at_place x b s) e ∙ (ap (λ (x : ℕ). at_place c x s) f ∙ ap (λ (x : Side). at_place c d x) g)
+made a b s c d t e f g = grind arith
 
 -- places that pass the test for equality are equal
 pub same_place_is : (p q : Place) → same_place p q ≡ true → p ≡ q
-same_place_is p q h =
-    let a = and_parts (same_stream p.stream q.stream) (same_side p.side q.side) h in
-    let b = and_parts _ _ a.0 in
-    made p.stream.driver p.stream.minor p.side q.stream.driver q.stream.minor q.side
-    (eqb-true p.stream.driver q.stream.driver b.0) (eqb-true p.stream.minor q.stream.minor b.1)
-    (same_side_is p.side q.side a.1)
+same_place_is p q h = grind (arith, made, same_side_is)
 
 -- without the first message of a place a flow is lighter by the weight of that place
 weight_front : (f : Place → ℕ) (hs : List QueuedMessage) (p : Place) (m : Message) → first_message hs p ≡ Some m
     → weight f hs ≡ f p + weight f (without_first (is_at p) hs)
 weight_front f [] p m e = cc
-weight_front f (h ∷ hs) p m e = elim (cases_Bool (is_at p h)) [
-  | inl t ↦ rw (t, same_place_is h.place p t) refl
-  | inr u ↦ rw u (omega (arith, weight_front f hs p m (rw u at e)))
-]
+weight_front f (h ∷ hs) p m e = grind (arith, same_place_is h.place p, weight_front f hs p m)
 
 -- the move of a first message makes the flow lighter
 moved_weight : (drivers : List DriverSpec) (c : Configuration) (p : Place) → CanSettle drivers c → (q : Place)
     → next_open_place drivers c p ≡ Some q
     → weight (rank c.links (length drivers)) (after_move drivers c p).flow
     < weight (rank c.links (length drivers)) c.flow
-moved_weight drivers c p h q e =
-    let l = open_next drivers c p q e in
-    let falls : rank c.links (length drivers) q
-    < rank c.links (length drivers) p = next_falls drivers c p.stream l.0.addr p.side q h l.2 in
-    rw (e, l.1)
-    (omega (
-      arith,
-      falls,
-      weight_front (rank c.links (length drivers)) c.flow p l.0 l.1,
-      weight_placed (rank c.links (length drivers)) (after_leaving drivers c p).flow
-          (record { place = q; message = l.0 }),
-    ))
+moved_weight drivers c p h q e = grind (arith, open_next, next_falls, weight_front, weight_placed)
 
 -- if the place of no message passes a test, no place with a first message does
 none_of : (t : Place → Bool) (hs : List QueuedMessage) (p : Place) (m : Message) → find (λ h. t h.place) hs ≡ None
     → first_message hs p ≡ Some m → t p ≡ false
 none_of t [] p m e f = cc
-none_of t (h ∷ hs) p m e f = elim (cases_Bool (t h.place)) [
-  | inl t1 ↦ let k : Some h ≡ None = rw t1 at e in cc
-  | inr t0 ↦ elim (cases_Bool (is_at p h)) [
-    | inl at_p ↦ ap t (sym (same_place_is h.place p at_p)) ∙ t0
-    | inr not_p ↦ none_of t hs p m (rw t0 at e) (rw not_p at f)
-  ]
-]
+none_of t (h ∷ hs) p m e f = grind (arith, same_place_is h.place p, none_of t hs p m)
 
 -- if no message of the flow is at a movable place, no place is movable
 pub no_front : (drivers : List DriverSpec) (c : Configuration) (p : Place) (o : Option Message)
@@ -307,11 +240,7 @@ movable_way (Some q) e = (q, refl)
 -- the first message of the least movable place has an open next place
 least_way : (drivers : List DriverSpec) (c : Configuration) (p : Place) → least_movable drivers c ≡ Some p
     → (q : Place) × (next_open_place drivers c p ≡ Some q)
-least_way drivers c p e =
-    let s = some_least (find (λ h. is_movable drivers c h.place) c.flow) p e in
-    movable_way (next_open_place drivers c p)
-    (subst (λ (x : Place). is_movable drivers c x ≡ true) s.2
-    (find_passes (λ h. is_movable drivers c h.place) c.flow s.0 s.1))
+least_way drivers c p e = grind (arith, some_least, movable_way (next_open_place drivers c p), find_passes)
 
 -- a move leaves the links as they are
 pub moved_links : (drivers : List DriverSpec) (c : Configuration) (p : Place) → (after_move drivers c p).links ≡ c.links
@@ -333,9 +262,7 @@ weight_of drivers c = weight (rank c.links (length drivers)) c.flow
 -- the move of the least movable place makes the configuration lighter
 less_weight : (drivers : List DriverSpec) (c : Configuration) (p : Place) → CanSettle drivers c
     → least_movable drivers c ≡ Some p → weight_of drivers (after_move drivers c p) < weight_of drivers c
-less_weight drivers c p h e = let w = least_way drivers c p e in
-    subst (λ (ls : List Link). weight (rank ls (length drivers)) (after_move drivers c p).flow < weight_of drivers c)
-    (sym (moved_links drivers c p)) (moved_weight drivers c p h w.0 w.1)
+less_weight drivers c p h e = grind (arith, least_way, moved_links, moved_weight)
 
 -- a configuration that weighs at most k is settled after k moves
 settles : (drivers : List DriverSpec) (k : ℕ) (c : Configuration) → CanSettle drivers c → weight_of drivers c ≤ k

@@ -1,33 +1,20 @@
 -- Links stay sound.
-use Rattle.std.proofs.Common.{◌≡◌, ℕ, Bool, false, ◌||◌, eqb, List, [], ◌∷◌, ◌++◌, filter, rules}
-use Rattle.std.proofs.Common.{arith}
-use Rattle.std.proofs.lemmas.Bool.{false≢true, both_ways, false_from_ne_true}
+use Rattle.smx_model.proofs.Common.{◌≡◌, ℕ, Bool, false, ◌||◌, eqb, List, [], ◌∷◌, ◌++◌, filter, rules, arith}
+use Rattle.smx_model.proofs.Common.{false≢true, both_ways, false_from_ne_true, Command, Reply, DriverSpec, Link}
+use Rattle.smx_model.proofs.Common.{outcome, Configuration, same_stream, reaches, after_move, AreLinksSound, is_below}
+use Rattle.smx_model.proofs.Common.{Place}
 use Rattle.std.proofs.lemmas.List.Kept.{AllPairs-filter}
 use Rattle.std.proofs.lemmas.List.Quantifiers.{all_pairs_push}
 use Rattle.std.proofs.lemmas.List.Folds.{list_any_at}
-use Rattle.smx_types.specs.declared.command.Command.{Command}
-use Rattle.smx_types.specs.declared.reply.Reply.{Reply}
-use Rattle.smx_types.specs.declared.driver.DriverSpec.{DriverSpec}
-use Rattle.smx_types.specs.declared.link.Link.{Link}
-use Rattle.smx_model.specs.Commands.{outcome}
-use Rattle.smx_model.specs.Configuration.{Configuration, same_stream}
-use Rattle.smx_model.specs.Paths.{reaches}
-use Rattle.smx_model.specs.Settling.{after_move}
-use Rattle.smx_model.specs.SoundLinks.{AreLinksSound}
-use Rattle.smx_model.specs.Standing.{is_below}
 use Rattle.smx_model.proofs.SettledLemmas.{moved_by}
 use Rattle.smx_model.proofs.AcceptedLemmas.{of_rows}
 use Rattle.smx_model.proofs.MemberLemmas.{of_filtered}
 use Rattle.smx_model.proofs.OutcomeLemmas.{IfAccepted}
 use Rattle.smx_model.proofs.PathLemmas.{path_reaches, no_cycle_push, no_cycle_fewer}
-use Rattle.smx_types.specs.declared.stream.Place.{Place}
 
 -- sound links stay sound after a filter
 pub sound_filter : (test : Link → Bool) (ls : List Link) → AreLinksSound ls → AreLinksSound (filter test ls)
-sound_filter test ls h = record {
-  no_cycle = no_cycle_fewer ls (filter test ls) (of_filtered test ls) h.no_cycle;
-  lowers = AllPairs-filter (λ l k. same_stream l.lower k.lower ≡ false) test ls h.lowers;
-}
+sound_filter test ls h = search (rules, no_cycle_fewer, of_filtered, AllPairs-filter)
 
 -- sound links stay sound with one more, if it closes no cycle and its lower stream is below no other
 pub sound_push : (ls : List Link) (l : Link) → AreLinksSound ls → is_below ls l.lower ≡ false
@@ -46,8 +33,7 @@ Sound d r = AreLinksSound d.links
 -- an accepted command keeps sound links sound
 pub sound_accepted : (drivers : List DriverSpec) (c : Configuration) (process : ℕ) (k : Command) → AreLinksSound c.links
     → IfAccepted Sound (outcome drivers c process k)
-sound_accepted drivers c process k h =
-    search (of_rows, sound_filter, sound_push, rules) depth 24
+sound_accepted drivers c process k h = search (rules, of_rows, sound_filter, sound_push)
 
 -- a move keeps sound links sound
 pub sound_moved : (drivers : List DriverSpec) (c : Configuration) (p : Place) → AreLinksSound c.links

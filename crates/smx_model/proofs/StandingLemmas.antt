@@ -1,19 +1,9 @@
 -- The streams that exist within some climbs, and the result of a sweep.
-use Rattle.std.proofs.Common.{◌≡◌, ℕ, zero, suc, ◌<◌, ◌≤◌, Bool, true, ◌&&◌, ◌||◌, not, eqb, List, length}
-use Rattle.std.proofs.Common.{filter, refl, sym, ap, ◌∙◌, subst, arith, inl, inr}
-use Rattle.std.specs.List.{list_any}
-use Rattle.std.proofs.lemmas.Bool.{cases_lt, eqb-true, and_parts, or_cases, or_left, or_right, and_from}
-use Rattle.std.proofs.lemmas.Bool.{not-false, not-true}
-use Rattle.std.specs.List.{AllByRecursion}
-use Rattle.smx_types.specs.declared.stream.Descriptor.{Descriptor}
-use Rattle.smx_types.specs.declared.driver.DriverSpec.{DriverSpec}
-use Rattle.smx_types.specs.declared.link.Link.{Link}
-use Rattle.smx_types.specs.declared.stream.StreamId.{StreamId}
-use Rattle.smx_model.specs.Configuration.{Configuration, same_stream}
-use Rattle.smx_model.specs.Paths.{HasNoCycle, reaches}
-use Rattle.smx_model.specs.Removal.{after_sweep, without_links}
-use Rattle.smx_model.specs.Standing.{is_persistent, is_named, stands_within, exists}
-use Rattle.smx_model.specs.Swept.{IsSwept}
+use Rattle.smx_model.proofs.Common.{◌≡◌, ℕ, zero, suc, ◌<◌, ◌≤◌, true, ◌&&◌, not, List, length, filter}
+use Rattle.smx_model.proofs.Common.{refl, subst, arith, inl, inr, list_any, cases_lt, and_parts}
+use Rattle.smx_model.proofs.Common.{or_cases, or_left, or_right, and_from, AllByRecursion, Descriptor}
+use Rattle.smx_model.proofs.Common.{DriverSpec, Link, StreamId, Configuration, same_stream, HasNoCycle, reaches}
+use Rattle.smx_model.proofs.Common.{after_sweep, is_persistent, stands_within, exists, IsSwept, rules}
 use Rattle.smx_model.proofs.SettlingLemmas.{count, count_le, up_less}
 use Rattle.smx_model.proofs.TestLemmas.{any_same, any_filter, all_passes, any_found, any_more_each}
 
@@ -22,8 +12,7 @@ use Rattle.smx_model.proofs.TestLemmas.{any_same, any_filter, all_passes, any_fo
 -- a stream that exists within some climbs exists within any greater number of them
 pub stands_more : (fds : List Descriptor) (links : List Link) (n m : ℕ) (s : StreamId) → n ≤ m
     → stands_within fds links n s ≡ true → stands_within fds links m s ≡ true
-stands_more fds links n zero s le h =
-    let e : n ≡ 0 = omega arith in subst (λ (k : ℕ). stands_within fds links k s ≡ true) e h
+stands_more fds links n zero s le h = grind arith
 stands_more fds links n (suc m) s le h = elim (cases_lt m n) [
   | inl lt ↦ let e : n ≡ suc m = omega arith in subst (λ (k : ℕ). stands_within fds links k s ≡ true) e h
   | inr ge ↦ or_left _ _ (stands_more fds links n m s ge h)
@@ -36,23 +25,16 @@ stands_more fds links n (suc m) s le h = elim (cases_lt m n) [
 stands_filter : (fds : List Descriptor) (links : List Link) (m n : ℕ) (s : StreamId) → n ≤ m
     → stands_within fds (filter (λ l. not (not (is_persistent l) && not (stands_within fds links m l.ctl))) links) n s
     ≡ stands_within fds links n s
-stands_filter fds links m zero s le = ap (λ (b : Bool). is_named fds s || b)
-    (any_filter (λ l. is_persistent l && same_stream l.lower s) _ links
-    (λ l h. kept (is_persistent l) (same_stream l.lower s) (stands_within fds links m l.ctl) h)) where
-      kept : (a b d : Bool) → (a && b) ≡ true → not (not a && not d) ≡ true
-      kept a b d h = grind arith
-stands_filter fds links m (suc n) s le = both _ _ _ _ (stands_filter fds links m n s (omega arith))
-    (any_same _ _ (filter (λ k. not (not (is_persistent k) && not (stands_within fds links m k.ctl))) links)
-    (λ l. ap (λ (b : Bool). not (is_persistent l) && (same_stream l.lower s && b))
-    (stands_filter fds links m n l.ctl (omega arith)))
-    ∙ any_filter (λ l. not (is_persistent l) && (same_stream l.lower s && stands_within fds links n l.ctl)) _ links
-    (λ l h. kept (is_persistent l) (stands_within fds links m l.ctl)
-    (stands_more fds links n m l.ctl (omega arith) (and_parts _ _ (and_parts _ _ h).1).1))) where
-      both : (a b d e : Bool) → a ≡ b → d ≡ e → (a || d) ≡ (b || e)
-      both a b d e f g = cc
-
-      kept : (a d : Bool) → d ≡ true → not (not a && not d) ≡ true
-      kept a d h = grind arith
+stands_filter fds links m zero s le = grind (arith, any_filter)
+stands_filter fds links m (suc n) s le =
+    grind (
+      arith,
+      stands_filter fds links m n s (omega arith),
+      any_same,
+      stands_filter fds links m n,
+      any_filter,
+      stands_more,
+    )
 
 -- after a sweep the same streams exist
 swept_exists : (drivers : List DriverSpec) (c : Configuration) (s : StreamId)
@@ -61,19 +43,7 @@ swept_exists drivers c s = stands_filter c.fds c.links (length drivers) (length 
 
 -- after a sweep the configuration is swept
 pub swept_is : (drivers : List DriverSpec) (c : Configuration) → IsSwept drivers (after_sweep drivers c)
-swept_is drivers c = record {
-  links = all_passes _ _ c.links
-      (λ l h. alive (is_persistent l) (exists drivers c l.ctl) (exists drivers (after_sweep drivers c) l.ctl)
-      (sym (swept_exists drivers c l.ctl)) h);
-  binds = all_passes _ _ c.binds (λ b h. h);
-  flow = all_passes _ _ (without_links c (λ l. not (is_persistent l) && not (exists drivers c l.ctl))).flow
-      (λ h k. not-false _ (not-true _ k));
-  fulls = all_passes _ _ (without_links c (λ l. not (is_persistent l) && not (exists drivers c l.ctl))).fulls
-      (λ p k. not-false _ (not-true _ k));
-  hungs = all_passes _ _ c.hungs (λ s h. h);
-} where
-  alive : (a b d : Bool) → b ≡ d → not (not a && not b) ≡ true → (a || d) ≡ true
-  alive a b d e h = grind arith
+swept_is drivers c = grind (arith, all_passes, swept_exists)
 
 -- the number of climbs that suffices
 
@@ -90,18 +60,13 @@ pub record IsLinkIn (drivers : List DriverSpec) (links : List Link) (l : Link) :
 link_rises : (drivers : List DriverSpec) (links : List Link) (l : Link) (s : StreamId) → HasNoCycle links
     → IsLinkIn drivers links l → same_stream l.lower s ≡ true
     → height drivers links l.ctl.driver < height drivers links s.driver
-link_rises drivers links l s none h same =
-    let d : l.lower.driver ≡ s.driver = eqb-true l.lower.driver s.driver
-    (and_parts (eqb l.lower.driver s.driver) (eqb l.lower.minor s.minor) same).0 in
-    up_less links (length drivers) l.ctl.driver s.driver none
-    (subst (λ (x : ℕ). reaches links l.ctl.driver x ≡ true) d h.leads) h.ctl
+link_rises drivers links l s none h same = grind (arith, up_less links (length drivers) l.ctl.driver s.driver none)
 
 -- without a cycle a stream that exists within any climbs does so within the number of drivers that reach its driver
 enough_climbs : (drivers : List DriverSpec) (fds : List Descriptor) (links : List Link) (n : ℕ) (s : StreamId)
     → HasNoCycle links → AllByRecursion (IsLinkIn drivers links) links
     → stands_within fds links n s ≡ true → stands_within fds links (height drivers links s.driver) s ≡ true
-enough_climbs drivers fds links zero s none below h =
-    stands_more fds links 0 (height drivers links s.driver) s (omega arith) h
+enough_climbs drivers fds links zero s none below h = search (rules, stands_more)
 enough_climbs drivers fds links (suc n) s none below
     h = elim (or_cases (stands_within fds links n s)
     (list_any (λ l. not (is_persistent l) && (same_stream l.lower s && stands_within fds links n l.ctl)) links) h) [

@@ -1,21 +1,13 @@
 -- Each configuration is swept.
-use Rattle.std.proofs.Common.{◌≡◌, ℕ, zero, suc, ◌<◌, Bool, true, false, ◌&&◌, ◌||◌, not, eqb, List, [], ◌∷◌, ◌++◌}
-use Rattle.std.proofs.Common.{length, find, Option, Some, None, Ok, refl, rules, sym, ap, ◌∙◌, subst, arith, inl}
-use Rattle.std.proofs.Common.{inr}
-use Rattle.std.specs.Prelude.{Result, IfOk}
-use Rattle.smx_model.specs.Commands.{outcome, done_outcome}
-use Rattle.smx_model.specs.Commands.{with_fd}
-use Rattle.smx_model.specs.Configuration.{Configuration, QueuedMessage, is_at, queued_before, fd_before, same_stream}
-use Rattle.smx_model.specs.Configuration.{place_before, is_fd}
-use Rattle.smx_model.specs.DriverList.{is_mux}
-use Rattle.smx_model.specs.Lookups.{driver_of, stream_of, free_stream, leaf_stream, live_leaf, live_stream}
-use Rattle.smx_model.specs.Paths.{HasNoCycle}
-use Rattle.smx_model.specs.Ordered.{without_first}
-use Rattle.smx_model.specs.Queues.{first_message, with_mark}
-use Rattle.smx_model.specs.Removal.{after_sweep}
-use Rattle.smx_model.specs.Settling.{after_move, after_move_to, next_open_place, next_place}
-use Rattle.smx_model.specs.Standing.{is_persistent, is_named, stands_within, exists, is_below, Stands}
-use Rattle.smx_model.specs.Swept.{IsSwept}
+use Rattle.smx_model.proofs.Common.{◌≡◌, ℕ, zero, suc, ◌<◌, Bool, true, false, ◌||◌, List, [], ◌∷◌, ◌++◌, length, find}
+use Rattle.smx_model.proofs.Common.{Option, Some, None, Ok, refl, rules, arith, IfOk, outcome, done_outcome, with_fd}
+use Rattle.smx_model.proofs.Common.{Configuration, QueuedMessage, is_at, queued_before, fd_before, same_stream}
+use Rattle.smx_model.proofs.Common.{place_before, is_fd, stream_of, free_stream, leaf_stream, live_leaf, live_stream}
+use Rattle.smx_model.proofs.Common.{HasNoCycle, without_first, first_message, with_mark, after_sweep, after_move}
+use Rattle.smx_model.proofs.Common.{after_move_to, next_open_place, next_place, is_persistent, stands_within, exists}
+use Rattle.smx_model.proofs.Common.{Stands, IsSwept, list_any, eq-eqb, or_right, and_from, Command, Descriptor}
+use Rattle.smx_model.proofs.Common.{DriverSpec, Link, Message, Place, Side, StreamId, list_all, AllByRecursion}
+use Rattle.smx_model.proofs.Common.{nat_tests}
 use Rattle.smx_model.proofs.IdleSweepLemmas.{swept_idle}
 use Rattle.smx_model.proofs.AcceptedLemmas.{of_rows}
 use Rattle.smx_model.proofs.OutcomeLemmas.{IfAccepted, if_ok}
@@ -24,25 +16,10 @@ use Rattle.smx_model.proofs.PathLemmas.{reaches_at}
 use Rattle.smx_model.proofs.RangeLemmas.{AreNamed}
 use Rattle.smx_model.proofs.SettlingLemmas.{same_place_is, below_link, above_binding, open_next}
 use Rattle.smx_model.proofs.StandingLemmas.{swept_is, stands_more, IsLinkIn, climbs_suffice}
-use Rattle.std.specs.List.{list_any}
-use Rattle.std.proofs.lemmas.Bool.{cases_Bool, not-false, eq-eqb, and_parts, or_cases, or_left, or_right, and_from}
-use Rattle.smx_types.specs.declared.command.Command.{Command}
-use Rattle.smx_types.specs.declared.reply.Fault.{Fault}
-use Rattle.smx_types.specs.declared.reply.Fault.TheVariants.{NoDriver}
-use Rattle.smx_types.specs.declared.stream.Descriptor.{Descriptor}
-use Rattle.smx_types.specs.declared.driver.DriverSpec.{DriverSpec}
-use Rattle.smx_types.specs.declared.link.Link.{Link}
-use Rattle.smx_types.specs.declared.message.Message.{Message}
-use Rattle.smx_types.specs.declared.stream.Place.{Place}
-use Rattle.smx_types.specs.declared.stream.Side.{Side}
 use Rattle.smx_types.specs.declared.stream.Side.TheVariants as side
-use Rattle.smx_types.specs.declared.stream.StreamId.{StreamId}
-use Rattle.std.specs.List.{list_all}
-use Rattle.smx_types.specs.declared.reply.Fault.TheVariants.{Below, NoMinor}
 use Rattle.smx_model.proofs.EachLemmas.{each_map}
 use Rattle.smx_model.proofs.TestLemmas.{any_more, all_more, all_push, all_placed, all_filter, all_without, any_placed}
 use Rattle.smx_model.proofs.TestLemmas.{any_push, found_any, found_all}
-use Rattle.std.specs.List.{AllByRecursion}
 
 -- with more descriptors or links more streams exist
 
@@ -51,30 +28,9 @@ stands_grow : (fds fds2 : List Descriptor) (links links2 : List Link)
     → ((t : Descriptor → Bool) → list_any t fds ≡ true → list_any t fds2 ≡ true)
     → ((t : Link → Bool) → list_any t links ≡ true → list_any t links2 ≡ true)
     → (n : ℕ) (s : StreamId) → stands_within fds links n s ≡ true → stands_within fds2 links2 n s ≡ true
-stands_grow fds fds2 links links2 f g zero s h =
-    elim (or_cases (is_named fds s) (list_any (λ l. is_persistent l && same_stream l.lower s) links) h) [
-      | inl k ↦ or_left _ _ (f (λ d. same_stream d.stream s) k)
-      | inr k ↦
-          or_right _ _ (g (λ l. is_persistent l && same_stream l.lower s) k)
-    ]
+stands_grow fds fds2 links links2 f g zero s h = grind arith
 stands_grow fds fds2 links links2 f g (suc n) s
-    h = elim (or_cases (stands_within fds links n s)
-    (list_any (λ l. not (is_persistent l) && (same_stream l.lower s && stands_within fds links n l.ctl)) links) h) [
-      | inl k ↦ or_left _ _ (stands_grow fds fds2 links links2 f g n s k)
-      | inr k ↦
-          or_right _ _
-          (any_more (λ l. not (is_persistent l) && (same_stream l.lower s && stands_within fds links n l.ctl))
-          (λ l. not (is_persistent l) && (same_stream l.lower s && stands_within fds2 links2 n l.ctl)) links2
-          (deeper (stands_grow fds fds2 links links2 f g n))
-          (g (λ l. not (is_persistent l) && (same_stream l.lower s && stands_within fds links n l.ctl)) k))
-    ] where
-      deeper : ((t : StreamId) → stands_within fds links n t ≡ true → stands_within fds2 links2 n t ≡ true) → (l : Link)
-          → (not (is_persistent l) && (same_stream l.lower s && stands_within fds links n l.ctl)) ≡ true
-          → (not (is_persistent l) && (same_stream l.lower s && stands_within fds2 links2 n l.ctl)) ≡ true
-      deeper up l e =
-          let a = and_parts (not (is_persistent l)) (same_stream l.lower s && stands_within fds links n l.ctl) e in
-          let b = and_parts (same_stream l.lower s) (stands_within fds links n l.ctl) a.1 in
-          and_from _ _ a.0 (and_from _ _ b.0 (up l.ctl b.1))
+    h = grind (arith, stands_grow fds fds2 links links2 f g n s, any_more, stands_grow fds fds2 links links2 f g n)
 
 -- a configuration is swept if all streams that exist in a swept one exist in it, its links pass the sweep, and all
 -- else that is swept is the same
@@ -82,13 +38,7 @@ grown : (drivers : List DriverSpec) (c d : Configuration) → IsSwept drivers c
     → ((s : StreamId) → exists drivers c s ≡ true → exists drivers d s ≡ true)
     → list_all (λ l. is_persistent l || exists drivers d l.ctl) d.links ≡ true → d.binds ≡ c.binds → d.flow ≡ c.flow
     → d.fulls ≡ c.fulls → d.hungs ≡ c.hungs → IsSwept drivers d
-grown drivers c d h more links b f u g = record {
-  links = links;
-  binds = rw b (all_more _ _ c.binds (λ x. more (record { driver = x.driver; minor = x.minor })) h.binds);
-  flow = rw f (all_more _ _ c.flow (λ x. more x.place.stream) h.flow);
-  fulls = rw u (all_more _ _ c.fulls (λ x. more x.stream) h.fulls);
-  hungs = rw g (all_more _ _ c.hungs (λ x. more x) h.hungs);
-}
+grown drivers c d h more links b f u g = grind (arith, all_more)
 
 -- if one of two tests passes, so does one of them with the second replaced by a test that passes whenever it does
 link_more : (a b d : Bool) → (b ≡ true → d ≡ true) → (a || b) ≡ true → (a || d) ≡ true
@@ -125,28 +75,24 @@ stream_self t = and_from _ _ (eq-eqb t.driver t.driver refl) (eq-eqb t.minor t.m
 stream_exists : (drivers : List DriverSpec) (c : Configuration) (process fd : ℕ) (s : StreamId)
     → stream_of c process fd ≡ Ok s → exists drivers c s ≡ true
 stream_exists drivers c process fd s e =
-    let d = descriptor_of c process fd s e in
-    stands_more c.fds c.links 0 (length drivers) s (omega arith)
-    (or_left _ _ (found_any (is_fd process fd) (λ x. same_stream x.stream s) c.fds d.0 d.1 (rw d.2 (stream_self s))))
+    grind (
+      arith,
+      nat_tests,
+      descriptor_of c process fd s e,
+      stands_more c.fds c.links 0 (length drivers) s (omega arith),
+      found_any (is_fd process fd),
+      stream_self s,
+    )
 
 -- the stream of a descriptor that is not linked below exists
 pub free_exists : (drivers : List DriverSpec) (c : Configuration) (process fd : ℕ) (s : StreamId)
     → free_stream c process fd ≡ Ok s → exists drivers c s ≡ true
-free_exists drivers c process fd s e = stream_exists drivers c process fd s
-    (tested Below (stream_of c process fd) (is_below c.links) s e).0
+free_exists drivers c process fd s e = grind (arith, stream_exists, tested)
 
 -- the stream of a leaf driver and its minor that a lookup finds exists
 pub leaf_exists : (drivers : List DriverSpec) (c : Configuration) (name : List ℕ) (minor : ℕ) (s : StreamId)
     → leaf_stream drivers c name minor ≡ Ok s → exists drivers c s ≡ true
-leaf_exists drivers c name minor s e =
-    let n = looked_up (driver_of drivers name) _ s e in
-    let there = passed NoMinor _ _ s (passed NoDriver (is_mux drivers n.0) _ s n.2).1 in
-    subst (λ (x : StreamId). exists drivers c x ≡ true) (same n.0 there.1) (not-false _ there.0) where
-      stream : ℕ → Result StreamId Fault
-      stream n = Ok (record { driver = n; minor = minor })
-
-      same : (n : ℕ) → stream n ≡ Ok s → record { driver = n; minor = minor } ≡ s
-      same n e = cc
+leaf_exists drivers c name minor s e = grind (arith, looked_up, passed)
 
 -- the stream of a descriptor that is not linked below, and whose device has not hung up, exists
 live_exists : (drivers : List DriverSpec) (c : Configuration) (process fd : ℕ) (s : StreamId)
@@ -193,11 +139,7 @@ pub links_in : (drivers : List DriverSpec) (links : List Link)
     → AllByRecursion (λ l. l.ctl.driver < length drivers) links
     → AllByRecursion (IsLinkIn drivers links) links
 links_in drivers [] h = tt
-links_in drivers (l ∷ ls) h = (
-  record { ctl = h.0; leads = reaches_at (l ∷ ls) 0 l (omega arith) refl },
-  each_map (IsLinkIn drivers ls) (IsLinkIn drivers (l ∷ ls)) ls
-      (λ k i. record { ctl = i.ctl; leads = or_left _ _ i.leads }) (links_in drivers ls h.1),
-)
+links_in drivers (l ∷ ls) h = grind (arith, reaches_at, each_map, IsLinkIn, links_in drivers ls h.1)
 
 -- a swept configuration without a cycle, whose drivers have the streams of its descriptors and links
 pub record IsWhole (drivers : List DriverSpec) (c : Configuration) : Type 0 where
@@ -215,50 +157,36 @@ pub record AreKeepingLowers (drivers : List DriverSpec) (c : Configuration) : Ty
 -- the lower stream of a link that a search finds exists
 pub lower_exists : (drivers : List DriverSpec) (c : Configuration) (test : Link → Bool) (l : Link)
     → AreKeepingLowers drivers c → find test c.links ≡ Some l → exists drivers c l.lower ≡ true
-lower_exists drivers c test l h e = elim (cases_Bool (is_persistent l)) [
-  | inl p ↦ stands_more c.fds c.links 0 (length drivers) l.lower (omega arith)
-      (or_right _ _ (found_any test (λ k. is_persistent k && same_stream k.lower l.lower) c.links l e
-      (and_from _ _ p (stream_self l.lower))))
-  | inr o ↦
-      let a = found_all test (λ k. is_persistent k || exists drivers c k.ctl) c.links l e h.alive in
-      let up : exists drivers c l.ctl ≡ true = rw o at a in
-      climbs_suffice drivers c.fds c.links (suc (length drivers)) l.lower h.no_cycle (links_in drivers c.links h.below)
-      (or_right _ _
-      (found_any test (λ k. not (is_persistent k)
-      && (same_stream k.lower l.lower && stands_within c.fds c.links (length drivers) k.ctl)) c.links l e
-      (and_from _ _ (rw o refl) (and_from _ _ (stream_self l.lower) up))))
-]
+lower_exists drivers c test l h e =
+    grind (
+      arith,
+      nat_tests,
+      stands_more c.fds c.links 0 (length drivers) l.lower (omega arith),
+      found_any test,
+      stream_self l.lower,
+      found_all test,
+      climbs_suffice drivers c.fds c.links (suc (length drivers)) l.lower h.no_cycle (links_in drivers c.links h.below),
+      links_in drivers c.links h.below,
+    )
 
 -- a swept configuration without a cycle, whose descriptors and links have known streams, has links that keep
 -- their lower streams
 whole_keeps : (drivers : List DriverSpec) (c : Configuration) → IsWhole drivers c → AreKeepingLowers drivers c
-whole_keeps drivers c h =
-    record { no_cycle = h.no_cycle; below = each_map _ _ c.links (λ l p. p.0.0) h.named.links; alive = h.swept_.links }
+whole_keeps drivers c h = grind (arith, each_map)
 
 -- in a swept configuration without a cycle, whose descriptors and links have known streams, the stream of the
 -- next place exists
 next_exists : (drivers : List DriverSpec) (c : Configuration) (s : StreamId) (addr : ℕ) (which_side : Side) (q : Place)
     → IsWhole drivers c → next_place drivers c (record { stream = s; side = which_side }) addr ≡ Some q
     → exists drivers c q.stream ≡ true
-next_exists drivers c s addr side.Write q h e = elim (cases_Bool (is_mux drivers s.driver)) [
-  | inl t ↦ let w = below_link c.links c.routes c.hungs s.driver addr q (rw t at e) in
-      subst (λ (x : Place). exists drivers c x.stream ≡ true) w.4
-      (lower_exists drivers c _ w.2 (whole_keeps drivers c h) w.3)
-  | inr f ↦ let k : None ≡ Some q = rw f at e in cc
-]
-next_exists drivers c s addr side.Read q h e =
-    let w = above_binding c.links c.binds s addr q e in
-    subst (λ (x : Place). exists drivers c x.stream ≡ true) w.4
-    (found_all (λ b. eqb b.driver w.0.ctl.driver && eqb b.addr addr)
-    (λ b. exists drivers c (record { driver = b.driver; minor = b.minor })) c.binds w.2 w.3 h.swept_.binds)
+next_exists drivers c s addr side.Write q h e = grind (arith, below_link, lower_exists, whole_keeps)
+next_exists drivers c s addr side.Read q h e = grind (arith, above_binding c.links c.binds s addr q e, found_all)
 
 -- if the places of all messages pass a test, so does a place with a first message
 front_exists : (t : Place → Bool) (hs : List QueuedMessage) (p : Place) (m : Message) → first_message hs p ≡ Some m
     → list_all (λ h. t h.place) hs ≡ true → t p ≡ true
 front_exists t [] p m e h = cc
-front_exists t (k ∷ hs) p m e h =
-    let a = and_parts (t k.place) (list_all (λ h. t h.place) hs) h in elim (cases_Bool (is_at p k))
-    [ inl y ↦ ap t (sym (same_place_is k.place p y)) ∙ a.0 | inr n ↦ front_exists t hs p m (rw n at e) a.1 ]
+front_exists t (k ∷ hs) p m e h = grind (arith, same_place_is k.place p, front_exists t hs p m)
 
 -- a move keeps a swept configuration without a cycle swept
 pub swept_moved : (drivers : List DriverSpec) (c : Configuration) (p : Place) → IsWhole drivers c
@@ -283,11 +211,9 @@ swept_moved drivers c p h = by (next_open_place drivers c p) (first_message c.fl
 -- a stream that exists within some number of climbs exists within as many as there are drivers
 pub stands_exists : (drivers : List DriverSpec) (c : Configuration) (s : StreamId) → HasNoCycle c.links
     → AllByRecursion (λ l. l.ctl.driver < length drivers) c.links → Stands c s → exists drivers c s ≡ true
-stands_exists drivers c s none below h =
-    climbs_suffice drivers c.fds c.links h.climbs s none (links_in drivers c.links below) h.within
+stands_exists drivers c s none below h = grind (arith, climbs_suffice, links_in)
 
 -- the outcome of an accepted command needs no further sweep
 pub swept_once : (drivers : List DriverSpec) (c : Configuration) (process : ℕ) (k : Command) → IsSwept drivers c
     → IfOk (outcome drivers c process k) (λ x. after_sweep drivers x.0 ≡ x.0)
-swept_once drivers c process k h = if_ok (IsSwept drivers) _ (outcome drivers c process k) (swept_idle drivers)
-    (swept_accepted drivers c process k h)
+swept_once drivers c process k h = grind (arith, if_ok, swept_idle, swept_accepted)

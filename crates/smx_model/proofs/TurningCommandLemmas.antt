@@ -1,51 +1,28 @@
 -- The places that commands turn.
-use Rattle.std.proofs.Common.{◌≡◌, ℕ, ◌+◌, Bool, true, false, ◌&&◌, ◌||◌, not, eqb, List, [], ◌∷◌, ◌++◌}
-use Rattle.std.proofs.Common.{filter, Result, Ok, Err, refl, rules, ◌∙◌, inl, inr, arith}
-use Rattle.std.specs.Prelude.{nat_lt, IfOk}
-use Rattle.std.specs.List.{list_any}
-use Rattle.std.proofs.lemmas.Bool.{cases_Bool}
-use Rattle.std.proofs.lemmas.Bool.{not-true, or_right}
-use Rattle.std.proofs.lemmas.Bool.Decides.{nat_tests}
-use Rattle.std.specs.List.{AllByRecursion}
-use Rattle.std.proofs.lemmas.List.Elements.{recursion_from_All}
-use Rattle.smx_types.specs.declared.command.Command.{Command}
+use Rattle.smx_model.proofs.Common.{◌≡◌, ℕ, ◌+◌, Bool, true, false, ◌&&◌, ◌||◌, not, eqb, List, [], ◌∷◌, ◌++◌, filter}
+use Rattle.smx_model.proofs.Common.{Result, Ok, Err, refl, rules, ◌∙◌, inl, arith, nat_lt, IfOk, list_any, or_right}
+use Rattle.smx_model.proofs.Common.{nat_tests, AllByRecursion, recursion_from_All, Command, DriverSpec, Binding}
+use Rattle.smx_model.proofs.Common.{LinkKind, Route, Message, Fault, Descriptor, Place, StreamId, outcome, done_outcome}
+use Rattle.smx_model.proofs.Common.{link_outcome, send_outcome, receive_outcome, with_fd, Configuration, same_place}
+use Rattle.smx_model.proofs.Common.{pair_before, route_before, same_stream, read_side, IsSound, stream_of, mux_stream}
+use Rattle.smx_model.proofs.Common.{live_leaf, with_inserted, Outcome, after_arrival, asks_down, asks_up, nowhere}
+use Rattle.smx_model.proofs.Common.{is_first_at, TurnsOnly, is_hung, with_hung, AllLater}
+use Rattle.std.proofs.lemmas.Bool.{not-true}
 use Rattle.smx_types.specs.declared.command.Command.TheVariants as command
-use Rattle.smx_types.specs.declared.driver.DriverSpec.{DriverSpec}
-use Rattle.smx_types.specs.declared.link.Binding.{Binding}
-use Rattle.smx_types.specs.declared.link.LinkKind.{LinkKind}
 use Rattle.smx_types.specs.declared.link.LinkKind.TheVariants as kind
-use Rattle.smx_types.specs.declared.link.Route.{Route}
-use Rattle.smx_types.specs.declared.message.Message.{Message}
-use Rattle.smx_types.specs.declared.reply.Fault.{Fault}
-use Rattle.smx_types.specs.declared.stream.Descriptor.{Descriptor}
-use Rattle.smx_types.specs.declared.stream.Place.{Place}
-use Rattle.smx_types.specs.declared.stream.StreamId.{StreamId}
-use Rattle.smx_model.specs.Commands.{outcome, done_outcome, link_outcome, send_outcome, receive_outcome}
-use Rattle.smx_model.specs.Commands.{with_fd}
-use Rattle.smx_model.specs.Configuration.{Configuration, same_place, pair_before, bind_before, route_before}
-use Rattle.smx_model.specs.Configuration.{same_stream, read_side, write_side}
-use Rattle.smx_model.specs.KeptConfigurations.{IsSound}
-use Rattle.smx_model.specs.Lookups.{stream_of, free_stream, mux_stream, live_stream, live_leaf}
-use Rattle.smx_model.specs.Ordered.{with_inserted}
-use Rattle.smx_model.specs.Outcomes.{Outcome, ◌>>=◌}
-use Rattle.smx_model.specs.Queues.{after_arrival}
-use Rattle.smx_model.specs.Removal.{after_sweep}
+use Rattle.smx_model.specs.Outcomes.{◌>>=◌}
 use Rattle.smx_model.proofs.EachLemmas.{each_placed, later_filter, later_pairs, later_map}
 use Rattle.smx_model.proofs.EachLemmas.{none_passes, kept_passes, each_map}
 use Rattle.smx_model.proofs.AcceptedLemmas.{unlinked}
 use Rattle.smx_model.proofs.HungListLemmas.{hung_with}
 use Rattle.smx_model.proofs.OutcomeLemmas.{IfAccepted, at_ok, after_ok, after_test, after_some, after_choice, if_ok}
-use Rattle.smx_model.specs.RunMarks.{asks_down, asks_up, nowhere, is_first_at, TurnsOnly}
 use Rattle.smx_model.specs.TurnedPlaces.{of_stream, turned_by}
 use Rattle.smx_model.proofs.FindLemmas.{not_same_pair_turned, same_finds}
 use Rattle.smx_model.proofs.FewerLemmas.{AreRooted, IsKeyed, binds_find, fewer_turns, keyed_removed, rooted_filter}
 use Rattle.smx_model.proofs.FewerLemmas.{routes_find, turns_emptied, turns_removed, turns_swept}
 use Rattle.smx_model.proofs.TurningLemmas.{bound, routed, turns_arrived, turns_bound, turns_left, turns_linked}
 use Rattle.smx_model.proofs.TurningLemmas.{turns_routed, turns_then, turns_unchanged}
-use Rattle.smx_model.specs.Hangups.{is_hung, with_hung}
 use Rattle.smx_model.proofs.RisingLemmas.{bind_other}
-use Rattle.smx_model.specs.KnownStreams.{IsKnown}
-use Rattle.smx_model.specs.Ordered.{AllLater}
 
 -- ---- each key occurs once
 
@@ -59,30 +36,18 @@ pair_differs a b c d h = grind (arith, nat_tests)
 
 -- in a sound configuration each key of a route, a link or a binding occurs once
 pub keyed : (drivers : List DriverSpec) (c : Configuration) → IsSound drivers c → IsKeyed c
-keyed drivers c h = record {
-  routes = later_map _ _ c.routes (λ r s. pair_differs r.driver r.addr s.driver s.addr) h.ordered.routes;
-  ids = later_map _ _ c.links (λ l k. less_differs l.id k.id) h.ids.rise;
-  lowers = later_pairs _ c.links h.links.lowers;
-  binds = later_map _ _ c.binds (λ b e. pair_differs b.driver b.addr e.driver e.addr) h.ordered.binds;
-}
+keyed drivers c h = search (rules, later_map, pair_differs, less_differs, later_pairs)
 
 -- the links of a sound configuration are sound, and their upper drivers exist
 pub rooted : (drivers : List DriverSpec) (c : Configuration) → IsSound drivers c → AreRooted drivers c.links
-rooted drivers c h = record {
-  sound = h.links;
-  below = each_map (λ l. IsKnown drivers l.ctl) _ c.links (λ l p. p.0)
-      (recursion_from_All _ c.links h.known.controlling);
-}
+rooted drivers c h = grind (arith, each_map, recursion_from_All)
 
 -- if a relation is symmetric, and each element is related to all later ones and to one more, this also holds after
 -- that one is inserted
 related_placed : {X : Type 0} (R : X → X → Type 0) (before : X → X → Bool) → ((x y : X) → R x y → R y x)
     → (x : X) (xs : List X) → AllByRecursion (R x) xs → AllLater R xs → AllLater R (with_inserted before xs x)
 related_placed R before s x [] e h = (tt, tt)
-related_placed R before s x (y ∷ ys) e h = elim (cases_Bool (before x y)) [
-  | inl t ↦ rw t (e, h)
-  | inr f ↦ rw f (each_placed (R y) before ys x (s x y e.0) h.0, related_placed R before s x ys e.1 h.1)
-]
+related_placed R before s x (y ∷ ys) e h = grind (arith, each_placed, related_placed R before s x ys e.1 h.1)
 
 -- after a route in place of that of its driver and address, each key still occurs once
 keyed_routed : (c : Configuration) (driver addr id : ℕ) → IsKeyed c → IsKeyed (routed c driver addr id)
@@ -102,18 +67,7 @@ keyed_routed c driver addr id h = record {
 keyed_bound : (c : Configuration) (driver addr minor : ℕ)
     → list_any (λ b. eqb b.driver driver && (eqb b.addr addr || eqb b.minor minor)) c.binds ≡ false → IsKeyed c
     → IsKeyed (bound c driver addr minor)
-keyed_bound c driver addr minor free h = record {
-  binds = related_placed (λ b e. (eqb b.driver e.driver && eqb b.addr e.addr) ≡ false) bind_before
-      (λ b e. not_same_pair_turned e.driver e.addr b.driver b.addr)
-      (record { driver = driver; addr = addr; minor = minor }) c.binds
-      (none_passes (λ b. eqb b.driver driver && (eqb b.addr addr || eqb b.minor minor)) _ c.binds
-      (λ b f. not_same_pair_turned driver addr b.driver b.addr (bind_other driver addr b.driver b.addr b.minor minor f))
-      free)
-      h.binds;
-  ids = h.ids;
-  lowers = h.lowers;
-  routes = h.routes;
-}
+keyed_bound c driver addr minor free h = grind (arith, related_placed, not_same_pair_turned, none_passes, bind_other)
 
 -- ---- the rows of the command table
 
@@ -121,28 +75,17 @@ keyed_bound c driver addr minor free h = record {
 turns_done : (drivers : List DriverSpec) (c new : Configuration) (t : Place → Bool) → TurnsOnly drivers c new t
     → IsKeyed new → AreRooted drivers new.links
     → IfAccepted (λ d r. TurnsOnly drivers c d t) (done_outcome drivers c new)
-turns_done drivers c new t h k r = at_ok _ (after_sweep drivers new) _
-    (turns_then drivers c new (after_sweep drivers new) t h (turns_swept drivers new k r))
+turns_done drivers c new t h k r = grind (arith, at_ok, turns_then, turns_swept)
 
 -- a message that arrives under the next serial turns only its own place, and only if it was empty
 arrived_turns : (drivers : List DriverSpec) (c : Configuration) (p : Place) (m : Message) (n : ℕ) → IsSound drivers c
     → TurnsOnly drivers c (record (after_arrival drivers c p m) { next_serial = n }) (is_first_at c p)
-arrived_turns drivers c p m n h = turns_then drivers c (after_arrival drivers c p m)
-    (record (after_arrival drivers c p m) { next_serial = n }) (is_first_at c p)
-    (turns_arrived drivers c p m h.ordered.flow)
-    (turns_unchanged drivers (after_arrival drivers c p m)
-    (record (after_arrival drivers c p m) { next_serial = n }) refl refl refl refl refl)
+arrived_turns drivers c p m n h = grind (arith, turns_arrived, turns_unchanged)
 
 -- a message that is sent turns only the place to which it is sent, and only if it was empty
 turns_sent : (drivers : List DriverSpec) (c : Configuration) (p : Place) (addr : ℕ) (bytes : List ℕ) → IsSound drivers c
     → IfAccepted (λ d r. TurnsOnly drivers c d (is_first_at c p)) (send_outcome drivers c p addr bytes)
-turns_sent drivers c p addr bytes h = search (
-  after_test,
-  at_ok,
-  arrived_turns drivers c p (record { serial = c.next_serial; addr = addr; bytes = bytes })
-      (c.next_serial + 1) h,
-  rules,
-) depth 12
+turns_sent drivers c p addr bytes h = search (rules, after_test, at_ok, arrived_turns)
 
 -- a message that is delivered turns only its own place
 turns_received : (drivers : List DriverSpec) (c : Configuration) (p : Place)
@@ -199,8 +142,7 @@ hung_more s t hungs h = hung_with s t hungs ∙ or_right (same_stream s t) _ h
 -- a stream that hangs up turns no place
 pub more_hung_turn_none : (drivers : List DriverSpec) (c : Configuration) (s : StreamId)
     → TurnsOnly drivers c (record c { hungs = with_hung s c.hungs }) nowhere
-more_hung_turn_none drivers c s = fewer_turns drivers c (record c { hungs = with_hung s c.hungs })
-    (search (hung_more, same_finds, rules)) (λ r. inl refl)
+more_hung_turn_none drivers c s = grind (arith, fewer_turns, hung_more, same_finds)
 
 -- if nothing changes, no place is turned
 turns_none : (drivers : List DriverSpec) (c : Configuration) (t : Place → Bool) → TurnsOnly drivers c c t
@@ -214,8 +156,7 @@ turns_new_link : (drivers : List DriverSpec) (c : Configuration) (upper lower : 
       links = c.links ++ record { id = c.next_id; ctl = upper; lower = lower; kind = k } ∷ [];
       next_id = c.next_id + 1;
     }) (same_place (read_side lower))
-turns_new_link drivers c upper lower k h =
-    turns_linked drivers c (record { id = c.next_id; ctl = upper; lower = lower; kind = k }) (c.next_id + 1) h.routes
+turns_new_link drivers c upper lower k h = grind (arith, turns_linked)
 
 -- a property of places by a stream, for any stream, holds of places by the stream that a look-up names
 pub at_stream : (P : Configuration → (Place → Bool) → Type 0) (named : Result StreamId Fault)
@@ -228,21 +169,13 @@ at_stream P (Err e) t f h = record { holds = tt }
 turns_link : (drivers : List DriverSpec) (c : Configuration) (process fd arg : ℕ) (k : LinkKind) → IsSound drivers c
     → IfAccepted (λ d r. TurnsOnly drivers c d (of_stream (stream_of c process arg) (λ s. same_place (read_side s))))
     (link_outcome drivers c process fd arg k)
-turns_link drivers c process fd arg k h = search (
-  after_ok,
-  at_stream (TurnsOnly drivers c) (stream_of c process arg) (λ s. same_place (read_side s)),
-  after_test,
-  at_ok,
-  turns_new_link,
-  rules,
-) depth 24
+turns_link drivers c process fd arg k h = grind (arith, after_ok, at_stream, after_test, at_ok, turns_new_link)
 
 -- an accepted command, from a sound configuration, turns only places of `turned_by`
 pub turns : (drivers : List DriverSpec) (c : Configuration) (process : ℕ) (k : Command) → IsSound drivers c
     → IfAccepted (λ d r. TurnsOnly drivers c d (turned_by drivers c process k)) (outcome drivers c process k)
 turns drivers c process (command.OpenClone name) h = search (after_ok, at_ok, turns_with_fd, rules) depth 20
-turns drivers c process (command.OpenMinor name minor) h =
-    search (after_test, after_ok, at_ok, turns_with_fd, rules) depth 20
+turns drivers c process (command.OpenMinor name minor) h = grind (arith, after_test, after_ok, at_ok, turns_with_fd)
 turns drivers c process (command.Dup fd) h = search (after_ok, at_ok, turns_with_fd, rules) depth 20
 turns drivers c process (command.Close fd) h =
     let k = keyed drivers c h in let x = rooted drivers c h in
@@ -255,54 +188,39 @@ turns drivers c process (command.Unlink fd w) h = let k = keyed drivers c h in l
     search (after_ok, unlinked, turns_still, turns_removed, keyed_removed, rooted_filter, rules) depth 20
 turns drivers c process (command.Punlink fd w) h = let k = keyed drivers c h in let x = rooted drivers c h in
     search (after_ok, unlinked, turns_still, turns_removed, keyed_removed, rooted_filter, rules) depth 20
-turns drivers c process (command.Bind fd addr) h = let k = keyed drivers c h in let x = rooted drivers c h in
+turns drivers c process (command.Bind fd addr) h =
     search (
-      at_stream (TurnsOnly drivers c) (mux_stream drivers c process fd) (λ s. asks_up c s.driver addr),
+      rules,
+      keyed drivers c h,
+      rooted drivers c h,
+      at_stream (TurnsOnly drivers c) (mux_stream drivers c process fd),
       after_test,
       turns_bind,
-      rules,
-    ) depth 20
+    )
 turns drivers c process (command.Unbind fd) h = let k = keyed drivers c h in let x = rooted drivers c h in
     search (after_test, after_ok, turns_still, turns_unbound, later_filter, rules) depth 20
-turns drivers c process (command.Route fd addr id) h = let k = keyed drivers c h in let x = rooted drivers c h in
+turns drivers c process (command.Route fd addr id) h =
     search (
-      at_stream (TurnsOnly drivers c) (mux_stream drivers c process fd) (λ s. asks_down c s.driver addr),
+      rules,
+      keyed drivers c h,
+      rooted drivers c h,
+      at_stream (TurnsOnly drivers c) (mux_stream drivers c process fd),
       after_test,
       turns_route,
-      rules,
-    ) depth 20
+    )
 turns drivers c process (command.Unroute fd addr) h = let k = keyed drivers c h in let x = rooted drivers c h in
     search (after_test, after_ok, turns_still, turns_unrouted, later_filter, rules) depth 20
-turns drivers c process (command.Write fd addr bytes) h = search (
-  at_stream (TurnsOnly drivers c) (live_stream c process fd) (λ s. is_first_at c (write_side s)),
-  turns_sent,
-  rules,
-) depth 20
-turns drivers c process (command.Read fd) h = search (
-  at_stream (TurnsOnly drivers c) (free_stream c process fd) (λ s. same_place (read_side s)),
-  after_choice,
-  at_ok,
-  turns_none,
-  turns_received,
-  rules,
-) depth 20
+turns drivers c process (command.Write fd addr bytes) h = grind (arith, at_stream, turns_sent)
+turns drivers c process (command.Read fd) h = grind (arith, at_stream, after_choice, at_ok, turns_none, turns_received)
 turns drivers c process (command.Flush fd w) h = let k = keyed drivers c h in let x = rooted drivers c h in
     search (after_ok, turns_still, turns_emptied, rules) depth 20
-turns drivers c process (command.Inject name minor addr bytes) h = search (
-  at_stream (TurnsOnly drivers c) (live_leaf drivers c name minor) (λ s. is_first_at c (read_side s)),
-  turns_sent,
-  rules,
-) depth 20
-turns drivers c process (command.Transmit name minor) h = search (
-  at_stream (TurnsOnly drivers c) (live_leaf drivers c name minor) (λ s. same_place (write_side s)),
-  turns_received,
-  rules,
-) depth 20
+turns drivers c process (command.Inject name minor addr bytes) h =
+    search (rules, at_stream (TurnsOnly drivers c) (live_leaf drivers c name minor), turns_sent)
+turns drivers c process (command.Transmit name minor) h = grind (arith, at_stream, turns_received)
 turns drivers c process (command.Hangup name minor) h = let k = keyed drivers c h in let x = rooted drivers c h in
     search (after_ok, turns_still, more_hung_turn_none, rules) depth 20
 
 -- an accepted outcome turns only places of `turned_by`
 pub outcomes_turn : (drivers : List DriverSpec) (c : Configuration) (process : ℕ) (k : Command) → IsSound drivers c
     → IfOk (outcome drivers c process k) (λ x. TurnsOnly drivers c x.0 (turned_by drivers c process k))
-outcomes_turn drivers c process k h = if_ok (λ d. TurnsOnly drivers c d (turned_by drivers c process k)) _
-    (outcome drivers c process k) (λ d m. m) (turns drivers c process k h)
+outcomes_turn drivers c process k h = grind (arith, if_ok, turns drivers c process k h)

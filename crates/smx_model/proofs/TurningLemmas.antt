@@ -1,39 +1,21 @@
 -- The places that changes turn.
-use Rattle.std.proofs.Common.{◌≡◌, ℕ, Bool, true, false, ◌&&◌, not, eqb, List, [], ◌∷◌, ◌++◌, filter, find, Option}
-use Rattle.std.proofs.Common.{Some, None, refl, sym, ap, ◌∙◌, subst, inl}
-use Rattle.std.specs.List.{list_any}
-use Rattle.std.proofs.lemmas.Bool.{both_ways, and_parts, and_from, or_parts}
-use Rattle.std.proofs.lemmas.Bool.{false_from_ne_true, eqb-true, eq-eqb}
-use Rattle.smx_types.specs.declared.driver.DriverSpec.{DriverSpec}
-use Rattle.smx_types.specs.declared.link.Binding.{Binding}
-use Rattle.smx_types.specs.declared.link.Link.{Link}
-use Rattle.smx_types.specs.declared.link.Route.{Route}
-use Rattle.smx_types.specs.declared.message.Message.{Message}
-use Rattle.smx_types.specs.declared.stream.Place.{Place}
-use Rattle.smx_types.specs.declared.stream.Side.{Side}
+use Rattle.smx_model.proofs.Common.{◌≡◌, ℕ, Bool, true, false, ◌&&◌, not, eqb, List, [], ◌∷◌, ◌++◌, filter, find}
+use Rattle.smx_model.proofs.Common.{Option, Some, None, refl, sym, ap, inl, list_any, both_ways, and_parts, and_from}
+use Rattle.smx_model.proofs.Common.{or_parts, false_from_ne_true, eqb-true, eq-eqb, DriverSpec, Binding, Link, Route}
+use Rattle.smx_model.proofs.Common.{Message, Place, Side, StreamId, Configuration, is_at, same_place, same_side}
+use Rattle.smx_model.proofs.Common.{same_stream, bind_before, route_before, IsInOrder, with_inserted, first_message}
+use Rattle.smx_model.proofs.Common.{after_arrival, after_leaving, after_move, next_open_place, next_place}
+use Rattle.smx_model.proofs.Common.{live_write_side, AreRoutesSound, next_of, asks_down, asks_up, is_first_at, nowhere}
+use Rattle.smx_model.proofs.Common.{Stays, TurnsOnly, or_from, AllByRecursion, recursion_from_All, arith}
 use Rattle.smx_types.specs.declared.stream.Side.TheVariants as side
-use Rattle.smx_types.specs.declared.stream.StreamId.{StreamId}
-use Rattle.smx_model.specs.Configuration.{Configuration, QueuedMessage, is_at, same_place, same_side, same_stream}
-use Rattle.smx_model.specs.Configuration.{bind_before, route_before}
-use Rattle.smx_model.specs.FlowOrder.{IsInOrder}
-use Rattle.smx_model.specs.Ordered.{with_inserted}
-use Rattle.smx_model.specs.Queues.{first_message, after_arrival, after_leaving}
-use Rattle.smx_model.specs.Settling.{◌>>=◌, after_move, next_open_place, next_place, live_write_side}
-use Rattle.smx_model.specs.SoundLinks.{AreRoutesSound}
-use Rattle.smx_model.proofs.EachLemmas.{each_find}
+use Rattle.smx_model.specs.Settling.{◌>>=◌}
+use Rattle.smx_model.proofs.EachLemmas.{each_find, later_without_first}
 use Rattle.smx_model.proofs.TestLemmas.{found_any, find_passes, any_more}
 use Rattle.smx_model.proofs.SettlingLemmas.{open_next}
-use Rattle.smx_model.specs.RunMarks.{next_of, asks_down, asks_up, has_addr}
-use Rattle.smx_model.specs.RunMarks.{is_first_at, either, nowhere}
-use Rattle.smx_model.specs.RunMarks.{Stays, TurnsOnly}
+use Rattle.smx_model.specs.RunMarks.{has_addr, either}
 use Rattle.smx_model.proofs.WaitingLemmas.{next_by, next_is, next_of_same, first_left, first_arrived}
-use Rattle.smx_model.proofs.FindLemmas.{finds_then, find_placed}
-use Rattle.smx_model.proofs.FindLemmas.{find_filter, find_push_found, find_push_other}
+use Rattle.smx_model.proofs.FindLemmas.{finds_then, find_placed, find_filter, find_push_found, find_push_other}
 use Rattle.smx_model.proofs.FindLemmas.{not_same_pair_turned}
-use Rattle.std.proofs.lemmas.Bool.{or_from}
-use Rattle.std.specs.List.{AllByRecursion}
-use Rattle.std.proofs.lemmas.List.Elements.{recursion_from_All}
-use Rattle.smx_model.proofs.EachLemmas.{later_without_first}
 
 -- ---- the parts of a next place
 
@@ -57,9 +39,7 @@ up_by binds addr o = o >>= (λ l. bound_side (find (λ b. eqb b.driver l.ctl.dri
 pub stays_by : (drivers : List DriverSpec) (c d : Configuration) (p : Place) (addr : ℕ)
     → Stays (next_by drivers c p.stream addr p.side) (next_by drivers d p.stream addr p.side)
     → Stays (next_place drivers c p addr) (next_place drivers d p addr)
-stays_by drivers c d p addr h =
-    subst (λ o. Stays o (next_place drivers d p addr)) (sym (next_is drivers c p addr))
-    (subst (λ n. Stays (next_by drivers c p.stream addr p.side) n) (sym (next_is drivers d p addr)) h)
+stays_by drivers c d p addr h = grind (arith, next_is, next_by)
 
 -- ---- equal streams
 
@@ -69,10 +49,7 @@ stream_of_parts driver minor = record { driver = driver; minor = minor }
 
 -- streams that pass the test for equality are equal
 pub same_stream_is : (s t : StreamId) → same_stream s t ≡ true → s ≡ t
-same_stream_is s t e =
-    let p = and_parts (eqb s.driver t.driver) (eqb s.minor t.minor) e in
-    ap (λ (n : ℕ). stream_of_parts n s.minor) (eqb-true s.driver t.driver p.0)
-    ∙ ap (stream_of_parts t.driver) (eqb-true s.minor t.minor p.1)
+same_stream_is s t e = grind arith
 
 -- ---- one change after another
 
@@ -91,22 +68,19 @@ turns_then drivers c d e t h k r n = turns_both drivers c d e t nowhere h k r (o
 -- if links, routes, bindings, hung-up streams and the flow are unchanged, no place is turned
 pub turns_unchanged : (drivers : List DriverSpec) (c d : Configuration) → d.links ≡ c.links → d.routes ≡ c.routes
     → d.binds ≡ c.binds → d.hungs ≡ c.hungs → d.flow ≡ c.flow → TurnsOnly drivers c d nowhere
-turns_unchanged drivers c d l r b u f p n =
-    inl (next_of_same drivers c d p l r b u (ap (λ (hs : List QueuedMessage). first_message hs p) f))
+turns_unchanged drivers c d l r b u f p n = grind (arith, next_of_same drivers c d p l r b u)
 
 -- ---- a message arrives, the first one leaves
 
 -- a first message that leaves turns only its own place
 pub turns_left : (drivers : List DriverSpec) (c : Configuration) (p : Place)
     → TurnsOnly drivers c (after_leaving drivers c p) (same_place p)
-turns_left drivers c p r f =
-    inl (next_of_same drivers c (after_leaving drivers c p) r refl refl refl refl (first_left c.flow p r f))
+turns_left drivers c p r f = grind (arith, next_of_same, first_left)
 
 -- a message that arrives turns only its own place, and only if it was empty
 pub turns_arrived : (drivers : List DriverSpec) (c : Configuration) (q : Place) (m : Message) → IsInOrder c.flow
     → TurnsOnly drivers c (after_arrival drivers c q m) (is_first_at c q)
-turns_arrived drivers c q m o r f =
-    inl (next_of_same drivers c (after_arrival drivers c q m) r refl refl refl refl (first_arrived c.flow q r m o f))
+turns_arrived drivers c q m o r f = grind (arith, next_of_same, first_arrived)
 
 -- ---- a route
 
@@ -122,14 +96,7 @@ routed c driver addr id =
 find_routed : (c : Configuration) (driver addr id d a : ℕ) → (eqb d driver && eqb a addr) ≡ false
     → find (λ r. eqb r.driver d && eqb r.addr a) (routed c driver addr id).routes
     ≡ find (λ r. eqb r.driver d && eqb r.addr a) c.routes
-find_routed c driver addr id d a h = find_placed (λ r. eqb r.driver d && eqb r.addr a) route_before
-    (filter (λ r. not (eqb r.driver driver && eqb r.addr addr)) c.routes)
-    (record { driver = driver; addr = addr; id = id }) (not_same_pair_turned driver addr d a h)
-    ∙ find_filter (λ r. eqb r.driver d && eqb r.addr a) (λ r. not (eqb r.driver driver && eqb r.addr addr)) c.routes
-    (λ r t. ap not (apart r t)) where
-      apart : (r : Route) → (eqb r.driver d && eqb r.addr a) ≡ true → (eqb r.driver driver && eqb r.addr addr) ≡ false
-      apart r t =
-          let p = and_parts (eqb r.driver d) (eqb r.addr a) t in rw (eqb-true r.driver d p.0, eqb-true r.addr a p.1) h
+find_routed c driver addr id d a h = grind (arith, find_placed, not_same_pair_turned driver addr d a h, find_filter)
 
 -- a route turns only the driver's write sides whose first message has its address
 pub turns_routed : (drivers : List DriverSpec) (c : Configuration) (driver addr id : ℕ)

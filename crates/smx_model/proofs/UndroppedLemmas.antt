@@ -1,23 +1,11 @@
 -- A command that is done with no message dropped frees no place.
-use Rattle.std.proofs.Common.{◌≡◌, ℕ, Bool, true, ◌&&◌, not, List, [], ◌∷◌, filter, arith}
-use Rattle.std.proofs.Common.{refl, sym, ap, ◌∙◌, inl, inr}
-use Rattle.std.specs.Prelude.{IfOk}
-use Rattle.std.specs.List.{AllPairs}
-use Rattle.std.proofs.lemmas.Bool.{and_parts, cases_Bool, eq-eqb}
-use Rattle.smx_types.specs.declared.command.Command.{Command}
-use Rattle.smx_types.specs.declared.driver.DriverSpec.{DriverSpec}
-use Rattle.smx_types.specs.declared.link.Link.{Link}
-use Rattle.smx_types.specs.declared.reply.Reply.{Reply}
+use Rattle.smx_model.proofs.Common.{◌≡◌, ℕ, Bool, true, ◌&&◌, not, List, [], ◌∷◌, filter, arith, refl, sym, ap, ◌∙◌}
+use Rattle.smx_model.proofs.Common.{IfOk, AllPairs, and_parts, Command, DriverSpec, Link}
+use Rattle.smx_model.proofs.Common.{Reply, Place, done_outcome, outcome, Configuration, QueuedMessage, FreesOnly}
+use Rattle.smx_model.proofs.Common.{HaveFullPlacesMessages, in_rising_order, is_full, after_sweep}
+use Rattle.smx_model.proofs.Common.{serials, serials_that_left, without_links, without_queues_at, nowhere}
 use Rattle.smx_types.specs.declared.reply.Reply.TheVariants as reply
-use Rattle.smx_types.specs.declared.stream.Place.{Place}
-use Rattle.smx_model.specs.Commands.{done_outcome, outcome}
-use Rattle.smx_model.specs.Configuration.{Configuration, QueuedMessage}
-use Rattle.smx_model.specs.FreedPlaces.{FreesOnly, HaveFullPlacesMessages}
 use Rattle.smx_model.specs.KeptConfigurations.{AreSerialsSound}
-use Rattle.smx_model.specs.Ordered.{in_rising_order}
-use Rattle.smx_model.specs.Queues.{first_message, is_full}
-use Rattle.smx_model.specs.Removal.{after_sweep, serials, serials_that_left, without_links, without_queues_at}
-use Rattle.smx_model.specs.RunMarks.{nowhere}
 use Rattle.smx_model.proofs.AcceptedLemmas.{of_rows}
 use Rattle.smx_model.proofs.CountLemmas.{times, times_rising}
 use Rattle.smx_model.proofs.FreedPlaceLemmas.{KeepsOrEmpties, emptied_keeps, keeps_then, never_freed, removed_keeps}
@@ -41,13 +29,7 @@ all_left (h ∷ hs) = ap (λ (ks : List QueuedMessage). h ∷ ks) (all_left hs)
 two_left : (f g : QueuedMessage → Bool) (hs : List QueuedMessage)
     → filter g (filter f hs) ≡ filter (λ h. f h && g h) hs
 two_left f g [] = refl
-two_left f g (h ∷ hs) = elim (cases_Bool (f h)) [
-  | inl t ↦ elim (cases_Bool (g h)) [
-    | inl u ↦ rw (t, u) (ap (λ (ks : List QueuedMessage). h ∷ ks) (two_left f g hs))
-    | inr u ↦ rw (t, u) (two_left f g hs)
-  ]
-  | inr n ↦ rw n (two_left f g hs)
-]
+two_left f g (h ∷ hs) = grind (arith, two_left f g hs)
 
 -- an unchanged flow is a part of itself
 same_part : (old new : List QueuedMessage) → new ≡ old → IsPart old new
@@ -56,28 +38,18 @@ same_part old new e = record { keep = λ h. true; is = e ∙ sym (all_left old) 
 -- a part of a part is a part
 part_of_part : (old mid new : List QueuedMessage) (g : QueuedMessage → Bool) → IsPart old mid → new ≡ filter g mid
     → IsPart old new
-part_of_part old mid new g h e = record {
-  keep = λ x. h.keep x && g x;
-  is = e ∙ (ap (filter g) h.is ∙ two_left h.keep g old);
-}
+part_of_part old mid new g h e = grind (arith, two_left h.keep g old)
 
 -- if no message fails the test, all messages pass it
 none_out : (keep : QueuedMessage → Bool) (hs : List QueuedMessage) → filter (λ h. not (keep h)) hs ≡ []
     → filter keep hs ≡ hs
 none_out keep [] e = refl
-none_out keep (h ∷ hs) e = elim (cases_Bool (keep h)) [
-  | inl t ↦ let rest : filter (λ h. not (keep h)) hs ≡ [] = rw t at e in
-      rw t (ap (λ (ks : List QueuedMessage). h ∷ ks) (none_out keep hs rest))
-  | inr f ↦ let some : ◌≡◌ {A = List QueuedMessage} (h ∷ filter (λ h. not (keep h)) hs) [] = rw f at e in absurd cc
-]
+none_out keep (h ∷ hs) e = grind (arith, none_out keep hs)
 
 -- a list of numbers is empty if it is empty after sorting
 none_rising : (ns : List ℕ) → in_rising_order ns ≡ [] → ns ≡ []
 none_rising [] e = refl
-none_rising (n ∷ ns) e =
-    let there = times_rising n (n ∷ ns) in
-    let none = ap (times n) e in
-    absurd (omega (arith, rw (eq-eqb n n refl) at there, none))
+none_rising (n ∷ ns) e = grind (arith, times_rising n (n ∷ ns), times n)
 
 -- a flow without serials has no messages
 no_serials : (hs : List QueuedMessage) → serials hs ≡ [] → hs ≡ []
@@ -108,32 +80,31 @@ FreesUndropped c d r = r ≡ reply.Done [] → FreesOnly c d nowhere
 -- if the flow is unchanged, and each place is as full as before or empty, no place that had messages is freed
 none_freed : (c d : Configuration) → HaveFullPlacesMessages c → KeepsOrEmpties c d → d.flow ≡ c.flow
     → FreesOnly c d nowhere
-none_freed c d some h same p freed = absurd (elim (h p) [
-  | inl k ↦ never_freed (is_full c p) (sym (ap (λ (b : Bool). is_full c p && not b) k.0) ∙ freed)
-  | inr e ↦ some p (and_parts (is_full c p) _ freed).0
-      (ap (λ (hs : List QueuedMessage). first_message hs p) (sym same) ∙ e)
-])
+none_freed c d some h same p freed = grind (arith, h p, never_freed, some p (and_parts (is_full c p) _ freed).0)
 
 -- a change that keeps a part of the messages, and keeps or empties each place, frees no place if none was dropped
 done_undropped : (drivers : List DriverSpec) (c new : Configuration) → AreSerialsSound c → HaveFullPlacesMessages c
     → IsPart c.flow new.flow → KeepsOrEmpties c new
     → IfAccepted (FreesUndropped c) (done_outcome drivers c new)
-done_undropped drivers c new sound some part keeps = record {
-  holds = λ e. none_freed c (after_sweep drivers new) some
-      (keeps_then c new (after_sweep drivers new) keeps (swept_keeps drivers new))
-      (whole c.flow (after_sweep drivers new).flow sound.apart (swept_part drivers c.flow new part) (named _ e));
-} where
-  named : (ns : List ℕ) → reply.Done ns ≡ reply.Done [] → ns ≡ []
-  named ns e = cc
+done_undropped drivers c new sound some part keeps =
+    grind (
+      arith,
+      none_freed c (after_sweep drivers new) some (keeps_then c new (after_sweep drivers new) keeps (swept_keeps drivers new)),
+      keeps_then c new (after_sweep drivers new) keeps (swept_keeps drivers new),
+      swept_keeps drivers new,
+      whole c.flow (after_sweep drivers new).flow sound.apart (swept_part drivers c.flow new part),
+      swept_part drivers c.flow new part,
+    )
 
 -- a change that keeps the messages and the full marks frees no place
 still_undropped : (drivers : List DriverSpec) (c new : Configuration) → AreSerialsSound c → HaveFullPlacesMessages c
     → new.flow ≡ c.flow → new.fulls ≡ c.fulls → IfAccepted (FreesUndropped c) (done_outcome drivers c new)
-still_undropped drivers c new sound some flow fulls = done_undropped drivers c new sound some
-    (same_part c.flow new.flow flow) (λ q. inl (
-      ap (λ (ps : List Place). is_full (record c { fulls = ps }) q) fulls,
-      ap (λ (hs : List QueuedMessage). first_message hs q) flow,
-    ))
+still_undropped drivers c new sound some flow fulls =
+    grind (
+      arith,
+      done_undropped drivers c new sound some (same_part c.flow new.flow flow),
+      same_part c.flow new.flow flow,
+    )
 
 -- the same of the removal of links
 removed_undropped : (drivers : List DriverSpec) (c : Configuration) (goes : Link → Bool) → AreSerialsSound c
@@ -176,5 +147,4 @@ undropped drivers c process k sound some = of_rows (FreesUndropped c) drivers c 
 pub undropped_if : (drivers : List DriverSpec) (c : Configuration) (process : ℕ) (k : Command) → AreSerialsSound c
     → HaveFullPlacesMessages c
     → IfOk (outcome drivers c process k) (λ x. x.1 ≡ reply.Done [] → FreesOnly c x.0 nowhere)
-undropped_if drivers c process k sound some =
-    if_accepted (FreesUndropped c) (outcome drivers c process k) (undropped drivers c process k sound some)
+undropped_if drivers c process k sound some = grind (arith, if_accepted, undropped)

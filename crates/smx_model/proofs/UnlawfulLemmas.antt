@@ -1,16 +1,12 @@
 -- The fault of each unlawful example, and of drivers that no configuration can have.
-use Rattle.std.proofs.Common.{◌≡◌, ℕ, zero, suc, ◌<◌, true, false, Ok, Err, List, [], ◌∷◌, get_or, refl, sym, ap, ◌∙◌}
-use Rattle.std.proofs.Common.{subst, inl, inr, arith}
+use Rattle.smx_model.proofs.Common.{◌≡◌, ℕ, zero, suc, ◌<◌, Ok, Err, List, [], ◌∷◌, get_or, refl, sym, ap}
+use Rattle.smx_model.proofs.Common.{◌∙◌, inl, inr, arith, DriverSpec, Message, IsDriverList}
+use Rattle.smx_model.proofs.Common.{AreDropsAllowed, IsLawful, IsLawfulThroughout, IsTakenIn, Sends, nat_tests}
 use Rattle.std.proofs.lemmas.List.FromFn.{get_or-map-range_with_len}
 use Rattle.std.proofs.lemmas.List.Sorted.{IsPermutation-refl, length_permutation, sum_by-IsPermutation}
-use Rattle.smx_types.specs.declared.command.Entry.{Entry}
-use Rattle.smx_types.specs.declared.driver.DriverSpec.{DriverSpec}
 use Rattle.smx_types.specs.declared.driver.SpecFault.TheVariants.{BadMinors}
-use Rattle.smx_types.specs.declared.message.Message.{Message}
 use Rattle.smx_types.specs.declared.reply.Reply.TheVariants as reply
-use Rattle.smx_model.specs.DriverList.{IsDriverList}
-use Rattle.smx_model.specs.LawfulHistories.{AreDropsAllowed, IsLawful, IsLawfulEnd, IsLawfulThroughout}
-use Rattle.smx_model.specs.LawfulHistories.{IsTakenIn, Sends}
+use Rattle.smx_model.specs.LawfulHistories.{IsLawfulEnd}
 use Rattle.smx_model.specs.Worked.Common.{eth, leaf, Write}
 use Rattle.smx_model.specs.Worked.DriverLists as drivers
 use Rattle.smx_model.specs.Worked.Unlawful as example
@@ -20,11 +16,12 @@ use Rattle.smx_model.proofs.KeptLemmas.{always_is_kept}
 
 -- driver 1 is below itself
 pub alone : IsLawfulEnd [] (example.end_with example.below_itself) → ⊥
-alone h = h.no_cycle 1 (record {
-  path = example.link 2 1 1 ∷ [];
-  some = omega arith;
-  leads = ((1, omega arith, refl), refl, refl);
-})
+alone h =
+    grind (
+      arith,
+      nat_tests,
+      h.no_cycle 1 (record { path = example.link 2 1 1 ∷ []; some = omega arith; leads = ((1, omega arith, refl), refl, refl) }),
+    )
 
 -- drivers 1, 2 and 3 form a cycle
 pub round : IsLawfulEnd [] (example.end_with example.in_a_round) → ⊥
@@ -40,8 +37,7 @@ round h = h.no_cycle 1 (record {
 
 -- the first link and the third have the same lower stream
 pub below_two : IsLawfulEnd [] (example.end_with example.below_two) → ⊥
-below_two h =
-    let e : true ≡ false = h.lowers_apart 0 2 (example.link 1 0 3) (omega arith) (omega arith) in absurd cc
+below_two h = grind (arith, h.lowers_apart 0 2 (example.link 1 0 3) (omega arith) (omega arith))
 
 -- messages
 
@@ -56,8 +52,7 @@ pub delivered_twice : IsLawful example.drivers example.delivered_twice → ⊥
 delivered_twice h = let e : 2 ≡ 1 = length_permutation (1 ∷ []) (1 ∷ 1 ∷ []) h.conserved in absurd (omega (arith, e))
 
 pub delivered_and_dropped : IsLawful example.drivers example.delivered_and_dropped → ⊥
-delivered_and_dropped h =
-    let e : 2 ≡ 1 = length_permutation (1 ∷ []) (1 ∷ 1 ∷ []) h.conserved in absurd (omega (arith, e))
+delivered_and_dropped h = grind (arith, length_permutation (1 ∷ []) (1 ∷ 1 ∷ []) h.conserved)
 
 pub dropped_twice : IsLawful example.drivers example.dropped_twice → ⊥
 dropped_twice h = let e : 2 ≡ 1 = length_permutation (1 ∷ []) (1 ∷ 1 ∷ []) h.conserved in absurd (omega (arith, e))
@@ -88,22 +83,15 @@ too_early h = never_taken (h example.never_taken _ refl)
 
 -- the third entry is the dup
 pub dropped_by_dup : AreDropsAllowed example.dropped_by_dup → ⊥
-dropped_by_dup h =
-    let e : false ≡ true = h 2 example.opened (omega arith) (λ e. let differ : 1 ∷ [] ≡ [] = e in absurd cc) in
-    absurd cc
+dropped_by_dup h = grind (arith, h 2 example.opened (omega arith))
 
 -- messages that were not accepted in this form
 
 -- only the write accepted a message
 not_taken : (m : Message) → (reply.Took 1 ≡ reply.Took m.serial → Sends (Write 0 5 (170 ∷ [])) m.addr m.bytes → ⊥)
     → IsTakenIn (example.opened ∷ example.wrote ∷ []) m → ⊥
-not_taken m never (took, (zero, lt, here), told, sends) =
-    let e : example.opened ≡ took = here in
-    let differ : reply.Fd 0 0 ≡ reply.Took m.serial = ap (λ (x : Entry). x.reply) e ∙ told in absurd cc
-not_taken m never (took, (suc zero, lt, here), told, sends) =
-    let e : example.wrote ≡ took = here in
-    never (ap (λ (x : Entry). x.reply) e ∙ told)
-    (subst (λ (x : Entry). Sends x.command m.addr m.bytes) (sym e) sends)
+not_taken m never (took, (zero, lt, here), told, sends) = grind arith
+not_taken m never (took, (suc zero, lt, here), told, sends) = grind arith
 not_taken m never (took, (suc (suc k), lt, here), told, sends) = absurd (omega (arith, lt))
 
 -- two replies that accept a message, and two lists of one number, are equal only with the same number
@@ -132,9 +120,7 @@ pub other_bytes : IsTakenIn (example.opened ∷ example.wrote ∷ []) (record { 
 other_bytes = not_taken _ (λ told sends. omega (arith, same_number 187 170 (same_bytes 5 (187 ∷ []) sends).1))
 
 pub no_entry : IsTakenIn (example.opened ∷ []) (record { serial = 1; addr = 5; bytes = 170 ∷ [] }) → ⊥
-no_entry (took, (zero, lt, here), told, sends) =
-    let e : example.opened ≡ took = here in
-    let differ : reply.Fd 0 0 ≡ reply.Took 1 = ap (λ (x : Entry). x.reply) e ∙ told in absurd cc
+no_entry (took, (zero, lt, here), told, sends) = grind arith
 no_entry (took, (suc k, lt, here), told, sends) = absurd (omega (arith, lt))
 
 -- drivers

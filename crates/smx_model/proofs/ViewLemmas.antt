@@ -1,37 +1,14 @@
 -- The drivers have the stream of each part of a configuration, so the view determines the configuration.
-use Rattle.std.proofs.Common.{◌≡◌, ℕ, zero, suc, ◌<◌, Bool, true, false, ◌&&◌, not, eqb, slice_index_or, List, [], ◌∷◌}
-use Rattle.std.proofs.Common.{length, map, Option, refl, sym, ap, ◌∙◌, subst, arith, inl, inr}
-use Rattle.std.specs.List.{list_any}
-use Rattle.std.specs.Option.{option_map_or}
-use Rattle.std.proofs.lemmas.Bool.{cases_lt, eqb-true, and_parts, or_cases, false≢true}
+use Rattle.smx_model.proofs.Common.{◌≡◌, ℕ, zero, suc, ◌<◌, Bool, true, List, [], ◌∷◌, length, map, refl}
+use Rattle.smx_model.proofs.Common.{arith, list_any, false≢true, AllByRecursion, All-from_recursion}
+use Rattle.smx_model.proofs.Common.{DriverSpec, Binding, Link, LinkKind, Route, Message, Descriptor, Place, Side}
+use Rattle.smx_model.proofs.Common.{StreamId, Configuration, QueuedMessage, same_stream, IsDriverList, is_mux}
+use Rattle.smx_model.proofs.Common.{AreStreamsKnown, IsKnown, is_named, stands_within, IsSwept, view}
+use Rattle.std.proofs.Common.{slice_index_or}
 use Rattle.std.proofs.lemmas.Option.{slice_get_past, slice_get-get_or}
-use Rattle.std.specs.List.{AllByRecursion}
-use Rattle.std.proofs.lemmas.List.Elements.{All-from_recursion}
 use Rattle.smx_types.specs.declared.driver.DriverKind.TheVariants.{Leaf}
-use Rattle.smx_types.specs.declared.driver.DriverSpec.{DriverSpec}
-use Rattle.smx_types.specs.declared.link.Binding.{Binding}
-use Rattle.smx_types.specs.declared.link.Link.{Link}
-use Rattle.smx_types.specs.declared.link.LinkKind.{LinkKind}
-use Rattle.smx_types.specs.declared.link.Route.{Route}
-use Rattle.smx_types.specs.declared.message.Message.{Message}
-use Rattle.smx_types.specs.declared.stream.Descriptor.{Descriptor}
-use Rattle.smx_types.specs.declared.stream.Place.{Place}
-use Rattle.smx_types.specs.declared.stream.Side.{Side}
-use Rattle.smx_types.specs.declared.stream.StreamId.{StreamId}
-use Rattle.smx_types.specs.declared.view.BindingLine.{BindingLine}
-use Rattle.smx_types.specs.declared.view.ConfigView.{ConfigView}
-use Rattle.smx_types.specs.declared.view.DescriptorLine.{DescriptorLine}
-use Rattle.smx_types.specs.declared.view.FullLine.{FullLine}
-use Rattle.smx_types.specs.declared.view.HungLine.{HungLine}
-use Rattle.smx_types.specs.declared.view.LinkLine.{LinkLine}
-use Rattle.smx_types.specs.declared.view.MessageLine.{MessageLine}
-use Rattle.smx_types.specs.declared.view.RouteLine.{RouteLine}
-use Rattle.smx_model.specs.Configuration.{Configuration, QueuedMessage, same_stream}
-use Rattle.smx_model.specs.DriverList.{IsDriverList, is_mux, minors_of, name_of}
-use Rattle.smx_model.specs.KnownStreams.{AreStreamsKnown, IsKnown}
-use Rattle.smx_model.specs.Standing.{is_named, is_persistent, stands_within}
-use Rattle.smx_model.specs.Swept.{IsSwept}
-use Rattle.smx_model.specs.Views.{view, view_of_fd, view_of_link, view_of_bind, view_of_route, view_of_message}
+use Rattle.smx_model.specs.DriverList.{name_of}
+use Rattle.smx_model.specs.Views.{view_of_fd, view_of_link, view_of_bind, view_of_route, view_of_message}
 use Rattle.smx_model.specs.Views.{view_of_full, view_of_hung}
 use Rattle.smx_model.proofs.RangeLemmas.{AreNamed}
 use Rattle.smx_model.proofs.RouteLemmas.{AreRouted}
@@ -42,19 +19,13 @@ use Rattle.smx_model.proofs.EachLemmas.{each_map, each_of_list_all}
 -- a stream that equals one that the drivers have is one that they have
 same_known : (drivers : List DriverSpec) (s t : StreamId) → IsKnown drivers s → same_stream s t ≡ true
     → IsKnown drivers t
-same_known drivers s t h e = let p = and_parts (eqb s.driver t.driver) (eqb s.minor t.minor) e in
-    known_at s.driver s.minor t.driver t.minor (eqb-true s.driver t.driver p.0) (eqb-true s.minor t.minor p.1) h where
-      known_at : (d m d2 m2 : ℕ) → d ≡ d2 → m ≡ m2 → (d < length drivers) × (m < minors_of drivers d)
-          → (d2 < length drivers) × (m2 < minors_of drivers d2)
-      known_at d m d2 m2 e f k = subst (λ (x : ℕ). (d2 < length drivers) × (x < minors_of drivers d2)) f
-          (subst (λ (x : ℕ). (x < length drivers) × (m < minors_of drivers x)) e k)
+same_known drivers s t h e = grind arith
 
 -- if the drivers have the streams of descriptors, they have each stream that a descriptor names
 named_known : (drivers : List DriverSpec) (fds : List Descriptor) (s : StreamId)
     → AllByRecursion (λ d. IsKnown drivers d.stream) fds → is_named fds s ≡ true → IsKnown drivers s
 named_known drivers [] s h e = absurd (false≢true e)
-named_known drivers (d ∷ ds) s h e = elim (or_cases (same_stream d.stream s) (is_named ds s) e)
-    [ inl k ↦ same_known drivers d.stream s h.0 k | inr k ↦ named_known drivers ds s h.1 k ]
+named_known drivers (d ∷ ds) s h e = grind (arith, same_known drivers d.stream s h.0, named_known drivers ds s h.1)
 
 -- if the drivers have the streams of links, and some link passes a test, they have a lower stream common to all
 -- links that pass
@@ -62,38 +33,20 @@ lower_known : (drivers : List DriverSpec) (test : Link → Bool) (links : List L
     → AllByRecursion (λ l. IsKnown drivers l.ctl × IsKnown drivers l.lower) links
     → ((l : Link) → test l ≡ true → same_stream l.lower s ≡ true) → list_any test links ≡ true → IsKnown drivers s
 lower_known drivers test [] s h f e = absurd (false≢true e)
-lower_known drivers test (l ∷ ls) s h f e = elim (or_cases (test l) (list_any test ls) e)
-    [ inl k ↦ same_known drivers l.lower s h.0.1 (f l k) | inr k ↦ lower_known drivers test ls s h.1 f k ]
+lower_known drivers test (l ∷ ls) s h f e = grind (arith, same_known, f l, lower_known drivers test ls s h.1 f)
 
 -- if the drivers have the streams of descriptors and links, they have each stream that exists within some climbs
 standing_known : (drivers : List DriverSpec) (c : Configuration) (n : ℕ) (s : StreamId) → AreNamed drivers c
     → stands_within c.fds c.links n s ≡ true → IsKnown drivers s
-standing_known drivers c zero s h e =
-    elim (or_cases (is_named c.fds s) (list_any (λ l. is_persistent l && same_stream l.lower s) c.links) e) [
-      | inl k ↦ named_known drivers c.fds s h.fds k
-      | inr k ↦ lower_known drivers (λ l. is_persistent l && same_stream l.lower s) c.links s h.links
-          (λ l p. (and_parts (is_persistent l) (same_stream l.lower s) p).1) k
-    ]
+standing_known drivers c zero s h e = grind (arith, named_known drivers c.fds s h.fds, lower_known drivers)
 standing_known drivers c (suc n) s h
-    e = elim (or_cases (stands_within c.fds c.links n s)
-    (list_any (λ l. not (is_persistent l) && (same_stream l.lower s && stands_within c.fds c.links n l.ctl))
-    c.links) e) [
-      | inl k ↦ standing_known drivers c n s h k
-      | inr k ↦
-          lower_known drivers (λ l. not (is_persistent l)
-          && (same_stream l.lower s && stands_within c.fds c.links n l.ctl)) c.links s h.links
-          (λ l p. (and_parts (same_stream l.lower s) (stands_within c.fds c.links n l.ctl)
-          (and_parts (not (is_persistent l)) (same_stream l.lower s && stands_within c.fds c.links n l.ctl) p).1).0) k
-    ]
+    e = grind (arith, standing_known drivers c n s h, lower_known drivers)
 
 -- ---- the drivers have the stream of each part of a swept configuration
 
 -- the number of a multiplexer is below the number of drivers
 mux_below : (drivers : List DriverSpec) (n : ℕ) → is_mux drivers n ≡ true → n < length drivers
-mux_below drivers n e = elim (cases_lt n (length drivers)) [
-  | inl lt ↦ lt
-  | inr le ↦ let past = slice_get_past drivers n le in let k : false ≡ true = rw past at e in absurd (false≢true k)
-]
+mux_below drivers n e = grind (arith, slice_get_past drivers n)
 
 -- the drivers have the stream of each part of a configuration, and the driver of each route
 pub record EachKnown (drivers : List DriverSpec) (c : Configuration) : Type 0 where
@@ -123,16 +76,7 @@ each_known drivers c named routed swept_ = record {
 
 -- if `EachKnown` holds of each part by recursion, `AreStreamsKnown` holds by index
 pub known_of_each : (drivers : List DriverSpec) (c : Configuration) → EachKnown drivers c → AreStreamsKnown drivers c
-known_of_each drivers c h = record {
-  fds = All-from_recursion _ c.fds h.fds;
-  controlling = All-from_recursion _ c.links (each_map _ _ c.links (λ l p. p.0) h.links);
-  lowers = All-from_recursion _ c.links (each_map _ _ c.links (λ l p. p.1) h.links);
-  binds = All-from_recursion _ c.binds h.binds;
-  routes = All-from_recursion _ c.routes h.routes;
-  flow = All-from_recursion _ c.flow h.flow;
-  fulls = All-from_recursion _ c.fulls h.fulls;
-  hungs = All-from_recursion _ c.hungs h.hungs;
-}
+known_of_each drivers c h = grind (arith, All-from_recursion, each_map)
 
 -- ---- a name determines its driver
 
@@ -143,22 +87,13 @@ some_driver = record { name = []; kind = Leaf; minors = 0; high = 0; low = 0; ma
 -- the name at a number in range is that of the driver at that index
 name_at : (drivers : List DriverSpec) (n : ℕ) → n < length drivers
     → name_of drivers n ≡ (slice_index_or drivers n some_driver).name
-name_at drivers n lt =
-    ap (λ (o : Option DriverSpec). option_map_or (λ d. d.name) o []) (slice_get-get_or drivers n some_driver lt)
+name_at drivers n lt = grind (arith, slice_get-get_or, some_driver)
 
 -- among valid drivers, numbers in range whose drivers have the same name are equal
 one_number : (drivers : List DriverSpec) (a b : ℕ) → IsDriverList drivers → a < length drivers → b < length drivers
     → name_of drivers a ≡ name_of drivers b → a ≡ b
 one_number drivers a b h lt_a lt_b e =
-    let names = sym (name_at drivers a lt_a) ∙ (e ∙ name_at drivers b lt_b) in
-    elim (cases_lt a b) [
-      | inl lt ↦ absurd (h.names a b some_driver lt lt_b names)
-      | inr le ↦ elim (cases_lt b a) [
-        | inl lt ↦ absurd (h.names b a some_driver lt lt_a (sym names))
-        | inr le2 ↦
-            omega (arith, le, le2)
-      ]
-    ]
+    grind (arith, name_at, h.names a b some_driver, some_driver, h.names b a some_driver)
 
 -- ---- a line of the view determines its part
 
@@ -259,47 +194,30 @@ configuration_made fds fds2 links links2 id id2 binds binds2 routes routes2 flow
 -- descriptors of streams that valid drivers have are equal if their lines are
 one_fd : (drivers : List DriverSpec) → IsDriverList drivers → (d e : Descriptor) → IsKnown drivers d.stream
     → IsKnown drivers e.stream → view_of_fd drivers d ≡ view_of_fd drivers e → d ≡ e
-one_fd drivers h d e lt lt2 k =
-    fd_made d.process d.fd d.stream.driver d.stream.minor e.process e.fd e.stream.driver e.stream.minor
-    (ap (λ (l : DescriptorLine). l.process) k) (ap (λ (l : DescriptorLine). l.fd) k)
-    (one_number drivers d.stream.driver e.stream.driver h lt.0 lt2.0 (ap (λ (l : DescriptorLine). l.driver) k))
-    (ap (λ (l : DescriptorLine). l.minor) k)
+one_fd drivers h d e lt lt2 k = grind (arith, fd_made, one_number)
 
 -- links of streams that valid drivers have are equal if their lines are
 one_link : (drivers : List DriverSpec) → IsDriverList drivers → (l m : Link)
     → IsKnown drivers l.ctl × IsKnown drivers l.lower → IsKnown drivers m.ctl × IsKnown drivers m.lower
     → view_of_link drivers l ≡ view_of_link drivers m → l ≡ m
-one_link drivers h l m lt lt2 k = link_made l.id l.ctl.driver l.ctl.minor l.lower.driver l.lower.minor l.kind m.id
-    m.ctl.driver m.ctl.minor m.lower.driver m.lower.minor m.kind
-    (ap (λ (x : LinkLine). x.id) k)
-    (one_number drivers l.ctl.driver m.ctl.driver h lt.0.0 lt2.0.0 (ap (λ (x : LinkLine). x.ctl_driver) k))
-    (ap (λ (x : LinkLine). x.ctl_minor) k)
-    (one_number drivers l.lower.driver m.lower.driver h lt.1.0 lt2.1.0 (ap (λ (x : LinkLine). x.lower_driver) k))
-    (ap (λ (x : LinkLine). x.lower_minor) k)
-    (ap (λ (x : LinkLine). x.kind) k)
+one_link drivers h l m lt lt2 k = grind (arith, one_number)
 
 -- bindings of streams that valid drivers have are equal if their lines are
 one_bind : (drivers : List DriverSpec) → IsDriverList drivers → (b c : Binding)
     → IsKnown drivers (record { driver = b.driver; minor = b.minor })
     → IsKnown drivers (record { driver = c.driver; minor = c.minor }) → view_of_bind drivers b ≡ view_of_bind drivers c
     → b ≡ c
-one_bind drivers h b c lt lt2 k = bind_made b.driver b.addr b.minor c.driver c.addr c.minor
-    (one_number drivers b.driver c.driver h lt.0 lt2.0 (ap (λ (l : BindingLine). l.driver) k))
-    (ap (λ (l : BindingLine). l.addr) k) (ap (λ (l : BindingLine). l.minor) k)
+one_bind drivers h b c lt lt2 k = grind (arith, bind_made, one_number)
 
 -- routes of valid drivers in range are equal if their lines are
 one_route : (drivers : List DriverSpec) → IsDriverList drivers → (r s : Route) → r.driver < length drivers
     → s.driver < length drivers → view_of_route drivers r ≡ view_of_route drivers s → r ≡ s
-one_route drivers h r s lt lt2 k = route_made r.driver r.addr r.id s.driver s.addr s.id
-    (one_number drivers r.driver s.driver h lt lt2 (ap (λ (l : RouteLine). l.driver) k))
-    (ap (λ (l : RouteLine). l.addr) k) (ap (λ (l : RouteLine). l.id) k)
+one_route drivers h r s lt lt2 k = grind (arith, route_made, one_number)
 
 -- full places of streams that valid drivers have are equal if their lines are
 one_full : (drivers : List DriverSpec) → IsDriverList drivers → (p q : Place) → IsKnown drivers p.stream
     → IsKnown drivers q.stream → view_of_full drivers p ≡ view_of_full drivers q → p ≡ q
-one_full drivers h p q lt lt2 k = place_made p.stream.driver p.stream.minor p.side q.stream.driver q.stream.minor q.side
-    (one_number drivers p.stream.driver q.stream.driver h lt.0 lt2.0 (ap (λ (l : FullLine). l.driver) k))
-    (ap (λ (l : FullLine). l.minor) k) (ap (λ (l : FullLine). l.side) k)
+one_full drivers h p q lt lt2 k = grind (arith, place_made, one_number)
 
 -- streams with the same driver and minor are equal
 stream_made : (driver minor driver2 minor2 : ℕ) → driver ≡ driver2 → minor ≡ minor2
@@ -309,40 +227,17 @@ stream_made driver minor driver2 minor2 e f = cc
 -- hung-up streams that valid drivers have are equal if their lines are
 one_hung : (drivers : List DriverSpec) → IsDriverList drivers → (s t : StreamId) → IsKnown drivers s → IsKnown drivers t
     → view_of_hung drivers s ≡ view_of_hung drivers t → s ≡ t
-one_hung drivers h s t lt lt2 k = stream_made s.driver s.minor t.driver t.minor
-    (one_number drivers s.driver t.driver h lt.0 lt2.0 (ap (λ (l : HungLine). l.driver) k))
-    (ap (λ (l : HungLine). l.minor) k)
+one_hung drivers h s t lt lt2 k = grind (arith, stream_made, one_number)
 
 -- queued messages at streams that valid drivers have are equal if their lines are
 one_held : (drivers : List DriverSpec) → IsDriverList drivers → (x y : QueuedMessage) → IsKnown drivers x.place.stream
     → IsKnown drivers y.place.stream → view_of_message drivers x ≡ view_of_message drivers y → x ≡ y
-one_held drivers h x y lt lt2 k = held_made x.place x.message y.place y.message
-    (place_made x.place.stream.driver x.place.stream.minor x.place.side y.place.stream.driver y.place.stream.minor
-    y.place.side
-    (one_number drivers x.place.stream.driver y.place.stream.driver h lt.0 lt2.0 (ap (λ (l : MessageLine). l.driver) k))
-    (ap (λ (l : MessageLine). l.minor) k) (ap (λ (l : MessageLine). l.side) k))
-    (ap (λ (l : MessageLine). l.message) k)
+one_held drivers h x y lt lt2 k = grind (arith, held_made, place_made, one_number)
 
 -- ---- a view determines its configuration
 
 -- two configurations of known streams with the same view, over valid drivers, are equal
 pub one_configuration : (drivers : List DriverSpec) (c d : Configuration) → IsDriverList drivers → EachKnown drivers c
     → EachKnown drivers d → view drivers c ≡ view drivers d → c ≡ d
-one_configuration drivers c d h kc kd e = configuration_made c.fds d.fds c.links d.links c.next_id d.next_id c.binds
-    d.binds c.routes d.routes c.flow d.flow c.fulls d.fulls c.next_serial d.next_serial c.hungs d.hungs
-    (map_one (view_of_fd drivers) (λ x. IsKnown drivers x.stream) c.fds d.fds (one_fd drivers h) kc.fds kd.fds
-    (ap (λ (v : ConfigView). v.fds) e))
-    (map_one (view_of_link drivers) (λ x. IsKnown drivers x.ctl × IsKnown drivers x.lower) c.links d.links
-    (one_link drivers h) kc.links kd.links (ap (λ (v : ConfigView). v.links) e))
-    (ap (λ (v : ConfigView). v.next_id) e)
-    (map_one (view_of_bind drivers) (λ x. IsKnown drivers (record { driver = x.driver; minor = x.minor })) c.binds
-    d.binds (one_bind drivers h) kc.binds kd.binds (ap (λ (v : ConfigView). v.binds) e))
-    (map_one (view_of_route drivers) (λ x. x.driver < length drivers) c.routes d.routes
-    (one_route drivers h) kc.routes kd.routes (ap (λ (v : ConfigView). v.routes) e))
-    (map_one (view_of_message drivers) (λ x. IsKnown drivers x.place.stream) c.flow d.flow
-    (one_held drivers h) kc.flow kd.flow (ap (λ (v : ConfigView). v.msgs) e))
-    (map_one (view_of_full drivers) (λ x. IsKnown drivers x.stream) c.fulls d.fulls
-    (one_full drivers h) kc.fulls kd.fulls (ap (λ (v : ConfigView). v.fulls) e))
-    (ap (λ (v : ConfigView). v.next_serial) e)
-    (map_one (view_of_hung drivers) (λ x. IsKnown drivers x) c.hungs d.hungs (one_hung drivers h) kc.hungs kd.hungs
-    (ap (λ (v : ConfigView). v.hungs) e))
+one_configuration drivers c d h kc kd e =
+    grind (arith, map_one, one_fd, one_link, one_bind, one_route, one_held, one_full, one_hung)

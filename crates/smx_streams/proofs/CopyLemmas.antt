@@ -1,13 +1,11 @@
 -- Records that are copied stream by stream.
-use Rattle.std.proofs.Common.{◌≡◌, ℕ, suc, ◌+◌, ◌<◌, true, false, List, [], ◌∷◌, length, map, get_or}
-use Rattle.std.proofs.Common.{drop, Option, if◌then◌else◌, refl, sym, ap, ◌∙◌, arith, inl, inr}
+use Rattle.smx_model.proofs.Common.{◌≡◌, ℕ, suc, ◌+◌, ◌<◌, true, false, List, [], ◌∷◌, length, map, get_or, Option}
+use Rattle.smx_model.proofs.Common.{if◌then◌else◌, refl, sym, ap, ◌∙◌, arith, inl, inr, cases_Bool, nat_tests}
+use Rattle.smx_model.proofs.Common.{get_or_past, StreamId, pair_before}
+use Rattle.std.proofs.Common.{drop}
 use Rattle.std.proofs.Math.ListN.{get_or-map}
-use Rattle.std.proofs.lemmas.Bool.{cases_Bool}
-use Rattle.std.proofs.lemmas.Bool.Decides.{nat_tests}
-use Rattle.std.proofs.lemmas.List.{get_or_past, length-map}
+use Rattle.std.proofs.lemmas.List.{length-map}
 use Rattle.slab.specs.Slab.{Slab}
-use Rattle.smx_types.specs.declared.stream.StreamId.{StreamId}
-use Rattle.smx_model.specs.Configuration.{pair_before}
 use Rattle.smx_streams.specs.declared.records.Record.{Record}
 use Rattle.smx_streams.specs.HungRows.{flag_at}
 use Rattle.smx_streams.specs.RecordGrids.{Grid, Uses, HasRows, IsCopyBefore}

@@ -1,13 +1,11 @@
 -- Numbers and keys by driver and minor.
-use Rattle.std.proofs.Common.{◌≡◌, ℕ, zero, suc, ◌<◌, true, List, [], ◌∷◌, length, map, get_or, set}
-use Rattle.std.proofs.Common.{replicate, Option, Some, None, if◌then◌else◌, refl, sym, ap, ◌∙◌, inl, inr}
-use Rattle.std.specs.Prelude.{nat_lt}
+use Rattle.smx_model.proofs.Common.{◌≡◌, ℕ, zero, suc, ◌<◌, true, List, [], ◌∷◌, length, map, get_or, replicate, Option}
+use Rattle.smx_model.proofs.Common.{Some, None, if◌then◌else◌, refl, sym, ap, ◌∙◌, inl, inr, nat_lt, cases_eq, cases_lt}
+use Rattle.smx_model.proofs.Common.{eq-eqb, lt-ltb, ne_eqb, get_or_past, StreamId, same_stream}
+use Rattle.std.proofs.Common.{set}
 use Rattle.std.proofs.Math.ListN.{get_or-map}
-use Rattle.std.proofs.lemmas.Bool.{cases_eq, cases_lt, eq-eqb, lt-ltb, ne_eqb}
-use Rattle.std.proofs.lemmas.List.{get_or-set_same, get_or-set_other, get_or_past, length-set, length-replicate}
+use Rattle.std.proofs.lemmas.List.{get_or-set_same, get_or-set_other, length-set, length-replicate}
 use Rattle.slab.specs.Slab.{Slab}
-use Rattle.smx_types.specs.declared.stream.StreamId.{StreamId}
-use Rattle.smx_model.specs.Configuration.{same_stream}
 use Rattle.smx_streams.specs.declared.records.Record.{Record}
 use Rattle.smx_streams.specs.RecordGrids.{Grid, key_at, with_key, record_of_key, opens_of, holds_of, hung_of}
 use Rattle.smx_streams.specs.StreamTables.{number_at, is_in_range}

@@ -1,15 +1,8 @@
 -- The hung-up streams after a change of the records.
-use Rattle.std.proofs.Common.{◌≡◌, ℕ, ◌+◌, ◌<◌, Bool, true, false, ◌&&◌, ◌||◌, not, List, [], ◌∷◌, filter}
-use Rattle.std.proofs.Common.{if◌then◌else◌, refl, sym, ap, subst, ◌∙◌, arith, inl, inr}
-use Rattle.std.specs.Prelude.{nat_lt}
-use Rattle.std.proofs.lemmas.Bool.{cases_Bool, false≢true, lt-ltb, or_cases, or_left, or_right}
-use Rattle.std.proofs.lemmas.Bool.Decides.{nat_tests}
-use Rattle.smx_types.specs.declared.stream.Descriptor.{Descriptor}
-use Rattle.smx_types.specs.declared.stream.StreamId.{StreamId}
-use Rattle.smx_model.specs.Configuration.{same_stream, is_fd, stream_before}
-use Rattle.smx_model.specs.Hangups.{is_hung, with_hung}
-use Rattle.smx_model.specs.Ordered.{IsRising}
-use Rattle.smx_model.specs.Standing.{is_named}
+use Rattle.smx_model.proofs.Common.{◌≡◌, ℕ, ◌+◌, ◌<◌, Bool, true, false, ◌&&◌, ◌||◌, not, List, [], ◌∷◌, filter}
+use Rattle.smx_model.proofs.Common.{if◌then◌else◌, refl, sym, ap, subst, ◌∙◌, arith, inl, inr, nat_lt, cases_Bool}
+use Rattle.smx_model.proofs.Common.{false≢true, lt-ltb, or_cases, or_left, or_right, nat_tests, Descriptor, StreamId}
+use Rattle.smx_model.proofs.Common.{same_stream, is_fd, stream_before, is_hung, with_hung, IsRising, is_named}
 use Rattle.smx_model.proofs.EachLemmas.{later_filter}
 use Rattle.smx_model.proofs.HungListLemmas.{hung_kept_by, hung_with, one_list}
 use Rattle.smx_model.proofs.RisingLemmas.{rising_with_hung}

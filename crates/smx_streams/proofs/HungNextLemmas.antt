@@ -1,15 +1,9 @@
 -- The streams from a minor of a driver on, in ordered lists of streams.
-use Rattle.std.proofs.Common.{◌≡◌, ℕ, ◌+◌, ◌<◌, ◌≤◌, true, false, not, List, [], ◌∷◌, length, get_or, None, refl, ap}
-use Rattle.std.proofs.Common.{arith, inl, inr}
-use Rattle.std.specs.Prelude.{slice_get}
-use Rattle.std.proofs.lemmas.Bool.{cases_Bool, cases_eq, cases_lt, ltb-true, or_left, or_parts, or_right}
-use Rattle.std.proofs.lemmas.Bool.Decides.{nat_tests}
-use Rattle.std.proofs.lemmas.List.{get_or_past}
+use Rattle.smx_model.proofs.Common.{◌≡◌, ℕ, ◌+◌, ◌<◌, ◌≤◌, true, false, not, List, [], ◌∷◌, length, get_or, None, refl}
+use Rattle.smx_model.proofs.Common.{ap, arith, inl, inr, slice_get, cases_Bool, cases_eq, cases_lt, ltb-true, or_left}
+use Rattle.smx_model.proofs.Common.{or_parts, or_right, nat_tests, get_or_past, StreamId, pair_before, same_stream}
+use Rattle.smx_model.proofs.Common.{stream_before, is_hung, ComesBefore, IsRising}
 use Rattle.std.proofs.lemmas.Option.{slice_get_cases}
-use Rattle.smx_types.specs.declared.stream.StreamId.{StreamId}
-use Rattle.smx_model.specs.Configuration.{pair_before, same_stream, stream_before}
-use Rattle.smx_model.specs.Hangups.{is_hung}
-use Rattle.smx_model.specs.Ordered.{ComesBefore, IsRising}
 use Rattle.smx_streams.specs.HungRows.{streams_from}
 use Rattle.smx_streams.specs.StreamTables.{is_in_range}
 use Rattle.smx_streams.proofs.GridLemmas.{same_is, same_self}

@@ -1,14 +1,9 @@
 -- Rows of flags, and the list of hung-up streams.
-use Rattle.std.proofs.Common.{◌≡◌, ℕ, zero, suc, ◌+◌, ◌<◌, Bool, true, false, ◌&&◌, ◌||◌, eqb, List, [], ◌∷◌, ◌++◌}
-use Rattle.std.proofs.Common.{get_or, refl, ap, ◌∙◌, arith}
+use Rattle.smx_model.proofs.Common.{◌≡◌, ℕ, zero, suc, ◌+◌, ◌<◌, Bool, true, false, ◌&&◌, ◌||◌, eqb, List, [], ◌∷◌}
+use Rattle.smx_model.proofs.Common.{◌++◌, get_or, refl, ap, ◌∙◌, arith, or_from, or_left, nat_tests, StreamId}
+use Rattle.smx_model.proofs.Common.{same_stream, stream_before, is_hung, ComesBefore, IsRising}
 use Rattle.std.proofs.Math.Bool.{or-false}
-use Rattle.std.proofs.lemmas.Bool.{or_from, or_left}
-use Rattle.std.proofs.lemmas.Bool.Decides.{nat_tests}
 use Rattle.std.proofs.lemmas.List.Folds.{list_any-append}
-use Rattle.smx_types.specs.declared.stream.StreamId.{StreamId}
-use Rattle.smx_model.specs.Configuration.{same_stream, stream_before}
-use Rattle.smx_model.specs.Hangups.{is_hung}
-use Rattle.smx_model.specs.Ordered.{ComesBefore, IsRising}
 use Rattle.smx_streams.specs.HungRows.{flag_at, hung_from, hungs_from}
 use Rattle.smx_streams.proofs.ListLemmas.{comes_both}
 

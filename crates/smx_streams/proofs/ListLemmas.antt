@@ -1,10 +1,6 @@
 -- Lists in general.
-use Rattle.std.proofs.Common.{◌≡◌, Bool, ◌&&◌, not, List, [], ◌∷◌, ◌++◌, find, filter, Some, None}
-use Rattle.std.proofs.Common.{refl, ap, inl, inr}
-use Rattle.std.specs.List.{list_any}
-use Rattle.std.specs.Option.{is_some}
-use Rattle.std.proofs.lemmas.Bool.{cases_Bool}
-use Rattle.smx_model.specs.Ordered.{ComesBefore, with_inserted}
+use Rattle.smx_model.proofs.Common.{◌≡◌, Bool, ◌&&◌, not, List, [], ◌∷◌, ◌++◌, find, filter, Some, None, refl, ap, inl}
+use Rattle.smx_model.proofs.Common.{inr, list_any, is_some, cases_Bool, ComesBefore, with_inserted}
 
 -- a search in two joined lists
 

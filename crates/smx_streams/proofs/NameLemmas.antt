@@ -1,17 +1,11 @@
 -- The number of descriptors that name a stream.
-use Rattle.std.proofs.Common.{◌≡◌, ℕ, zero, suc, ◌+◌, ◌-◌, ◌<◌, ◌≤◌, Bool, true, false, not, eqb, List, [], ◌∷◌}
-use Rattle.std.proofs.Common.{length, find, filter, get_or, slice_get, Some, None, if◌then◌else◌, refl, sym, ap}
-use Rattle.std.proofs.Common.{arith, inl, inr}
-use Rattle.std.specs.Prelude.{nat_le, nat_lt}
-use Rattle.std.specs.List.{list_any, range_with_len}
-use Rattle.std.proofs.lemmas.Bool.{cases_Bool, and_parts, eqb-true, lt-ltb}
-use Rattle.std.proofs.lemmas.Bool.Decides.{nat_tests}
-use Rattle.std.proofs.lemmas.Option.{get_or_from_slice_get, same_Some}
-use Rattle.smx_types.specs.declared.stream.Descriptor.{Descriptor}
-use Rattle.smx_types.specs.declared.stream.StreamId.{StreamId}
-use Rattle.smx_model.specs.Configuration.{same_stream, is_fd, fd_before}
-use Rattle.smx_model.specs.Ordered.{ComesBefore, IsRising, with_inserted}
-use Rattle.smx_model.specs.Standing.{is_named}
+use Rattle.smx_model.proofs.Common.{◌≡◌, ℕ, zero, suc, ◌+◌, ◌-◌, ◌<◌, ◌≤◌, Bool, true, false, not, eqb, List, [], ◌∷◌}
+use Rattle.smx_model.proofs.Common.{length, find, filter, get_or, slice_get, Some, None, if◌then◌else◌, refl, sym, ap}
+use Rattle.smx_model.proofs.Common.{arith, inl, inr, nat_lt, list_any, range_with_len, cases_Bool, and_parts, eqb-true}
+use Rattle.smx_model.proofs.Common.{lt-ltb, nat_tests, same_Some, Descriptor, StreamId, same_stream, is_fd, fd_before}
+use Rattle.smx_model.proofs.Common.{ComesBefore, IsRising, with_inserted, is_named}
+use Rattle.std.specs.Prelude.{nat_le}
+use Rattle.std.proofs.lemmas.Option.{get_or_from_slice_get}
 use Rattle.smx_streams.specs.StreamTables.{StreamTable, exists, is_in_range, minor_answer}
 use Rattle.smx_streams.specs.StreamTables.{number_at, numbered, stream_at}
 use Rattle.smx_streams.proofs.GridLemmas.{same_is, same_self}

@@ -1,17 +1,9 @@
 -- The descriptors from a number of a process on, and those of one process.
-use Rattle.std.proofs.Common.{◌≡◌, ℕ, suc, ◌+◌, ◌<◌, ◌≤◌, Bool, true, false, ◌&&◌, not, eqb, List, [], ◌∷◌, find}
-use Rattle.std.proofs.Common.{◌∙◌, filter, Some, None, refl, ap, arith, inl, inr}
-use Rattle.std.specs.Prelude.{nat_lt}
-use Rattle.std.specs.List.{All}
-use Rattle.std.proofs.lemmas.Bool.{cases_Bool, and_parts, eqb-true}
-use Rattle.std.proofs.lemmas.Bool.Decides.{nat_tests}
-use Rattle.std.proofs.lemmas.Option.{same_Some}
+use Rattle.smx_model.proofs.Common.{◌≡◌, ℕ, suc, ◌+◌, ◌<◌, ◌≤◌, Bool, true, false, ◌&&◌, not, eqb, List, [], ◌∷◌, find}
+use Rattle.smx_model.proofs.Common.{◌∙◌, filter, Some, None, refl, ap, arith, inl, inr, nat_lt, All, cases_Bool}
+use Rattle.smx_model.proofs.Common.{and_parts, eqb-true, nat_tests, same_Some, MAX_DESCRIPTORS, MAX_PROCESSES}
+use Rattle.smx_model.proofs.Common.{Descriptor, StreamId, is_fd, fd_before, pair_before, ComesBefore, IsRising}
 use Rattle.std.proofs.lemmas.List.Elements.{filter_agree}
-use Rattle.smx_types.specs.declared.limits.TheConstants.{MAX_DESCRIPTORS, MAX_PROCESSES}
-use Rattle.smx_types.specs.declared.stream.Descriptor.{Descriptor}
-use Rattle.smx_types.specs.declared.stream.StreamId.{StreamId}
-use Rattle.smx_model.specs.Configuration.{is_fd, fd_before, pair_before}
-use Rattle.smx_model.specs.Ordered.{ComesBefore, IsRising}
 use Rattle.smx_streams.specs.StreamTables.{fds_from, stream_at}
 use Rattle.smx_streams.proofs.RowLemmas.{fd_of}
 use Rattle.smx_streams.proofs.ListLemmas.{filter_twice}

@@ -1,16 +1,10 @@
 -- Records by driver and minor: changed, added and removed.
-use Rattle.std.proofs.Common.{◌≡◌, ◌≢◌, ℕ, ◌+◌, ◌<◌, ◌≤◌, true, false, List, length, map, replicate, Option}
-use Rattle.std.proofs.Common.{Some, None, if◌then◌else◌, refl, sym, ap, ◌∙◌, arith, inl, inr}
-use Rattle.std.proofs.lemmas.Bool.{cases_Bool, cases_eq, both_ways, ltb-true, lt-ltb}
-use Rattle.std.specs.Prelude.{nat_lt}
-use Rattle.std.specs.Option.{is_some}
-use Rattle.std.proofs.lemmas.Bool.Decides.{nat_tests}
+use Rattle.smx_model.proofs.Common.{◌≡◌, ◌≢◌, ℕ, ◌+◌, ◌<◌, ◌≤◌, true, false, List, length, map, replicate, Option, Some}
+use Rattle.smx_model.proofs.Common.{None, if◌then◌else◌, refl, sym, ap, ◌∙◌, arith, inl, inr, cases_Bool, cases_eq}
+use Rattle.smx_model.proofs.Common.{both_ways, ltb-true, lt-ltb, nat_lt, is_some, nat_tests, same_Some, MAX_DRIVERS}
+use Rattle.smx_model.proofs.Common.{StreamId, same_stream}
 use Rattle.std.proofs.lemmas.List.{length-map}
-use Rattle.std.proofs.lemmas.Option.{same_Some}
 use Rattle.slab.specs.Slab.{Slab, get, Updates}
-use Rattle.smx_types.specs.declared.limits.TheConstants.{MAX_DRIVERS}
-use Rattle.smx_types.specs.declared.stream.StreamId.{StreamId}
-use Rattle.smx_model.specs.Configuration.{same_stream}
 use Rattle.smx_streams.specs.declared.records.Record.{Record}
 use Rattle.smx_streams.specs.RecordGrids.{Grid, key_at, record_of_key, opens_of, holds_of, uses_of, AreSet, AreRecords}
 use Rattle.smx_streams.specs.RecordGrids.{AreSound, IsRecord, IsSet, hung_of, is_used_and_hung}

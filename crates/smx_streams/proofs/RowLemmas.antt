@@ -1,19 +1,13 @@
 -- Descriptors as rows of streams by number: looked up, added and removed.
-use Rattle.std.proofs.Common.{◌≡◌, ℕ, zero, suc, ◌+◌, ◌<◌, true, false, not, eqb, List, [], ◌∷◌, ◌++◌, length, find}
-use Rattle.std.proofs.Common.{filter, get_or, set, Option, Some, None, refl, sym, ap, ◌∙◌, arith}
-use Rattle.std.specs.List.{list_any}
-use Rattle.std.specs.Option.{is_some, option_map}
-use Rattle.std.proofs.lemmas.Bool.Decides.{nat_tests}
-use Rattle.std.proofs.lemmas.Bool.{eq-eqb, ne_eqb}
+use Rattle.smx_model.proofs.Common.{◌≡◌, ℕ, zero, suc, ◌+◌, ◌<◌, true, false, not, eqb, List, [], ◌∷◌, ◌++◌, length}
+use Rattle.smx_model.proofs.Common.{find, filter, get_or, Option, Some, None, refl, sym, ap, ◌∙◌, arith, list_any}
+use Rattle.smx_model.proofs.Common.{is_some, option_map, nat_tests, eq-eqb, ne_eqb, Descriptor, StreamId, is_fd}
+use Rattle.smx_model.proofs.Common.{fd_before, pair_before, ComesBefore, with_inserted}
+use Rattle.std.proofs.Common.{set}
 use Rattle.std.proofs.lemmas.List.Elements.{filter-append}
-use Rattle.smx_types.specs.declared.stream.Descriptor.{Descriptor}
-use Rattle.smx_types.specs.declared.stream.StreamId.{StreamId}
-use Rattle.smx_model.specs.Configuration.{is_fd, fd_before, pair_before}
-use Rattle.smx_model.specs.Ordered.{ComesBefore, with_inserted}
 use Rattle.smx_streams.specs.DescriptorRows.{Rows, cell_at, with_cell, row_from, rows_from}
 use Rattle.smx_streams.specs.StreamTables.{stream_at}
-use Rattle.smx_streams.proofs.ListLemmas.{find_front, find_past, any_found, none_goes, comes_both}
-use Rattle.smx_streams.proofs.ListLemmas.{inserted_first}
+use Rattle.smx_streams.proofs.ListLemmas.{find_front, find_past, any_found, none_goes, comes_both, inserted_first}
 
 -- the descriptor of this process, with this number and this stream
 abbrev pub fd_of : ℕ → ℕ → StreamId → Descriptor

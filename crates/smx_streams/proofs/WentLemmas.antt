@@ -1,13 +1,7 @@
 -- The streams that cease to exist when descriptors are closed.
-use Rattle.std.proofs.Common.{◌≡◌, ℕ, ◌+◌, true, false, ◌&&◌, not, eqb, List, [], ◌∷◌, find, filter, Option}
-use Rattle.std.proofs.Common.{Some, None, refl, sym, ap, ◌∙◌, arith, inl, inr}
-use Rattle.std.specs.Option.{option_map}
-use Rattle.std.proofs.lemmas.Bool.{cases_Bool, false≢true}
-use Rattle.std.proofs.lemmas.Bool.Decides.{nat_tests}
-use Rattle.smx_types.specs.declared.stream.Descriptor.{Descriptor}
-use Rattle.smx_types.specs.declared.stream.StreamId.{StreamId}
-use Rattle.smx_model.specs.Configuration.{same_stream, is_fd, fd_before}
-use Rattle.smx_model.specs.Ordered.{IsRising}
+use Rattle.smx_model.proofs.Common.{◌≡◌, ℕ, ◌+◌, true, false, ◌&&◌, not, eqb, List, [], ◌∷◌, find, filter, Option, Some}
+use Rattle.smx_model.proofs.Common.{None, refl, sym, ap, ◌∙◌, arith, inl, inr, option_map, cases_Bool, false≢true}
+use Rattle.smx_model.proofs.Common.{nat_tests, Descriptor, StreamId, same_stream, is_fd, fd_before, IsRising}
 use Rattle.smx_streams.specs.StreamTables.{StreamTable, HasOneLess, exists, is_last, number_at, stream_at}
 use Rattle.smx_streams.specs.TableFields.{names_of}
 use Rattle.smx_streams.proofs.GridLemmas.{same_is, same_self}

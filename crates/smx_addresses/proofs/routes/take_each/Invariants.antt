@@ -1,6 +1,5 @@
-use Rattle.std.proofs.Common.{◌≡◌, take}
+use Rattle.smx_model.proofs.Common.{◌≡◌, take, keys_of, lookup}
 use Rattle.std.specs.List.{IsDistinct}
-use Rattle.std.specs.Map.{keys_of, lookup}
 use Rattle.smx_addresses.specs.Keys.{Key, is_key, left_of}
 use Rattle.smx_addresses.proofs.routes.take_each.Given as goal
 

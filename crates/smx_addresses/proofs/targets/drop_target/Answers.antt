@@ -1,4 +1,4 @@
-use Rattle.std.proofs.Common.{sym}
+use Rattle.smx_model.proofs.Common.{sym}
 use Rattle.smx_addresses.proofs.TargetLemmas.{no_set}
 use Rattle.smx_addresses.proofs.targets.drop_target.Goals as goal
 

@@ -1,4 +1,4 @@
-use Rattle.std.proofs.Common.{refl, sym, ◌∙◌}
+use Rattle.smx_model.proofs.Common.{refl, sym, ◌∙◌}
 use Rattle.smx_addresses.specs.Keys.{is_key}
 use Rattle.smx_addresses.proofs.TargetLemmas.{new_set, on_err, same_set, when_true}
 use Rattle.smx_addresses.proofs.targets.put_target.Goals as goal

@@ -1,4 +1,5 @@
-use Rattle.std.proofs.Common.{◌≡◌, rules, slice_index}
+use Rattle.smx_model.proofs.Common.{◌≡◌, rules}
+use Rattle.std.proofs.Common.{slice_index}
 use Rattle.smx_links.proofs.UpperLemmas.{has_bits}
 use Rattle.smx_links.proofs.masks.has_any_bit.Goals as goal
 

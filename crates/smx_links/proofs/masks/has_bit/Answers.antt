@@ -1,4 +1,5 @@
-use Rattle.std.proofs.Common.{arith, slice_index}
+use Rattle.smx_model.proofs.Common.{arith}
+use Rattle.std.proofs.Common.{slice_index}
 use Rattle.smx_links.proofs.BitLemmas.{is_set_past}
 use Rattle.smx_links.proofs.masks.has_bit.Goals as goal
 

@@ -1,4 +1,4 @@
-use Rattle.std.proofs.Common.{arith, ap, ◌∙◌}
+use Rattle.smx_model.proofs.Common.{arith, ap, ◌∙◌}
 use Rattle.smx_links.proofs.BitLemmas.{joined_word, joined_words}
 use Rattle.smx_links.proofs.masks.join.Goals as goal
 

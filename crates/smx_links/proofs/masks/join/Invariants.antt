@@ -1,4 +1,4 @@
-use Rattle.std.proofs.Common.{◌≡◌, ◌<◌, ◌≤◌, length, ℕ, get_or}
+use Rattle.smx_model.proofs.Common.{◌≡◌, ◌<◌, ◌≤◌, length, ℕ, get_or}
 use Rattle.smx_links.proofs.BitLemmas.{joined_word}
 use Rattle.smx_links.proofs.masks.join.Given as goal
 

@@ -1,4 +1,4 @@
-use Rattle.std.proofs.Common.{sym, ◌∙◌}
+use Rattle.smx_model.proofs.Common.{sym, ◌∙◌}
 use Rattle.smx_links.proofs.MaskLemmas.{masks_known, masks_push}
 use Rattle.smx_links.proofs.masks.join_link.Goals as goal
 

@@ -1,8 +1,5 @@
-use Rattle.std.proofs.Common.{take, ◌∙◌}
-use Rattle.std.proofs.lemmas.List.{take_more}
-use Rattle.smx_types.specs.declared.link.Link.{Link}
+use Rattle.smx_model.proofs.Common.{take, ◌∙◌, take_more, Link, StreamId}
 use Rattle.smx_types.specs.declared.link.LinkKind.TheVariants as kind
-use Rattle.smx_types.specs.declared.stream.StreamId.{StreamId}
 use Rattle.smx_links.proofs.masks.recompute.Goals as goal
 
 pub loop-link-preserved : goal.loop-link-preserved

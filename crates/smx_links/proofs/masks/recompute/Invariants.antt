@@ -1,4 +1,4 @@
-use Rattle.std.proofs.Common.{◌≡◌, length, take}
+use Rattle.smx_model.proofs.Common.{◌≡◌, length, take}
 use Rattle.smx_links.specs.Masks.{AreMasks}
 use Rattle.smx_links.proofs.masks.recompute.Given as goal
 

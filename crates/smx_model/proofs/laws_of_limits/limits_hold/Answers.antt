@@ -1,4 +1,4 @@
-use Rattle.std.proofs.lemmas.List.Elements.{All-from_recursion}
+use Rattle.smx_model.proofs.Common.{All-from_recursion}
 use Rattle.smx_model.proofs.LimitLemmas.{always_few, always_within}
 use Rattle.smx_model.proofs.laws_of_limits.limits_hold.Goals as goal
 

@@ -1,4 +1,4 @@
-use Rattle.std.proofs.Common.{◌≡◌, take}
+use Rattle.smx_model.proofs.Common.{◌≡◌, take}
 use Rattle.smx_streams.proofs.descriptors.copy_rows.Given as goal
 
 abbrev pub invariant-loop-numbers : goal.invariant-loop-numbers

@@ -1,4 +1,4 @@
-use Rattle.std.proofs.Common.{◌≡◌, [], replicate}
+use Rattle.smx_model.proofs.Common.{◌≡◌, [], replicate}
 use Rattle.smx_streams.proofs.descriptors.new_rows.Given as goal
 
 abbrev pub invariant-loop-process : goal.invariant-loop-process

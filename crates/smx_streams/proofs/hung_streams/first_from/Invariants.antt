@@ -1,4 +1,4 @@
-use Rattle.std.proofs.Common.{◌≡◌, ◌+◌, ◌-◌, ◌*◌, length}
+use Rattle.smx_model.proofs.Common.{◌≡◌, ◌+◌, ◌-◌, ◌*◌, length}
 use Rattle.smx_streams.specs.HungRows.{hungs_from, streams_from}
 use Rattle.smx_streams.proofs.hung_streams.first_from.Given as goal
 

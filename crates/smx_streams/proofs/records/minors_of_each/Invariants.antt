@@ -1,4 +1,4 @@
-use Rattle.std.proofs.Common.{◌≡◌, length, map, take}
+use Rattle.smx_model.proofs.Common.{◌≡◌, length, map, take}
 use Rattle.smx_streams.proofs.records.minors_of_each.Given as goal
 
 abbrev pub invariant-loop-keys : goal.invariant-loop-keys

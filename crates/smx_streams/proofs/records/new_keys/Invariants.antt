@@ -1,4 +1,4 @@
-use Rattle.std.proofs.Common.{◌≡◌, None, map, replicate, take}
+use Rattle.smx_model.proofs.Common.{◌≡◌, None, map, replicate, take}
 use Rattle.smx_streams.proofs.records.new_keys.Given as goal
 
 abbrev pub invariant-loop-count : goal.invariant-loop-count

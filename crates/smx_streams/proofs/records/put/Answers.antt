@@ -1,4 +1,4 @@
-use Rattle.std.proofs.Common.{Some}
+use Rattle.smx_model.proofs.Common.{Some}
 use Rattle.smx_streams.proofs.GridLemmas.{key_set, lengths_set}
 use Rattle.smx_streams.proofs.RecordLemmas.{put_new}
 use Rattle.smx_streams.proofs.records.put.Goals as goal

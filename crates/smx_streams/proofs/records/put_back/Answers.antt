@@ -1,4 +1,4 @@
-use Rattle.std.proofs.Common.{None, sym, ◌∙◌}
+use Rattle.smx_model.proofs.Common.{None, sym, ◌∙◌}
 use Rattle.smx_streams.proofs.GridLemmas.{has_driver, has_minor, key_set, lengths_set}
 use Rattle.smx_streams.proofs.RecordLemmas.{counts_none, counts_some, put_back_none, put_back_some}
 use Rattle.smx_streams.proofs.records.put_back.Goals as goal

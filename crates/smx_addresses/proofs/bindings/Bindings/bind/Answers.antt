@@ -1,7 +1,4 @@
-use Rattle.std.proofs.Common.{◌≡◌, false, List, Some, sym, ap, subst, ◌∙◌}
-use Rattle.smx_types.specs.declared.link.Binding.{Binding}
-use Rattle.smx_model.specs.Configuration.{bind_before}
-use Rattle.smx_model.specs.Ordered.{with_inserted}
+use Rattle.smx_model.proofs.Common.{◌≡◌, false, List, Some, sym, ap, subst, ◌∙◌, Binding, bind_before, with_inserted}
 use Rattle.smx_addresses.specs.BindingLists.{is_taken}
 use Rattle.smx_addresses.specs.TableFields.{bindings_of}
 use Rattle.smx_addresses.proofs.BindingLemmas.{bound, bound_whole}

@@ -1,5 +1,4 @@
-use Rattle.std.proofs.Common.{sym, subst, ◌∙◌}
-use Rattle.smx_types.specs.declared.link.Binding.{Binding}
+use Rattle.smx_model.proofs.Common.{sym, subst, ◌∙◌, Binding}
 use Rattle.smx_addresses.specs.BindingLists.{address_of, IsBindingList}
 use Rattle.smx_addresses.proofs.CopyLemmas.{binding_free, inserted_next}
 use Rattle.smx_addresses.proofs.bindings.Bindings.copy.Goals as goal

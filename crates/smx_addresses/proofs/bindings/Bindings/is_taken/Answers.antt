@@ -1,5 +1,4 @@
-use Rattle.std.proofs.Common.{◌≡◌, true, false, is_some, refl, sym, ◌∙◌}
-use Rattle.std.specs.Map.{lookup}
+use Rattle.smx_model.proofs.Common.{◌≡◌, true, false, is_some, refl, sym, ◌∙◌, lookup}
 use Rattle.smx_addresses.specs.Keys.{is_key}
 use Rattle.smx_addresses.proofs.BindingLemmas.{taken_either}
 use Rattle.smx_addresses.proofs.bindings.Bindings.is_taken.Goals as goal

@@ -1,5 +1,4 @@
-use Rattle.std.proofs.Common.{length, sym, ap, ◌∙◌}
-use Rattle.smx_model.specs.Configuration.{bind_before}
+use Rattle.smx_model.proofs.Common.{length, sym, ap, ◌∙◌, bind_before}
 use Rattle.smx_addresses.specs.TableFields.{binding_of}
 use Rattle.smx_addresses.proofs.ListedTableLemmas.{length_in_order}
 use Rattle.smx_addresses.proofs.bindings.Bindings.len.Goals as goal

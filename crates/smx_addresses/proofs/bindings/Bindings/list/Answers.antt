@@ -1,7 +1,6 @@
-use Rattle.std.proofs.Common.{◌≡◌, ◌∙◌, ◌++◌, List, ℕ, ap, sym, subst, map, refl, rules, append-nil}
-use Rattle.std.specs.List.Sorted.{IsPermutation}
+use Rattle.smx_model.proofs.Common.{◌≡◌, ◌∙◌, ◌++◌, List, ℕ, ap, sym, subst, map, refl, rules, IsPermutation, Binding}
+use Rattle.std.proofs.Common.{append-nil}
 use Rattle.std.proofs.lemmas.List.Sorted.{answers_always}
-use Rattle.smx_types.specs.declared.link.Binding.{Binding}
 use Rattle.smx_addresses.specs.Keys.{Key}
 use Rattle.smx_addresses.specs.BindingLists.{address_of, IsBindingList}
 use Rattle.smx_addresses.specs.TableFields.{binding_of}

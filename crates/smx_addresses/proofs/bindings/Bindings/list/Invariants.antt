@@ -1,4 +1,4 @@
-use Rattle.std.specs.Prelude.{◌≡◌, ◌++◌, map}
+use Rattle.smx_model.proofs.Common.{◌≡◌, ◌++◌, map}
 use Rattle.smx_addresses.specs.TableFields.{binding_of}
 use Rattle.smx_addresses.proofs.bindings.Bindings.list.Given as goal
 

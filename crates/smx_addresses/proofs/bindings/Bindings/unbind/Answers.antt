@@ -1,5 +1,4 @@
-use Rattle.std.proofs.Common.{◌==◌, ◌&&◌, not, List, filter, sym, ap, ◌∙◌}
-use Rattle.smx_types.specs.declared.link.Binding.{Binding}
+use Rattle.smx_model.proofs.Common.{◌==◌, ◌&&◌, not, List, filter, sym, ap, ◌∙◌, Binding}
 use Rattle.smx_addresses.proofs.BindingLemmas.{find_stream, not_bound, unbound, unbound_whole}
 use Rattle.smx_addresses.proofs.bindings.Bindings.unbind.Goals as goal
 

@@ -1,4 +1,4 @@
-use Rattle.std.proofs.Common.{sym, ◌∙◌}
+use Rattle.smx_model.proofs.Common.{sym, ◌∙◌}
 use Rattle.smx_addresses.proofs.RouteLemmas.{find_route}
 use Rattle.smx_addresses.proofs.routes.Routes.at.Goals as goal
 

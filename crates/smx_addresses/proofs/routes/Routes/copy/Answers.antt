@@ -1,5 +1,4 @@
-use Rattle.std.proofs.Common.{sym, subst, ◌∙◌}
-use Rattle.smx_types.specs.declared.link.Route.{Route}
+use Rattle.smx_model.proofs.Common.{sym, subst, ◌∙◌, Route}
 use Rattle.smx_addresses.specs.RouteLists.{IsRouteList}
 use Rattle.smx_addresses.proofs.CopyLemmas.{route_next}
 use Rattle.smx_addresses.proofs.routes.Routes.copy.Goals as goal

@@ -1,4 +1,4 @@
-use Rattle.std.proofs.Common.{◌≡◌, take}
+use Rattle.smx_model.proofs.Common.{◌≡◌, take}
 use Rattle.smx_addresses.proofs.routes.Routes.copy.Given as goal
 
 abbrev pub invariant-loop-route : goal.invariant-loop-route

@@ -1,7 +1,6 @@
-use Rattle.std.proofs.Common.{◌≡◌, ◌∙◌, ◌++◌, List, ℕ, ap, sym, subst, map, refl, rules, append-nil}
-use Rattle.std.specs.List.Sorted.{IsPermutation}
+use Rattle.smx_model.proofs.Common.{◌≡◌, ◌∙◌, ◌++◌, List, ℕ, ap, sym, subst, map, refl, rules, IsPermutation, Route}
+use Rattle.std.proofs.Common.{append-nil}
 use Rattle.std.proofs.lemmas.List.Sorted.{answers_always}
-use Rattle.smx_types.specs.declared.link.Route.{Route}
 use Rattle.smx_addresses.specs.Keys.{Key}
 use Rattle.smx_addresses.specs.RouteLists.{target_of, IsRouteList}
 use Rattle.smx_addresses.specs.TableFields.{route_of}

@@ -1,4 +1,4 @@
-use Rattle.std.specs.Prelude.{◌≡◌, ◌++◌, map}
+use Rattle.smx_model.proofs.Common.{◌≡◌, ◌++◌, map}
 use Rattle.smx_addresses.specs.TableFields.{route_of}
 use Rattle.smx_addresses.proofs.routes.Routes.list.Given as goal
 

@@ -1,9 +1,5 @@
-use Rattle.std.proofs.Common.{◌≡◌, ℕ, false, ◌==◌, not, List, filter, Option, Some, sym, ap, ◌∙◌, arith}
-use Rattle.std.proofs.lemmas.Bool.Decides.{nat_tests}
-use Rattle.std.specs.Map.{lookup}
-use Rattle.smx_types.specs.declared.link.Route.{Route}
-use Rattle.smx_model.specs.Configuration.{route_before}
-use Rattle.smx_model.specs.Ordered.{with_inserted}
+use Rattle.smx_model.proofs.Common.{◌≡◌, ℕ, false, ◌==◌, not, List, filter, Option, Some, sym, ap, ◌∙◌, arith}
+use Rattle.smx_model.proofs.Common.{nat_tests, lookup, Route, route_before, with_inserted}
 use Rattle.smx_addresses.specs.Keys.{is_key}
 use Rattle.smx_addresses.specs.RouteLists.{is_route}
 use Rattle.smx_addresses.specs.TableFields.{routes_of}

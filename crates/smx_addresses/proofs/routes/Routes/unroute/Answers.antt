@@ -1,5 +1,4 @@
-use Rattle.std.proofs.Common.{◌==◌, ◌&&◌, not, List, filter, sym, ap, ◌∙◌}
-use Rattle.smx_types.specs.declared.link.Route.{Route}
+use Rattle.smx_model.proofs.Common.{◌==◌, ◌&&◌, not, List, filter, sym, ap, ◌∙◌, Route}
 use Rattle.smx_addresses.proofs.RouteLemmas.{find_route, unrouted}
 use Rattle.smx_addresses.proofs.routes.Routes.unroute.Goals as goal
 

@@ -1,5 +1,4 @@
-use Rattle.std.proofs.Common.{◌==◌, not, List, filter, sym, ap, ◌∙◌}
-use Rattle.smx_types.specs.declared.link.Route.{Route}
+use Rattle.smx_model.proofs.Common.{◌==◌, not, List, filter, sym, ap, ◌∙◌, Route}
 use Rattle.smx_addresses.proofs.RouteLemmas.{unlinked}
 use Rattle.smx_addresses.proofs.TargetLemmas.{link_unlinks, none_unlinks, unlinked_whole}
 use Rattle.smx_addresses.proofs.routes.Routes.unroute_link.Goals as goal

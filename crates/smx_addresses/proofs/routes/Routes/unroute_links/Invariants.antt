@@ -1,5 +1,4 @@
-use Rattle.std.proofs.Common.{◌≡◌, ◌==◌, not, filter, take}
-use Rattle.std.specs.List.{list_any}
+use Rattle.smx_model.proofs.Common.{◌≡◌, ◌==◌, not, filter, take, list_any}
 use Rattle.smx_addresses.proofs.routes.Routes.unroute_links.Given as goal
 
 abbrev pub invariant-loop-id : goal.invariant-loop-id

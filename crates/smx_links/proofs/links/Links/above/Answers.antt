@@ -1,9 +1,4 @@
-use Rattle.std.proofs.Common.{List, find, sym, subst, ap, ◌∙◌}
-use Rattle.std.specs.Map.{values_of}
-use Rattle.std.specs.Prelude.{nat_lt}
-use Rattle.smx_types.specs.declared.link.Link.{Link}
-use Rattle.smx_model.specs.Configuration.{same_stream}
-use Rattle.smx_model.specs.Ordered.{IsRising}
+use Rattle.smx_model.proofs.Common.{List, find, sym, subst, ap, ◌∙◌, values_of, nat_lt, Link, same_stream, IsRising}
 use Rattle.smx_links.proofs.KeyLemmas.{lookup_id}
 use Rattle.smx_links.proofs.LowerLemmas.{above_found, above_none}
 use Rattle.smx_links.proofs.links.Links.above.Goals as goal

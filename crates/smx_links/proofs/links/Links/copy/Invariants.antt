@@ -1,4 +1,4 @@
-use Rattle.std.proofs.Common.{◌≡◌, take}
+use Rattle.smx_model.proofs.Common.{◌≡◌, take}
 use Rattle.smx_links.proofs.links.Links.copy.Given as goal
 
 abbrev pub invariant-loop-link : goal.invariant-loop-link

@@ -1,5 +1,4 @@
-use Rattle.std.proofs.Common.{List, find, eqb, ap, ◌∙◌}
-use Rattle.smx_types.specs.declared.link.Link.{Link}
+use Rattle.smx_model.proofs.Common.{List, find, eqb, ap, ◌∙◌, Link}
 use Rattle.smx_links.proofs.KeyLemmas.{lookup_id}
 use Rattle.smx_links.proofs.links.Links.get.Goals as goal
 

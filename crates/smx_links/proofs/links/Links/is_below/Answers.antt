@@ -1,8 +1,4 @@
-use Rattle.std.proofs.Common.{List, ap, ◌∙◌}
-use Rattle.std.specs.Map.{values_of}
-use Rattle.std.specs.Option.{is_some}
-use Rattle.smx_types.specs.declared.link.Link.{Link}
-use Rattle.smx_model.specs.Standing.{is_below}
+use Rattle.smx_model.proofs.Common.{List, ap, ◌∙◌, values_of, is_some, Link, is_below}
 use Rattle.smx_links.proofs.LowerLemmas.{some_above}
 use Rattle.smx_links.proofs.links.Links.is_below.Goals as goal
 

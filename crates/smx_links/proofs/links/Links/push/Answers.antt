@@ -1,9 +1,6 @@
-use Rattle.std.proofs.Common.{◌≡◌, ℕ, ◌<◌, false, ◌++◌, [], ◌∷◌, List, None, eqb, sym, subst, ap, ◌∙◌}
-use Rattle.std.specs.List.{All}
-use Rattle.std.specs.Map.{lookup, values_of}
+use Rattle.smx_model.proofs.Common.{◌≡◌, ℕ, ◌<◌, false, ◌++◌, [], ◌∷◌, List, None, eqb, sym, subst, ap, ◌∙◌, All}
+use Rattle.smx_model.proofs.Common.{lookup, values_of, Link, is_below}
 use Rattle.indexmap.proofs.CallerLemmas.{insert_entry-new}
-use Rattle.smx_types.specs.declared.link.Link.{Link}
-use Rattle.smx_model.specs.Standing.{is_below}
 use Rattle.smx_links.specs.Keys.{under_id}
 use Rattle.smx_links.proofs.IdLemmas.{below_none}
 use Rattle.smx_links.proofs.KeyLemmas.{found_push, lookup_id, sets_from, values_push}

@@ -1,9 +1,5 @@
-use Rattle.std.proofs.Common.{List, find, filter, not, eqb, sym, subst, ap, ◌∙◌}
-use Rattle.std.specs.Map.{values_of}
-use Rattle.std.specs.Prelude.{nat_lt}
-use Rattle.smx_types.specs.declared.link.Link.{Link}
-use Rattle.smx_model.specs.Ordered.{IsRising}
-use Rattle.smx_model.specs.Paths.{AreLowersApart}
+use Rattle.smx_model.proofs.Common.{List, find, filter, not, eqb, sym, subst, ap, ◌∙◌, values_of, nat_lt, Link}
+use Rattle.smx_model.proofs.Common.{IsRising, AreLowersApart}
 use Rattle.smx_links.proofs.IdLemmas.{none_goes}
 use Rattle.smx_links.proofs.KeyLemmas.{found_less, lookup_id, values_less}
 use Rattle.smx_links.proofs.links.Links.remove.Goals as goal

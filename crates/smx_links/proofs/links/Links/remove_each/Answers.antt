@@ -1,6 +1,5 @@
-use Rattle.std.proofs.Common.{◌≡◌, false, not, take, sym, ◌∙◌}
+use Rattle.smx_model.proofs.Common.{◌≡◌, false, not, take, sym, ◌∙◌, same_stream}
 use Rattle.std.proofs.lemmas.List.Kept.{AllPairs-filter}
-use Rattle.smx_model.specs.Configuration.{same_stream}
 use Rattle.smx_model.proofs.EachLemmas.{later_filter}
 use Rattle.smx_links.specs.LinkLists.{is_one_of}
 use Rattle.smx_links.proofs.IdLemmas.{none_of_next, none_of_none}

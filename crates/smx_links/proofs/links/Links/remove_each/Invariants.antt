@@ -1,4 +1,4 @@
-use Rattle.std.proofs.Common.{◌≡◌, take}
+use Rattle.smx_model.proofs.Common.{◌≡◌, take}
 use Rattle.smx_links.specs.LinkLists.{others_of}
 use Rattle.smx_links.proofs.links.Links.remove_each.Given as goal
 

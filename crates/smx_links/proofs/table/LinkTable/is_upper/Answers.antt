@@ -1,4 +1,4 @@
-use Rattle.std.proofs.Common.{List, ℕ, ap, subst, ◌∙◌}
+use Rattle.smx_model.proofs.Common.{List, ℕ, ap, subst, ◌∙◌}
 use Rattle.smx_links.specs.LinkLists.{LinkList, is_upper}
 use Rattle.smx_links.specs.Masks.{HasAnyBit}
 use Rattle.smx_links.specs.TableFields.{list_of}

@@ -1,6 +1,4 @@
-use Rattle.std.proofs.Common.{◌≡◌, ℕ, List, Bool, eqb, not, length, ap, ◌∙◌}
-use Rattle.std.proofs.lemmas.List.Elements.{All-filter}
-use Rattle.smx_types.specs.declared.link.Link.{Link}
+use Rattle.smx_model.proofs.Common.{◌≡◌, ℕ, List, Bool, eqb, not, length, ap, ◌∙◌, All-filter, Link}
 use Rattle.smx_links.specs.Masks.{IsWithin}
 use Rattle.smx_links.proofs.LinkTableLemmas.{parts_less, lent}
 use Rattle.smx_links.proofs.table.LinkTable.remove.Goals as goal

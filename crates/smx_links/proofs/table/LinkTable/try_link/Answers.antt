@@ -1,4 +1,4 @@
-use Rattle.std.proofs.Common.{◌≡◌, ◌<◌, length, sym, ap, ◌∙◌, subst}
+use Rattle.smx_model.proofs.Common.{◌≡◌, ◌<◌, length, sym, ap, ◌∙◌, subst}
 use Rattle.smx_links.specs.LinkLists.{LinkList, refusal}
 use Rattle.smx_links.specs.TableFields.{list_of_parts}
 use Rattle.smx_links.proofs.LinkTableLemmas.{IsFree, is_free, parts_push, lent}

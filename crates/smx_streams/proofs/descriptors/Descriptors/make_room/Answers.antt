@@ -1,7 +1,4 @@
-use Rattle.std.proofs.Common.{◌≡◌, true, ap, sym, subst, ◌∙◌, arith}
-use Rattle.std.specs.List.{list_any}
-use Rattle.std.proofs.lemmas.Bool.{false≢true}
-use Rattle.smx_model.specs.Configuration.{is_fd}
+use Rattle.smx_model.proofs.Common.{◌≡◌, true, ap, sym, subst, ◌∙◌, arith, list_any, false≢true, is_fd}
 use Rattle.smx_streams.specs.DescriptorRows.{Listed}
 use Rattle.smx_streams.proofs.RowOrderLemmas.{has_cells, room_shows_the_same, rows_with_room, there_is_room}
 use Rattle.smx_streams.proofs.descriptors.Descriptors.make_room.Goals as goal

@@ -1,4 +1,4 @@
-use Rattle.std.proofs.Common.{◌+◌, ◌-◌, ◌*◌, ◌≡◌}
+use Rattle.smx_model.proofs.Common.{◌+◌, ◌-◌, ◌*◌, ◌≡◌}
 use Rattle.smx_streams.specs.StreamTables.{fds_from}
 use Rattle.smx_streams.proofs.descriptors.Descriptors.next.Given as goal
 

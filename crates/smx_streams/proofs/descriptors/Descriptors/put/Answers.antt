@@ -1,9 +1,6 @@
-use Rattle.std.proofs.Common.{◌≡◌, ◌<◌, false, ap, sym, subst, ◌∙◌, arith, get_or}
-use Rattle.std.specs.List.{list_any}
-use Rattle.smx_model.specs.Configuration.{is_fd, fd_before}
-use Rattle.smx_model.specs.Ordered.{with_inserted}
+use Rattle.smx_model.proofs.Common.{◌≡◌, ◌<◌, false, ap, sym, subst, ◌∙◌, arith, get_or, list_any, is_fd, fd_before}
+use Rattle.smx_model.proofs.Common.{with_inserted, map, length}
 use Rattle.smx_streams.specs.DescriptorRows.{Listed}
-use Rattle.std.proofs.Common.{map, length}
 use Rattle.smx_streams.proofs.RowLemmas.{put_cell}
 use Rattle.smx_streams.proofs.RowOrderLemmas.{are_listed, row_length, rows_with_cell}
 use Rattle.smx_streams.proofs.descriptors.Descriptors.put.Goals as goal

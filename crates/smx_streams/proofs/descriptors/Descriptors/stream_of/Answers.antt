@@ -1,4 +1,4 @@
-use Rattle.std.proofs.Common.{◌∙◌, ap}
+use Rattle.smx_model.proofs.Common.{◌∙◌, ap}
 use Rattle.smx_streams.specs.StreamTables.{stream_at}
 use Rattle.smx_streams.specs.DescriptorRows.{Listed}
 use Rattle.smx_streams.proofs.RowLemmas.{stream_is_cell}

@@ -1,5 +1,4 @@
-use Rattle.std.proofs.Common.{◌≡◌, not, ap, sym, subst, ◌∙◌, filter}
-use Rattle.smx_model.specs.Configuration.{is_fd}
+use Rattle.smx_model.proofs.Common.{◌≡◌, not, ap, sym, subst, ◌∙◌, filter, is_fd}
 use Rattle.smx_streams.specs.DescriptorRows.{IsListed, Listed}
 use Rattle.smx_streams.specs.StreamTables.{stream_at}
 use Rattle.smx_streams.proofs.RowLemmas.{stream_is_cell, take_cell, take_none}

@@ -1,7 +1,4 @@
-use Rattle.std.proofs.Common.{ℕ, ◌+◌, List, Option, ap, subst, ◌∙◌}
-use Rattle.std.proofs.lemmas.Bool.{false≢true, lt-ltb}
-use Rattle.std.specs.Option.{is_some}
-use Rattle.std.specs.Prelude.{nat_lt}
+use Rattle.smx_model.proofs.Common.{ℕ, ◌+◌, List, Option, ap, subst, ◌∙◌, false≢true, lt-ltb, is_some, nat_lt}
 use Rattle.smx_streams.specs.RecordGrids.{Uses, AreSound, key_at}
 use Rattle.smx_streams.specs.StreamTables.{number_at}
 use Rattle.smx_streams.proofs.RecordLemmas.{are_sound, key_tells}

@@ -1,4 +1,4 @@
-use Rattle.std.proofs.Common.{◌≡◌, ℕ, length, map, subst, ap, ◌∙◌, arith}
+use Rattle.smx_model.proofs.Common.{◌≡◌, ℕ, length, map, subst, ap, ◌∙◌, arith}
 use Rattle.smx_streams.specs.RecordGrids.{Uses, HasRows, IsCopyBefore}
 use Rattle.smx_streams.proofs.CopyLemmas.{all_copied, has_rows, none_copied}
 use Rattle.smx_streams.proofs.records.Records.copy.Goals as goal

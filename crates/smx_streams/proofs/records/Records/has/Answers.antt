@@ -1,6 +1,4 @@
-use Rattle.std.proofs.Common.{ℕ, List, Option, ◌+◌, ap, ◌∙◌}
-use Rattle.std.specs.Option.{is_some}
-use Rattle.std.specs.Prelude.{nat_lt}
+use Rattle.smx_model.proofs.Common.{ℕ, List, Option, ◌+◌, ap, ◌∙◌, is_some, nat_lt}
 use Rattle.smx_streams.specs.RecordGrids.{Uses, key_at}
 use Rattle.smx_streams.specs.StreamTables.{number_at}
 use Rattle.smx_streams.proofs.RecordLemmas.{key_tells}

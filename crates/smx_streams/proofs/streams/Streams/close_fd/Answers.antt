@@ -1,8 +1,4 @@
-use Rattle.std.proofs.Common.{sym, subst, refl, ◌<◌, ◌∙◌, arith}
-use Rattle.std.specs.List.{All}
-use Rattle.smx_model.specs.Configuration.{fd_before}
-use Rattle.smx_model.specs.Ordered.{IsRising}
-use Rattle.smx_types.specs.declared.limits.TheConstants.{MAX_DESCRIPTORS}
+use Rattle.smx_model.proofs.Common.{sym, subst, refl, ◌<◌, ◌∙◌, arith, All, fd_before, IsRising, MAX_DESCRIPTORS}
 use Rattle.smx_streams.specs.StreamTables.{StreamTable, AreHungsSound, HasOneLess}
 use Rattle.smx_streams.specs.TableFields.{IsWhole, table_of}
 use Rattle.smx_streams.proofs.NameLemmas.{names_after_take, names_some}

@@ -1,10 +1,6 @@
-use Rattle.std.proofs.Common.{not, ap, refl, sym, subst, arith, filter, ◌<◌, ◌∙◌, List, inl, inr}
-use Rattle.std.proofs.lemmas.Bool.{cases_Bool, false≢true}
+use Rattle.smx_model.proofs.Common.{not, ap, refl, sym, subst, arith, filter, ◌<◌, ◌∙◌, List, inl, inr, cases_Bool}
+use Rattle.smx_model.proofs.Common.{false≢true, All, MAX_DESCRIPTORS, Descriptor, is_fd}
 use Rattle.std.proofs.Math.Nat.{eq-zero-or-pos}
-use Rattle.std.specs.List.{All}
-use Rattle.smx_types.specs.declared.limits.TheConstants.{MAX_DESCRIPTORS}
-use Rattle.smx_types.specs.declared.stream.Descriptor.{Descriptor}
-use Rattle.smx_model.specs.Configuration.{is_fd}
 use Rattle.smx_streams.specs.StreamTables.{StreamTable, exists, stream_at}
 use Rattle.smx_streams.proofs.NextLemmas.{closed_none, closed_more, closed_all}
 use Rattle.smx_streams.proofs.WentLemmas.{at_next}

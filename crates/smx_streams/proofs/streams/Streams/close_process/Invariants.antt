@@ -1,7 +1,4 @@
-use Rattle.std.proofs.Common.{◌≡◌, ℕ, ◌<◌, true, false, Some, not, filter}
-use Rattle.std.specs.List.{All}
-use Rattle.smx_types.specs.declared.limits.TheConstants.{MAX_DESCRIPTORS}
-use Rattle.smx_types.specs.declared.stream.StreamId.{StreamId}
+use Rattle.smx_model.proofs.Common.{◌≡◌, ℕ, ◌<◌, true, false, Some, not, filter, All, MAX_DESCRIPTORS, StreamId}
 use Rattle.smx_streams.specs.StreamTables.{exists, number_at, stream_at}
 use Rattle.smx_streams.proofs.NextLemmas.{is_closed}
 use Rattle.smx_streams.proofs.streams.Streams.close_process.Given as goal

@@ -1,4 +1,4 @@
-use Rattle.std.proofs.Common.{refl, ap, subst, ◌∙◌}
+use Rattle.smx_model.proofs.Common.{refl, ap, subst, ◌∙◌}
 use Rattle.smx_streams.specs.StreamTables.{StreamTable, HasHungUp, exists, number_at}
 use Rattle.smx_streams.specs.TableFields.{table_of}
 use Rattle.smx_streams.proofs.HungLemmas.{hung_now, same_number}

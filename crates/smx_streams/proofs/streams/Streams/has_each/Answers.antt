@@ -1,6 +1,4 @@
-use Rattle.std.proofs.Common.{ap, subst, ◌+◌, ◌∙◌}
-use Rattle.std.specs.Prelude.{nat_lt}
-use Rattle.std.specs.List.{list_all}
+use Rattle.smx_model.proofs.Common.{ap, subst, ◌+◌, ◌∙◌, nat_lt, list_all}
 use Rattle.smx_model.proofs.TestLemmas.{all_same}
 use Rattle.smx_streams.specs.StreamTables.{StreamTable, AreHungsSound, exists, number_at}
 use Rattle.smx_streams.specs.TableFields.{table_of}

@@ -1,4 +1,4 @@
-use Rattle.std.proofs.Common.{◌+◌, ap, subst, ◌∙◌}
+use Rattle.smx_model.proofs.Common.{◌+◌, ap, subst, ◌∙◌}
 use Rattle.smx_streams.specs.StreamTables.{StreamTable, HasHolds, exists, number_at}
 use Rattle.smx_streams.specs.TableFields.{table_of}
 use Rattle.smx_streams.proofs.NameLemmas.{used_exists}

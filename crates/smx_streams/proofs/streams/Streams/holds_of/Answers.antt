@@ -1,4 +1,4 @@
-use Rattle.std.proofs.Common.{subst}
+use Rattle.smx_model.proofs.Common.{subst}
 use Rattle.smx_streams.specs.StreamTables.{AreHungsSound}
 use Rattle.smx_streams.proofs.HungLemmas.{are_sound}
 use Rattle.smx_streams.proofs.streams.Streams.holds_of.Goals as goal

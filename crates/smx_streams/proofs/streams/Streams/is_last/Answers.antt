@@ -1,4 +1,4 @@
-use Rattle.std.proofs.Common.{sym, ap, ◌∙◌}
+use Rattle.smx_model.proofs.Common.{sym, ap, ◌∙◌}
 use Rattle.smx_streams.specs.StreamTables.{StreamTable, is_last}
 use Rattle.smx_streams.specs.TableFields.{table_of}
 use Rattle.smx_streams.proofs.WentLemmas.{last_is}

@@ -1,7 +1,6 @@
-use Rattle.std.proofs.Common.{◌≡◌, Some, sym, subst, refl, ◌∙◌, arith}
+use Rattle.smx_model.proofs.Common.{◌≡◌, Some, sym, subst, refl, ◌∙◌, arith, false≢true}
 use Rattle.smx_streams.specs.StreamTables.{StreamTable, HasOneMore, stream_at}
 use Rattle.smx_streams.specs.TableFields.{table_of}
-use Rattle.std.proofs.lemmas.Bool.{false≢true}
 use Rattle.smx_streams.proofs.NameLemmas.{named_any, names_after_put, names_few, names_some}
 use Rattle.smx_streams.proofs.HungLemmas.{hung_same, same_number}
 use Rattle.smx_streams.proofs.streams.Streams.open.Goals as goal

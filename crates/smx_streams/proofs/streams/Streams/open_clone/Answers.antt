@@ -1,5 +1,4 @@
-use Rattle.std.proofs.Common.{get_or, sym, arith}
-use Rattle.std.proofs.lemmas.Bool.{lt-ltb}
+use Rattle.smx_model.proofs.Common.{get_or, sym, arith, lt-ltb}
 use Rattle.smx_streams.proofs.NameLemmas.{find_below, minors_at}
 use Rattle.smx_streams.proofs.streams.Streams.open_clone.Goals as goal
 

@@ -1,4 +1,5 @@
-use Rattle.std.proofs.Common.{◌≡◌, Ok, IfOk, IfErr, ap, sym, subst, get_or, arith}
+use Rattle.smx_model.proofs.Common.{◌≡◌, Ok, IfOk, ap, sym, subst, get_or, arith}
+use Rattle.std.proofs.Common.{IfErr}
 use Rattle.smx_streams.specs.StreamTables.{Answer, StreamTable, HasOneMore, IsRefused, minor_answer, numbered}
 use Rattle.smx_streams.proofs.NameLemmas.{minor_numbered, minors_at}
 use Rattle.smx_streams.proofs.streams.Streams.open_minor.Goals as goal

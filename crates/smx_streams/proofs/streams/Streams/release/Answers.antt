@@ -1,4 +1,4 @@
-use Rattle.std.proofs.Common.{subst, ◌-◌}
+use Rattle.smx_model.proofs.Common.{subst, ◌-◌}
 use Rattle.smx_streams.specs.StreamTables.{StreamTable, AreHungsSound, HasHolds, number_at}
 use Rattle.smx_streams.specs.TableFields.{table_of}
 use Rattle.smx_streams.proofs.HungLemmas.{are_sound, holds_changed}
