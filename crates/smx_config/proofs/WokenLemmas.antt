@@ -40,8 +40,7 @@ use Rattle.smx_commands.specs.declared.step_error.StepError.TheVariants as step_
 use Rattle.smx_config.specs.Marking.{AreMarks, IsWoken}
 use Rattle.smx_commands.specs.Machine.{Machine}
 use Rattle.smx_commands.specs.Refinement.{Refines, answer_of}
-use Rattle.smx_config.specs.Wakes.{arrives, drops_none, freed_under, is_either_side, on_stream, turned_under}
-use Rattle.smx_config.specs.Wakes.{wakes_of}
+use Rattle.smx_config.specs.Wakes.{arrives, drops_none, freed_under, is_either_side, on_stream, turned_under, wakes_of}
 use Rattle.smx_config.specs.declared.wakes.Wakes.{Wakes}
 use Rattle.smx_config.specs.declared.wakes.Wakes.TheVariants as wakes
 use Rattle.smx_model.specs.KeptConfigurations.{IsSound}
@@ -370,8 +369,3 @@ fault_keeps old mid new process k result r f is refines settled law fault =
     settled ∙ (ap moved here.0 ∙ ap with left) where
       moved : List DriverSpec → Machine
       moved ds = record { drivers = ds; configuration = after_settling ds mid.configuration }
-
--- whether a command is accepted doesn't depend on the place to which its reply is written
-pub is_ok_of : (answer : Result (Unit {0}) StepError) (r : Reply) → is_ok (answer_of answer r) ≡ is_ok answer
-is_ok_of (Ok u) r = refl
-is_ok_of (Err e) r = refl
