@@ -1,10 +1,9 @@
 -- Places that are marked, one after another.
-use Rattle.std.proofs.Common.{◌≡◌, ℕ, ◌+◌, ◌<◌, Bool, true, false, ◌&&◌, eqb, List, [], ◌∷◌, length}
+use Rattle.std.proofs.Common.{◌≡◌, ℕ, ◌<◌, Bool, true, false, ◌&&◌, eqb, List, [], ◌∷◌}
 use Rattle.std.proofs.Common.{None, refl, sym, ap, ◌∙◌, subst, arith, inl, inr}
 use Rattle.std.specs.Prelude.{nat_lt}
 use Rattle.std.specs.List.{All, AllByRecursion, list_any}
-use Rattle.std.proofs.lemmas.Bool.{and_parts, cases_Bool, cases_lt, eq-eqb, eqb-true, false≢true}
-use Rattle.std.proofs.lemmas.Bool.{lt-ltb, ltb-true, or_left, or_right}
+use Rattle.std.proofs.lemmas.Bool.{and_parts, cases_Bool, eq-eqb, eqb-true, false≢true, lt-ltb, or_left, or_right}
 use Rattle.std.proofs.lemmas.List.Elements.{recursion_from_All}
 use Rattle.smx_types.specs.declared.link.Link.{Link}
 use Rattle.smx_types.specs.declared.stream.Place.{Place}
@@ -49,29 +48,11 @@ none_there drivers flow place m none = record {
   count = refl;
 }
 
--- if there are no messages, nothing has to be marked
-pub none_queued : (drivers : List DriverSpec) (flow : List QueuedMessage) (test : Place → Bool) (m : BitTable)
-    → length flow ≡ 0 → IsMarkedWhere drivers flow test m m
-none_queued drivers [] test m none = none_marked drivers [] test m (λ p t. refl)
-none_queued drivers (h ∷ flow) test m none = absurd (omega (arith, none))
-
 -- ---- one side of a driver's streams, one minor after another
 
 -- the places that pass the test and whose minors are below a number
 abbrev pub asks_below : Configuration → ℕ → Side → ℕ → ℕ → Place → Bool
 asks_below c driver s addr n p = asks_at c driver s addr p && nat_lt p.stream.minor n
-
--- a side of a stream
-abbrev side_of : ℕ → ℕ → Side → Place
-side_of driver minor s = record { stream = record { driver = driver; minor = minor }; side = s }
-
--- no minor is below minor 0, so nothing has to be marked
-pub none_below : (drivers : List DriverSpec) (c : Configuration) (driver : ℕ) (s : Side) (addr : ℕ) (m : BitTable)
-    → IsMarkedWhere drivers c.flow (asks_below c driver s addr 0) m m
-none_below drivers c driver s addr m = none_marked drivers c.flow (asks_below c driver s addr 0) m (λ p t.
-    absurd (none p.stream.minor (ltb-true p.stream.minor 0 (and_parts (asks_at c driver s addr p) _ t).1))) where
-      none : (n : ℕ) → n < 0 → ⊥
-      none n lt = omega arith
 
 -- marks for all minors below the number of the driver's minors are marks for all its streams
 pub all_minors : (drivers : List DriverSpec) (c : Configuration) (driver : ℕ) (s : Side) (addr n : ℕ)
@@ -128,33 +109,6 @@ none_between drivers c driver addr lower m none = none_marked drivers c.flow (as
 -- the read sides that are asked for, at streams below the driver whose own driver has a number below this one
 abbrev pub asks_before : Configuration → ℕ → ℕ → ℕ → Place → Bool
 asks_before c driver addr n p = asks_up c driver addr p && nat_lt p.stream.driver n
-
--- no driver comes before driver 0, so nothing has to be marked
-pub none_before : (drivers : List DriverSpec) (c : Configuration) (driver addr : ℕ) (m : BitTable)
-    → IsMarkedWhere drivers c.flow (asks_before c driver addr 0) m m
-none_before drivers c driver addr m = none_marked drivers c.flow (asks_before c driver addr 0) m (λ p t.
-    let both = and_parts (asks_up c driver addr p) (nat_lt p.stream.driver 0) t in
-    absurd (none p.stream.driver (ltb-true p.stream.driver 0 both.1))) where
-      none : (n : ℕ) → n < 0 → ⊥
-      none n lt = omega arith
-
--- one more driver, whose places are marked
-pub one_driver_more : (drivers : List DriverSpec) (c : Configuration) (driver addr n : ℕ) (old mid new : BitTable)
-    → IsMarkedWhere drivers c.flow (asks_before c driver addr n) old mid
-    → IsMarkedWhere drivers c.flow (asks_between c driver addr n) mid new
-    → IsMarkedWhere drivers c.flow (asks_before c driver addr (n + 1)) old new
-one_driver_more drivers c driver addr n old mid new before one = record {
-  kept = λ i m. one.kept i (before.kept i m);
-  marked = λ i p there some t.
-      let both = and_parts (asks_up c driver addr p) (nat_lt p.stream.driver (n + 1)) t in
-      let lt = ltb-true p.stream.driver (n + 1) both.1 in
-      elim (cases_lt p.stream.driver n) [
-        | inl less ↦ one.kept i (before.marked i p there some (rw (both.0, lt-ltb p.stream.driver n less) refl))
-        | inr more ↦ one.marked i p there some
-            (rw (both.0, eq-eqb p.stream.driver n (omega arith)) refl)
-      ];
-  count = one.count ∙ before.count;
-}
 
 -- if the drivers of all links are below `n`, so is the driver of each stream below a link
 lower_within : (n : ℕ) (links : List Link) (s : StreamId) (driver : ℕ) → All (IsWithin n) links

@@ -36,7 +36,6 @@ use Rattle.smx_model.specs.Swept.{IsSwept}
 use Rattle.smx_model.specs.TurnedPlaces.{of_stream, turned_by}
 use Rattle.smx_config.specs.declared.marks.Marks.{Marks}
 use Rattle.smx_commands.specs.declared.step_error.StepError.{StepError}
-use Rattle.smx_commands.specs.declared.step_error.StepError.TheVariants as step_error
 use Rattle.smx_config.specs.Marking.{AreMarks, IsWoken}
 use Rattle.smx_commands.specs.Machine.{Machine}
 use Rattle.smx_commands.specs.Refinement.{Refines, answer_of}
@@ -340,20 +339,6 @@ stepped old mid new process k (Ok u) r is refines settled =
       moved : List DriverSpec → Machine
       moved ds = record { drivers = ds; configuration = after_settling ds mid.configuration }
 stepped old mid new process k (Err e) r is refines settled = absurd (false≢true is)
-
--- a command that was not accepted changes nothing
-pub unchanged : (old new : Machine) (process : ℕ) (k : Command) (result : Result Reply StepError)
-    → is_ok result ≡ false → Refines old new process k result → new ≡ old
-unchanged old new process k (Ok r) not_ok refines = absurd (false≢true (sym not_ok))
-unchanged old new process k (Err (step_error.Refused f)) not_ok refines = refines.0
-unchanged old new process k (Err step_error.NoMemory) not_ok refines = refines.0
-
--- no command changes the drivers
-pub same_drivers : (old new : Machine) (process : ℕ) (k : Command) (result : Result Reply StepError)
-    → Refines old new process k result → new.drivers ≡ old.drivers
-same_drivers old new process k (Ok r) refines = refines.0
-same_drivers old new process k (Err (step_error.Refused f)) refines = ap (λ (m : Machine). m.drivers) refines.0
-same_drivers old new process k (Err step_error.NoMemory) refines = ap (λ (m : Machine). m.drivers) refines.0
 
 -- if the reply is a fault, the configuration after settling is the one before the command
 pub fault_keeps : (old mid new : Machine) (process : ℕ) (k : Command) (result : Result Reply StepError) (r : Reply)
