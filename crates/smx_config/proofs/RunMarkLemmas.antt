@@ -1,10 +1,9 @@
 -- Places that are marked, one after another.
-use Rattle.std.proofs.Common.{◌≡◌, ℕ, ◌+◌, ◌<◌, Bool, true, false, ◌&&◌, eqb, List, [], ◌∷◌, length}
+use Rattle.std.proofs.Common.{◌≡◌, ℕ, ◌<◌, Bool, true, false, ◌&&◌, eqb, List, [], ◌∷◌}
 use Rattle.std.proofs.Common.{None, refl, sym, ap, ◌∙◌, subst, arith, inl, inr}
 use Rattle.std.specs.Prelude.{nat_lt}
 use Rattle.std.specs.List.{All, AllByRecursion, list_any}
-use Rattle.std.proofs.lemmas.Bool.{and_parts, cases_Bool, cases_lt, eq-eqb, eqb-true, false≢true}
-use Rattle.std.proofs.lemmas.Bool.{lt-ltb, ltb-true, or_left, or_right}
+use Rattle.std.proofs.lemmas.Bool.{and_parts, cases_Bool, eq-eqb, eqb-true, false≢true, lt-ltb, or_left, or_right}
 use Rattle.std.proofs.lemmas.List.Elements.{recursion_from_All}
 use Rattle.smx_types.specs.declared.link.Link.{Link}
 use Rattle.smx_types.specs.declared.stream.Place.{Place}
@@ -19,8 +18,7 @@ use Rattle.smx_model.specs.Queues.{first_message}
 use Rattle.smx_model.specs.RunMarks.{asks_up, has_addr, is_below_driver}
 use Rattle.smx_links.specs.Masks.{IsWithin}
 use Rattle.smx_queues.specs.Bits.{BitTable, has_bit}
-use Rattle.smx_config.specs.Marking.{IsAt, IsMarkedIf, IsMarkedUnless, IsMarkedWhere, asks_at, asks_between}
-use Rattle.smx_queues.proofs.PlaceLemmas.{place_is}
+use Rattle.smx_config.specs.Marking.{IsAt, IsMarkedWhere, asks_at, asks_between}
 use Rattle.smx_queues.proofs.PlacesOfLemmas.{number_known}
 use Rattle.smx_config.proofs.PlaceNumberLemmas.{is_another, one_number}
 
@@ -50,73 +48,11 @@ none_there drivers flow place m none = record {
   count = refl;
 }
 
--- a place that had messages before needs no mark
-pub no_more_marked : (filled : Bool) (n : ℕ) (m : BitTable) → filled ≡ true → IsMarkedUnless filled n m m
-no_more_marked filled n m h =
-    record { here = λ none. absurd (false≢true (sym none ∙ h)); kept = λ i k. k; count = refl }
-
--- if there are no messages, nothing has to be marked
-pub none_queued : (drivers : List DriverSpec) (flow : List QueuedMessage) (test : Place → Bool) (m : BitTable)
-    → length flow ≡ 0 → IsMarkedWhere drivers flow test m m
-none_queued drivers [] test m none = none_marked drivers [] test m (λ p t. refl)
-none_queued drivers (h ∷ flow) test m none = absurd (omega (arith, none))
-
--- marks that are enough for one test are enough for a narrower test
-pub fewer_asked : (drivers : List DriverSpec) (flow : List QueuedMessage) (these those : Place → Bool)
-    (old new : BitTable) → ((p : Place) → those p ≡ true → these p ≡ true)
-    → IsMarkedWhere drivers flow these old new → IsMarkedWhere drivers flow those old new
-fewer_asked drivers flow these those old new too m = record {
-  kept = m.kept;
-  marked = λ i p there some t. m.marked i p there some (too p t);
-  count = m.count;
-}
-
 -- ---- one side of a driver's streams, one minor after another
 
 -- the places that pass the test and whose minors are below a number
 abbrev pub asks_below : Configuration → ℕ → Side → ℕ → ℕ → Place → Bool
 asks_below c driver s addr n p = asks_at c driver s addr p && nat_lt p.stream.minor n
-
--- a side of a stream
-abbrev side_of : ℕ → ℕ → Side → Place
-side_of driver minor s = record { stream = record { driver = driver; minor = minor }; side = s }
-
--- a place that passes the test and has minor `n` is that side of its stream
-its_place : (c : Configuration) (driver : ℕ) (s : Side) (addr n : ℕ) (p : Place) → asks_at c driver s addr p ≡ true
-    → p.stream.minor ≡ n → p ≡ side_of driver n s
-its_place c driver s addr n p t is =
-    let a = and_parts (same_side p.side s && eqb p.stream.driver driver) (has_addr addr (first_message c.flow p)) t in
-    let b = and_parts (same_side p.side s) (eqb p.stream.driver driver) a.0 in
-    place_is p (side_of driver n s) (rw (b.1, eq-eqb p.stream.minor n is, b.0) refl)
-
--- no minor is below minor 0, so nothing has to be marked
-pub none_below : (drivers : List DriverSpec) (c : Configuration) (driver : ℕ) (s : Side) (addr : ℕ) (m : BitTable)
-    → IsMarkedWhere drivers c.flow (asks_below c driver s addr 0) m m
-none_below drivers c driver s addr m = none_marked drivers c.flow (asks_below c driver s addr 0) m (λ p t.
-    absurd (none p.stream.minor (ltb-true p.stream.minor 0 (and_parts (asks_at c driver s addr p) _ t).1))) where
-      none : (n : ℕ) → n < 0 → ⊥
-      none n lt = omega arith
-
--- one more minor, whose place is marked if it passes the test
-pub one_minor_more : (drivers : List DriverSpec) (c : Configuration) (driver : ℕ) (s : Side) (addr n : ℕ)
-    (old mid new : BitTable) → IsMarkedWhere drivers c.flow (asks_below c driver s addr n) old mid
-    → IsMarkedIf drivers c addr (side_of driver n s) mid new
-    → IsMarkedWhere drivers c.flow (asks_below c driver s addr (n + 1)) old new
-one_minor_more drivers c driver s addr n old mid new before one = record {
-  kept = λ i m. one.kept i (before.kept i m);
-  marked = λ i p there some t.
-      let both = and_parts (asks_at c driver s addr p) (nat_lt p.stream.minor (n + 1)) t in
-      let lt = ltb-true p.stream.minor (n + 1) both.1 in
-      elim (cases_lt p.stream.minor n) [
-        | inl less ↦ one.kept i (before.marked i p there some (rw (both.0, lt-ltb p.stream.minor n less) refl))
-        | inr more ↦
-            let is = its_place c driver s addr n p both.0 (omega arith) in
-            one.here i (subst (IsAt drivers i) is there)
-            (subst (λ (x : Place). has_addr addr (first_message c.flow x) ≡ true) is
-            (and_parts (same_side p.side s && eqb p.stream.driver driver) _ both.0).1)
-      ];
-  count = one.count ∙ before.count;
-}
 
 -- marks for all minors below the number of the driver's minors are marks for all its streams
 pub all_minors : (drivers : List DriverSpec) (c : Configuration) (driver : ℕ) (s : Side) (addr n : ℕ)
@@ -133,15 +69,6 @@ all_minors drivers c driver s addr n old new many m = record {
       m.marked i p there some (rw (t, lt-ltb p.stream.minor n lt) refl);
   count = m.count;
 }
-
--- a place that is asked for between two drivers is asked for at the lower driver
-pub at_lower : (c : Configuration) (driver addr lower : ℕ) (p : Place) → asks_between c driver addr lower p ≡ true
-    → asks_at c lower side.Read addr p ≡ true
-at_lower c driver addr lower p t =
-    let a = and_parts (asks_up c driver addr p) (eqb p.stream.driver lower) t in
-    let b = and_parts (same_side p.side side.Read && is_below_driver c driver p.stream)
-    (has_addr addr (first_message c.flow p)) a.0 in
-    rw ((and_parts (same_side p.side side.Read) _ b.0).0, a.1, b.1) refl
 
 -- ---- the read sides below a driver, one lower driver after another
 
@@ -182,33 +109,6 @@ none_between drivers c driver addr lower m none = none_marked drivers c.flow (as
 -- the read sides that are asked for, at streams below the driver whose own driver has a number below this one
 abbrev pub asks_before : Configuration → ℕ → ℕ → ℕ → Place → Bool
 asks_before c driver addr n p = asks_up c driver addr p && nat_lt p.stream.driver n
-
--- no driver comes before driver 0, so nothing has to be marked
-pub none_before : (drivers : List DriverSpec) (c : Configuration) (driver addr : ℕ) (m : BitTable)
-    → IsMarkedWhere drivers c.flow (asks_before c driver addr 0) m m
-none_before drivers c driver addr m = none_marked drivers c.flow (asks_before c driver addr 0) m (λ p t.
-    let both = and_parts (asks_up c driver addr p) (nat_lt p.stream.driver 0) t in
-    absurd (none p.stream.driver (ltb-true p.stream.driver 0 both.1))) where
-      none : (n : ℕ) → n < 0 → ⊥
-      none n lt = omega arith
-
--- one more driver, whose places are marked
-pub one_driver_more : (drivers : List DriverSpec) (c : Configuration) (driver addr n : ℕ) (old mid new : BitTable)
-    → IsMarkedWhere drivers c.flow (asks_before c driver addr n) old mid
-    → IsMarkedWhere drivers c.flow (asks_between c driver addr n) mid new
-    → IsMarkedWhere drivers c.flow (asks_before c driver addr (n + 1)) old new
-one_driver_more drivers c driver addr n old mid new before one = record {
-  kept = λ i m. one.kept i (before.kept i m);
-  marked = λ i p there some t.
-      let both = and_parts (asks_up c driver addr p) (nat_lt p.stream.driver (n + 1)) t in
-      let lt = ltb-true p.stream.driver (n + 1) both.1 in
-      elim (cases_lt p.stream.driver n) [
-        | inl less ↦ one.kept i (before.marked i p there some (rw (both.0, lt-ltb p.stream.driver n less) refl))
-        | inr more ↦ one.marked i p there some
-            (rw (both.0, eq-eqb p.stream.driver n (omega arith)) refl)
-      ];
-  count = one.count ∙ before.count;
-}
 
 -- if the drivers of all links are below `n`, so is the driver of each stream below a link
 lower_within : (n : ℕ) (links : List Link) (s : StreamId) (driver : ℕ) → All (IsWithin n) links

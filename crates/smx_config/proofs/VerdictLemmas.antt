@@ -1,5 +1,5 @@
 -- There is one verdict on each history and view.
-use Rattle.std.proofs.Common.{◌≡◌, ◌≢◌, ℕ, ◌⊎◌, inl, inr, List, refl, ap}
+use Rattle.std.proofs.Common.{◌≡◌, ◌≢◌, ℕ, ◌⊎◌, inl, inr, List}
 use Rattle.std.proofs.lemmas.Bool.{cases_Bool}
 use Rattle.std.proofs.lemmas.Bool.Decides.{not_from_Decides}
 use Rattle.smx_types.specs.SameLemmas.{view_tells}
@@ -29,18 +29,3 @@ there_is_one drivers entries shown (inl legal) = elim (same_or_not shown (view d
   | inr other ↦ (ConfigDiffers, (legal, other))
 ]
 there_is_one drivers entries shown (inr first) = (Illegal first.0, first.1)
-
--- two verdicts that hold are the same
-pub there_is_no_other : (drivers : List DriverSpec) (entries : List Entry) (shown : ConfigView)
-    → ((n : ℕ) → IsLegal drivers entries → IsFirstIllegal drivers entries n → ⊥)
-    → ((m n : ℕ) → IsFirstIllegal drivers entries m → IsFirstIllegal drivers entries n → m ≡ n)
-    → (v w : Verdict) → IsVerdict drivers entries shown v → IsVerdict drivers entries shown w → v ≡ w
-there_is_no_other drivers entries shown not_both one Legal Legal h k = refl
-there_is_no_other drivers entries shown not_both one Legal (Illegal n) h k = absurd (not_both n h.0 k)
-there_is_no_other drivers entries shown not_both one Legal ConfigDiffers h k = absurd (k.1 h.1)
-there_is_no_other drivers entries shown not_both one (Illegal m) Legal h k = absurd (not_both m k.0 h)
-there_is_no_other drivers entries shown not_both one (Illegal m) (Illegal n) h k = ap Illegal (one m n h k)
-there_is_no_other drivers entries shown not_both one (Illegal m) ConfigDiffers h k = absurd (not_both m k.0 h)
-there_is_no_other drivers entries shown not_both one ConfigDiffers Legal h k = absurd (h.1 k.1)
-there_is_no_other drivers entries shown not_both one ConfigDiffers (Illegal n) h k = absurd (not_both n h.0 k)
-there_is_no_other drivers entries shown not_both one ConfigDiffers ConfigDiffers h k = refl

@@ -1,9 +1,8 @@
 -- Commands and moves that leave the next places of messages as they are, and the hops after them.
 use Rattle.std.proofs.Common.{◌≡◌, ℕ, ◌<◌, Bool, true, false, ◌&&◌, ◌||◌, eqb, not, List, length, get_or, Option, None}
-use Rattle.std.proofs.Common.{Some, Result, Ok, Err, refl, sym, ap, ◌∙◌, subst, arith}
+use Rattle.std.proofs.Common.{Some, Ok, refl, sym, ap, ◌∙◌, subst, arith}
 use Rattle.std.specs.Prelude.{IfSome, IsSome, nat_le, nat_lt}
 use Rattle.std.specs.Option.{is_some, ok_or}
-use Rattle.std.specs.Result.{is_ok}
 use Rattle.std.proofs.lemmas.Bool.{false≢true}
 use Rattle.smx_types.specs.declared.command.Command.{Command}
 use Rattle.smx_types.specs.declared.command.Command.TheVariants as command
@@ -30,9 +29,6 @@ use Rattle.smx_model.specs.Swept.{IsSwept}
 use Rattle.smx_model.proofs.IdleSweepLemmas.{swept_idle}
 use Rattle.smx_model.proofs.WaitingLemmas.{next_by, next_is}
 use Rattle.smx_queues.specs.PlaceLists.{places_of}
-use Rattle.smx_commands.specs.Machine.{Machine}
-use Rattle.smx_commands.specs.Refinement.{Refines, answer_of}
-use Rattle.smx_commands.specs.declared.step_error.StepError.{StepError}
 use Rattle.smx_commands.proofs.AcceptedLemmas.{accepted, bound}
 use Rattle.smx_config.specs.declared.hops.Hop.{Hop}
 use Rattle.smx_config.specs.declared.hops.Hops.{Hops}
@@ -169,15 +165,3 @@ pub next_number : (drivers : List DriverSpec) (c : Configuration) (p : Place) (r
     → IsNextOf drivers c p r → IfSome r (λ n. n < length (places_of drivers))
 next_number drivers c p None way = tt
 next_number drivers c p (Some n) way = at_number drivers n way.place way.there
-
--- ---- after a command
-
--- the hops are right after a command that was performed, if they are right after each accepted outcome
-pub performed : (old new : Machine) (process : ℕ) (k : Command) (answer : Result (Unit {0}) StepError) (r : Reply)
-    (h : Hops) → is_ok answer ≡ true → Refines old new process k (answer_of answer r)
-    → ((d : Configuration) → outcome old.drivers old.configuration process k ≡ Ok (d, r) → AreHops old.drivers d h)
-    → AreHops new.drivers new.configuration h
-performed old new process k (Ok u) r h is refines right =
-    subst (λ (ds : List DriverSpec). AreHops ds new.configuration h) (sym refines.0)
-    (right new.configuration refines.1)
-performed old new process k (Err e) r h is refines right = absurd (false≢true is)

@@ -36,12 +36,10 @@ use Rattle.smx_model.specs.Swept.{IsSwept}
 use Rattle.smx_model.specs.TurnedPlaces.{of_stream, turned_by}
 use Rattle.smx_config.specs.declared.marks.Marks.{Marks}
 use Rattle.smx_commands.specs.declared.step_error.StepError.{StepError}
-use Rattle.smx_commands.specs.declared.step_error.StepError.TheVariants as step_error
 use Rattle.smx_config.specs.Marking.{AreMarks, IsWoken}
 use Rattle.smx_commands.specs.Machine.{Machine}
 use Rattle.smx_commands.specs.Refinement.{Refines, answer_of}
-use Rattle.smx_config.specs.Wakes.{arrives, drops_none, freed_under, is_either_side, on_stream, turned_under}
-use Rattle.smx_config.specs.Wakes.{wakes_of}
+use Rattle.smx_config.specs.Wakes.{arrives, drops_none, freed_under, is_either_side, on_stream, turned_under, wakes_of}
 use Rattle.smx_config.specs.declared.wakes.Wakes.{Wakes}
 use Rattle.smx_config.specs.declared.wakes.Wakes.TheVariants as wakes
 use Rattle.smx_model.specs.KeptConfigurations.{IsSound}
@@ -342,20 +340,6 @@ stepped old mid new process k (Ok u) r is refines settled =
       moved ds = record { drivers = ds; configuration = after_settling ds mid.configuration }
 stepped old mid new process k (Err e) r is refines settled = absurd (false≢true is)
 
--- a command that was not accepted changes nothing
-pub unchanged : (old new : Machine) (process : ℕ) (k : Command) (result : Result Reply StepError)
-    → is_ok result ≡ false → Refines old new process k result → new ≡ old
-unchanged old new process k (Ok r) not_ok refines = absurd (false≢true (sym not_ok))
-unchanged old new process k (Err (step_error.Refused f)) not_ok refines = refines.0
-unchanged old new process k (Err step_error.NoMemory) not_ok refines = refines.0
-
--- no command changes the drivers
-pub same_drivers : (old new : Machine) (process : ℕ) (k : Command) (result : Result Reply StepError)
-    → Refines old new process k result → new.drivers ≡ old.drivers
-same_drivers old new process k (Ok r) refines = refines.0
-same_drivers old new process k (Err (step_error.Refused f)) refines = ap (λ (m : Machine). m.drivers) refines.0
-same_drivers old new process k (Err step_error.NoMemory) refines = ap (λ (m : Machine). m.drivers) refines.0
-
 -- if the reply is a fault, the configuration after settling is the one before the command
 pub fault_keeps : (old mid new : Machine) (process : ℕ) (k : Command) (result : Result Reply StepError) (r : Reply)
     (f : Fault) → result ≡ Ok r → Refines old mid process k result
@@ -370,8 +354,3 @@ fault_keeps old mid new process k result r f is refines settled law fault =
     settled ∙ (ap moved here.0 ∙ ap with left) where
       moved : List DriverSpec → Machine
       moved ds = record { drivers = ds; configuration = after_settling ds mid.configuration }
-
--- whether a command is accepted doesn't depend on the place to which its reply is written
-pub is_ok_of : (answer : Result (Unit {0}) StepError) (r : Reply) → is_ok (answer_of answer r) ≡ is_ok answer
-is_ok_of (Ok u) r = refl
-is_ok_of (Err e) r = refl

@@ -58,12 +58,6 @@ pub record AreMarks (drivers : List DriverSpec) (c : Configuration) (m : Marks) 
 abbrev pub HasNoBit : BitTable → Type 0
 HasNoBit b = (n : ℕ) → has_bit b n ≡ false
 
--- the least marked number
-pub record IsLeastBit (b : BitTable) (n : ℕ) : Type 0 where
-  pub below : n < b.count
-  pub marked : has_bit b n ≡ true
-  pub least : (m : ℕ) → m < n → has_bit b m ≡ false
-
 -- the first message on this side of a stream of the driver has this address
 abbrev pub asks_at : Configuration → ℕ → Side → ℕ → Place → Bool
 asks_at c driver s addr p =

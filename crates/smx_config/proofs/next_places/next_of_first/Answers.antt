@@ -4,12 +4,6 @@ use Rattle.smx_config.proofs.PlaceNumberLemmas.{place_of_number}
 use Rattle.smx_config.proofs.WayLemmas.{next_number, way_of_first}
 use Rattle.smx_config.proofs.next_places.next_of_first.Goals as goal
 
-pub returns-clause-value : goal.returns-clause-value
-returns-clause-value c = λ p at.
-    way_of_first c.args.tables.now.drivers c.args.tables.now.configuration p c.in_ok-message.message.now
-    c.way_from.result (sym (c.front_at.ensures p at) ∙ ap option_copied c.in_ok-message.was)
-    (c.way_from.ensures.value p at)
-
 pub returns-clause-number : goal.returns-clause-number
 returns-clause-number c =
     let here = place_of_number c.args.tables.now.drivers c.args.n c.requires.number in

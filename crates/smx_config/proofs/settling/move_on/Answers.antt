@@ -1,4 +1,4 @@
-use Rattle.std.proofs.Common.{◌≡◌, ◌∙◌, true, refl, sym, subst, inl, inr, ℕ, arith}
+use Rattle.std.proofs.Common.{◌≡◌, ◌∙◌, true, sym, subst, inl, inr, ℕ, arith}
 use Rattle.std.proofs.lemmas.Bool.{false≢true}
 use Rattle.smx_types.specs.declared.stream.Place.{Place}
 use Rattle.smx_model.specs.Configuration.{same_place}
@@ -109,13 +109,3 @@ mark_unless-requires c =
     (subst (λ (m : Machine). IsAt m.drivers c.args.next.from from) (sym value) from_at)).kept.over _
     c.requires.marks.over in
     omega (arith, over.run, at_number drivers c.args.next.to c.requires.open.to c.requires.open.to_at)
-
-pub returns-clause-value : goal.returns-clause-value
-returns-clause-value c = λ p there.
-    let drivers = c.args.tables.now.drivers in
-    let before = c.args.tables.now.configuration in
-    let from = c.requires.open.from in
-    let from_at = c.requires.open.from_at in
-    let value = moved (goal.at.returns-clause-value c).After-carry in
-    subst (λ (x : Place). c.carry.new.self ≡ record c.args.tables.now { configuration = after_move drivers before x })
-    (one_place drivers c.args.next.from c.args.next.from from p from_at there refl) value

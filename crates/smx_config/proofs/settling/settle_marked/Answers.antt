@@ -1,6 +1,4 @@
 use Rattle.std.proofs.Common.{◌≡◌, ◌∙◌, arith, ap, refl, subst, sym}
-use Rattle.std.proofs.lemmas.Nat.{mul-lt}
-use Rattle.std.specs.Prelude.{◌^◌}
 use Rattle.smx_model.specs.Settling.{IsSettled, after_settling}
 use Rattle.smx_model.proofs.KeptLemmas.{moved_sound, settled_kept}
 use Rattle.smx_commands.specs.Machine.{Machine}
@@ -9,9 +7,6 @@ use Rattle.smx_config.proofs.SettleLemmas.{settled_one, settled_to, within_zero}
 use Rattle.smx_config.proofs.NextMoveLemmas.{none_left}
 use Rattle.smx_config.proofs.WayLemmas.{hops_kept, move_keeps}
 use Rattle.smx_config.proofs.settling.settle_marked.Goals as goal
-
-pub overflow_mul-left : goal.overflow_mul-left
-overflow_mul-left c = omega (arith, mul-lt _ _ (2 ^ 64) (2 ^ 64) c.len.type_inv c.drivers.type_inv.0)
 
 pub loop-left-preserved : goal.loop-left-preserved
 loop-left-preserved c =
@@ -27,11 +22,6 @@ loop-left-preserved c =
       hops = rw value (hops_kept old.drivers old.configuration _ c.next_move.new.hops
           (move_keeps old.drivers old.configuration least.moves.from) c.next_move.ensures.hops);
     }
-
-pub returns-clause-value : goal.returns-clause-value
-returns-clause-value c = settled_to c.loop-left.tables c.args.tables.now _ c.loop-left.invariant.drivers
-    (within_zero c.loop-left.tables.drivers c.loop-left.left c.loop-left.tables.configuration _ (omega arith)
-    c.loop-left.invariant.comes_to)
 
 pub returns-clause-none : goal.returns-clause-none
 returns-clause-none c =

@@ -1,9 +1,6 @@
-use Rattle.std.proofs.Common.{refl, arith}
-use Rattle.smx_config.proofs.WakeLemmas.{all_kept, one_taken}
+use Rattle.std.proofs.Common.{arith}
+use Rattle.smx_config.proofs.WakeLemmas.{one_taken}
 use Rattle.smx_config.proofs.waking.mark_waiters.Goals as goal
-
-pub loop-waiter-init : goal.loop-waiter-init
-loop-waiter-init c = record { kept = all_kept c.args.marks.now c.requires.listed; wanted = refl }
 
 pub loop-waiter-preserved : goal.loop-waiter-preserved
 loop-waiter-preserved c =

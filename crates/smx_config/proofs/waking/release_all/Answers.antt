@@ -1,9 +1,6 @@
-use Rattle.smx_config.proofs.WakeLemmas.{all_kept, all_released, kept_both}
+use Rattle.smx_config.proofs.WakeLemmas.{all_released, kept_both}
 use Rattle.smx_config.proofs.PlaceNumberLemmas.{place_of_number}
 use Rattle.smx_config.proofs.waking.release_all.Goals as goal
-
-pub loop-n-init : goal.loop-n-init
-loop-n-init c = all_kept c.args.marks.now c.requires.listed
 
 pub loop-n-preserved : goal.loop-n-preserved
 loop-n-preserved c =

@@ -1,25 +1,12 @@
-use Rattle.std.proofs.Common.{rules, List, Result, sym, subst, ap, ◌∙◌}
-use Rattle.smx_types.specs.declared.driver.DriverSpec.{DriverSpec}
+use Rattle.std.proofs.Common.{rules, Result, sym, ap, ◌∙◌}
 use Rattle.smx_model.proofs.FullPlaceLemmas.{step_filled}
 use Rattle.smx_model.proofs.KeptLemmas.{step_keeps}
 use Rattle.smx_model.proofs.RefusalLemmas.{refused_same}
 use Rattle.smx_commands.specs.Refinement.{answer_of}
 use Rattle.smx_commands.specs.declared.step_error.StepError.{StepError}
-use Rattle.smx_config.specs.Marking.{AreOver}
-use Rattle.smx_config.proofs.WayLemmas.{performed}
-use Rattle.smx_config.proofs.WokenLemmas.{fault_keeps, is_ok_of, same_drivers, sound_if, stepped, unchanged}
-use Rattle.smx_config.proofs.WokenLemmas.{woken_if}
+use Rattle.smx_config.proofs.WokenLemmas.{fault_keeps, sound_if, stepped, woken_if}
 use Rattle.smx_config.proofs.config.Config.perform.Goals as goal
 use Rattle.smx_config.proofs.config.Config.perform.Goals.{then-is_ok, else-is_ok}
-
-pub wake-requires-clause-over : goal.wake-requires-clause-over
-wake-requires-clause-over c = subst (λ (ds : List DriverSpec). AreOver ds c.self.inside.marks)
-    (sym (same_drivers c.self.inside.tables c.perform-answer.new.self c.args.process c.args.command.now
-    (answer_of c.perform-answer.result c.perform-answer.new.reply) c.perform-answer.ensures.refines))
-    c.self.invariant.marks.over
-
-pub wake-requires-clause-listed : goal.wake-requires-clause-listed
-wake-requires-clause-listed c = c.self.invariant.marks.listed
 
 pub settle-requires-clause-sound : goal.settle-requires-clause-sound
 settle-requires-clause-sound c =
@@ -33,14 +20,6 @@ settle-requires-clause-marks c =
     c.perform-answer.new.reply c.wakes_of-wakes.result c.self.inside.marks c.wake.new.marks
     (sym c.is_ok.ensures.value ∙ c.if-is_ok.true) c.perform-answer.ensures.refines c.wakes_of-wakes.ensures
     c.self.invariant.kept.sound c.self.invariant.filled c.self.invariant.marks c.wake.ensures
-
-pub settle-requires-clause-hops : goal.settle-requires-clause-hops
-settle-requires-clause-hops c =
-    let old = c.self.inside.tables in
-    performed old c.perform-answer.new.self c.args.process c.args.command.now c.perform-answer.result
-    c.perform-answer.new.reply c.forget_changed.new.hops (sym c.is_ok.ensures.value ∙ c.if-is_ok.true)
-    c.perform-answer.ensures.refines (λ d is. c.forget_changed.ensures old.drivers old.configuration d c.args.process
-    c.perform-answer.new.reply c.self.invariant.kept.sound.swept c.self.invariant.hops is)
 
 pub invariant_of-self : goal.invariant_of-self
 invariant_of-self c =
@@ -56,21 +35,6 @@ invariant_of-self c =
       marks = c.settle.ensures.marks;
       hops = c.settle.ensures.hops;
       none = c.settle.ensures.none;
-    }
-
-pub invariant_of-self-else-is_ok : goal.invariant_of-self-else-is_ok
-invariant_of-self-else-is_ok c =
-    let there = c.perform-answer.new.reply in
-    let same = unchanged c.self.inside.tables c.perform-answer.new.self c.args.process c.args.command.now
-    (answer_of c.perform-answer.result there)
-    (is_ok_of c.perform-answer.result there ∙ sym c.is_ok.ensures.value ∙ c.if-is_ok.false)
-    c.perform-answer.ensures.refines in
-    record {
-      kept = rw same c.self.invariant.kept;
-      filled = rw same c.self.invariant.filled;
-      marks = rw same c.self.invariant.marks;
-      hops = rw same c.self.invariant.hops;
-      none = c.self.invariant.none;
     }
 
 pub returns-in-Ok-clause-fault : goal.returns-in-Ok-clause-fault
