@@ -13,13 +13,10 @@ pub mod LeastVersionLemmas
 pub mod ProgramsVersionLemmas
 pub mod ProgramsGrammarLemmas
 pub mod TranscriptDrafts
-pub mod TranscriptDraftLemmas
+pub mod TranscriptMachineLemmas
 pub mod TranscriptVersionLemmas
 pub mod TranscriptWholeLemmas
-pub mod TranscriptFollowLemmas
-pub mod TranscriptLemmas
 pub mod TranscriptGrammarLemmas
-pub mod TranscriptDecidedLemmas
 pub mod WritingLemmas
 pub mod GrowingLemmas
 pub mod WorkedFaultLemmas

@@ -67,6 +67,14 @@ module _ {V K D : Type 0} (m : Machine V K D) (end : K) where
       let more = rw (append_assoc, ← first.2) at (each line_of put one (xs ++ y ∷ []) ys) in
       ((first.0, first.1, more.0), more.1)
 
+  -- such lines and more lines lead to a draft, if the other lines lead to it after all the values
+  pub group : {X : Type 0} (line_of : X → K) (put : List X → D)
+      → ((xs : List X) (x : X) → (m.takes (put xs) (line_of x) ≡ true) × (line_of x ≢ end)
+      × (m.with_line (put xs) (line_of x) ≡ put (xs ++ x ∷ [])))
+      → (xs : List X) (rest : List K) (e : D) → Leads (put xs) rest e → Leads (put []) (map line_of xs ++ rest) e
+  group line_of put one xs rest e later =
+      joined (put []) (put xs) e (map line_of xs) rest (each line_of put one [] xs) later
+
 -- The machine reads the texts of this grammar.
 pub record IsReader {V K D : Type 0} (g : Grammar V K) (m : Machine V K D) : Type 0 where
   pub no_lines : m.lines m.start ≡ []

@@ -1,6 +1,6 @@
 -- A programs text is read by a machine that accepts one line after another.
 use Rattle.std.proofs.Common.{◌≡◌, ◌≢◌, ◌+◌, ◌-◌, ◌<◌, ◌≤◌, ◌==◌, Bool, true, false, nat_le, nat_lt, List, [], ◌∷◌, ◌++◌}
-use Rattle.std.proofs.Common.{length, map, get_or, refl, sym, ap, subst, append_assoc, arith, rules}
+use Rattle.std.proofs.Common.{length, get_or, refl, sym, ap, subst, append_assoc, arith, rules}
 use Rattle.std.specs.List.{sum_by}
 use Rattle.std.proofs.Math.ListN.{set}
 use Rattle.std.proofs.Math.Seq.{get_or-append_seam, set-append_seam}
@@ -19,7 +19,7 @@ use Rattle.smx_text.specs.ProgramLines.{Line}
 use Rattle.smx_text.specs.ProgramLines as line
 use Rattle.smx_text.specs.ProgramsText.{program_lines, body, IsAllowed, programs_grammar}
 use Rattle.smx_text.proofs.BodyLemmas.{added_process, lines_more}
-use Rattle.smx_text.proofs.MachineLemmas.{Machine, IsReader, IsAt, Leads, joined, each, finished}
+use Rattle.smx_text.proofs.MachineLemmas.{Machine, IsReader, IsAt, Leads, group, finished}
 use Rattle.smx_text.proofs.ProgramsVersionLemmas.{least_is_first}
 
 -- a driver before any process, a process with the next number, a command after a process, or the end
@@ -170,11 +170,10 @@ module _ (version : Version) (ds : List DriverSpec) where
       (program_lines (length ps) qs) (having (ps ++ qs))
   leads_on ps [] = (tt, ap having (sym (append-nil ps)))
   leads_on ps (q ∷ qs) =
-      let own = each (machine version) line.End line.Command (λ (cs : List Command). having (ps ++ cs ∷ []))
-      (λ cs c. (some cs, (λ e. cc), ap having (last_seam ps cs c))) [] q in
       let long : length (ps ++ q ∷ []) ≡ length ps + 1 = omega (arith, length-append ps (q ∷ [])) in
       let later = rw (long, append_assoc) at (leads_on (ps ++ q ∷ []) qs) in
-      let both = joined (machine version) line.End _ _ _ (map line.Command q) (program_lines (length ps + 1) qs) own later in
+      let both = group (machine version) line.End line.Command (λ (cs : List Command). having (ps ++ cs ∷ []))
+      (λ cs c. (some cs, (λ e. cc), ap having (last_seam ps cs c))) q _ _ later in
       ((grind (arith, nat_tests), (λ e. cc), both.0), both.1) where
         some : (cs : List Command) → nat_lt 0 (length (ps ++ cs ∷ [])) ≡ true
         some cs = let long = length-append ps (cs ∷ []) in grind (arith, nat_tests)
@@ -183,11 +182,9 @@ module _ (version : Version) (ds : List DriverSpec) where
 leads : (version : Version) (v : ProgramLists)
     → Leads (machine version) line.End (machine version).start (body v) ((machine version).whole v)
 leads version v =
-    joined (machine version) line.End _ _ _ (map line.Driver v.drivers) (program_lines 0 v.programs)
-    (each (machine version) line.End line.Driver
+    group (machine version) line.End line.Driver
     (λ (ds : List DriverSpec). record { version = version; drivers = ds; programs = [] })
-    (λ ds d. (refl, (λ e. cc), refl)) [] v.drivers)
-    (leads_on version v.drivers [] v.programs)
+    (λ ds d. (refl, (λ e. cc), refl)) v.drivers (program_lines 0 v.programs) _ (leads_on version v.drivers [] v.programs)
 
 -- the machine reads the programs text
 pub reader : (version : Version) → IsReader (programs_grammar version) (machine version)

@@ -31,10 +31,9 @@ use Rattle.smx_text.proofs.ProgramsGrammarLemmas.{refused_line}
 use Rattle.smx_text.proofs.MachineLemmas.{too_many}
 use Rattle.smx_text.proofs.ProgramsMachineLemmas.{stands}
 use Rattle.smx_text.proofs.ReadingLemmas.{beginning_more}
-use Rattle.smx_text.proofs.TranscriptDraftLemmas.{draft}
-use Rattle.smx_text.proofs.TranscriptDrafts.{new_view, is_full}
+use Rattle.smx_text.proofs.TranscriptDrafts.{draft, new_view, is_full}
 use Rattle.smx_text.proofs.TranscriptGrammarLemmas.{refused_line as refused_transcript_line}
-use Rattle.smx_text.proofs.TranscriptLemmas.{too_many as too_many_of_a_transcript}
+use Rattle.smx_text.proofs.TranscriptMachineLemmas.{stands as stands_at}
 use Rattle.smx_text.proofs.TranscriptVersionLemmas.{needs_no_later}
 use Rattle.smx_text.proofs.TranscriptWholeLemmas.{spellable_allowed}
 use Rattle.smx_text.proofs.WorkedFaultLemmas.{wrong_programs, wrong_transcript}
@@ -214,7 +213,7 @@ too_many_of_transcript version n most as_many =
           (lines_are version n)
           (refused_transcript_line version (lines (behind_drivers version n)) (line.Driver ip) driver_text ip_fits
           (sym (driver_of_transcript_is version)) cause.Many
-          (too_many_of_a_transcript (behind_drivers version n) (line.Driver ip) refl as_many))
+          (too_many (stands_at (behind_drivers version n)) (line.Driver ip) refl as_many))
 
 -- in a transcript of version 1, a 65th driver is over the limit
 pub driver_65_of_a_transcript : IsWrongTranscript (with_drivers (codes "transcript 1\n") 65) 66 cause.Many
