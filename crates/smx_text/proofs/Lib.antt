@@ -7,7 +7,6 @@ pub mod GrammarLemmas
 pub mod HasReadingLemmas
 pub mod MachineLemmas
 pub mod ProgramsMachineLemmas
-pub mod MemoryLemmas
 pub mod VersionLemmas
 pub mod LeastVersionLemmas
 pub mod ProgramsVersionLemmas
