@@ -1,5 +1,5 @@
 -- In a programs text, a line's text determines the line.
-use Rattle.std.proofs.Common.{◌≡◌, ◌≢◌, ℕ, Result, Bool, true, false, ◌||◌, List, refl, sym, ap, ◌∙◌, arith, rules}
+use Rattle.std.proofs.Common.{◌≡◌, ◌≢◌, ℕ, Result, Bool, true, false, ◌||◌, List, refl, sym, ap, arith, rules, inl, inr}
 use Rattle.std.specs.Prelude.{codes}
 use Rattle.std.specs.Str.{bytes_eq}
 use Rattle.smx_types.specs.declared.command.Command.{Command}
@@ -16,15 +16,18 @@ use Rattle.smx_text.specs.ProgramLines.{Line}
 use Rattle.smx_text.specs.ProgramLines as line
 use Rattle.smx_text.specs.ProgramsText.{line_words, FitsLine, programs_grammar}
 use Rattle.smx_text.proofs.GrammarLemmas.{IsWellMade}
-use Rattle.smx_text.proofs.ProgramsOrderLemmas.{end_is_last}
-use Rattle.smx_text.proofs.ProgramsValueLemmas.{one_value}
+use Rattle.smx_text.proofs.HasReadingLemmas.{HasReading, by_reading}
+use Rattle.smx_text.proofs.MachineLemmas.{IsLineOrNot, well_made as made_by, reads}
+use Rattle.smx_text.proofs.ProgramsMachineLemmas.{reader}
 use Rattle.smx_words.specs.Words.{AreWords}
 use Rattle.smx_words.proofs.DecidedCommandLemmas.{command_has_words}
-use Rattle.smx_words.proofs.DecidedLemmas.{one_line}
+use Rattle.smx_words.proofs.DecidedLemmas.{one_line, reading}
 use Rattle.smx_words.proofs.DecidedLineLemmas.{driver_has_words, process_has_words}
+use Rattle.smx_words.proofs.InVersionLemmas.{reading_in}
 use Rattle.smx_words.proofs.PlainLemmas.{some_command}
 use Rattle.smx_text.proofs.VersionLemmas.{AreVersions}
-use Rattle.smx_text.proofs.LineWordLemmas.{one_spelling, first_word, end_spelled, one_line_of, differ}
+use Rattle.smx_text.proofs.LineWordLemmas.{one_spelling, first_word, end_spelled, differ}
+use Rattle.smx_types.specs.Versions.{is_hangup}
 use Rattle.smx_types.specs.declared.version.Version.{Version}
 use Rattle.smx_types.specs.declared.version.Version.TheVariants.{V1, V2}
 
@@ -114,16 +117,25 @@ header_is_line V2 = search rules
 
 -- the programs text is well made: a line's text determines it, each is one line, and lines determine the programs
 pub well_made : (version : Version) → IsWellMade (programs_grammar version)
-well_made version = record {
-  header_line = header_is_line version;
-  one_line = λ k fits. one_line_of (line_words k) (spelling version k fits);
-  tells_apart = tells_apart version;
-  fits = λ v allowed. allowed.fits;
-  fits_end = tt;
-  end_is_last = end_is_last;
-  one_value = λ v w allowed also e. one_value v w (allowed.version_is ∙ sym also.version_is) e;
-}
+well_made version = made_by (reader version) (tells_apart version) tt (header_is_line version) (spelling version)
 
 -- the grammars of programs are well made in both versions, and their headers differ
 pub versions : AreVersions programs_grammar
 versions = record { made = well_made; differ = differ (codes "programs 1") (codes "programs 2") refl }
+
+-- a text other than the end is that of a line that fits, or of no line of programs
+line_or_not : (version : Version) (lines : List Line) (text : List ℕ)
+    → text ≢ line_text (programs_grammar version) line.End → IsLineOrNot (programs_grammar version) lines text
+line_or_not version lines text other =
+    by_reading command_words (reading_in command_has_words is_hangup version text some_command)
+    (λ c fits is. inl (line.Command c, fits, is)) (λ commands.
+    by_reading driver_words (reading driver_has_words (λ x. omega arith) text)
+    (λ d fits is. inl (line.Driver d, fits, is)) (λ drivers.
+    by_reading process_words (reading process_has_words (λ x. omega arith) text)
+    (λ n fits is. inl (line.Process n, fits, is)) (λ processes.
+    inr (no_line version lines text commands drivers processes other))))
+
+-- any bytes spell programs of this version, or have a first fault other than out of memory
+pub programs_have_reading : (version : Version) (bytes : List ℕ) → HasReading (programs_grammar version) bytes
+programs_have_reading version =
+    reads (reader version) (tells_apart version) tt (well_made version) (line_or_not version)

@@ -1,14 +1,12 @@
 -- In a transcript text, a line's text determines the line.
-use Rattle.std.proofs.Common.{◌≡◌, ◌≢◌, ℕ, Bool, true, false, Result, Some, ◌++◌, List}
-use Rattle.std.proofs.Common.{[], ◌∷◌, refl, sym, ap, ◌∙◌, arith, rules}
-use Rattle.std.specs.Prelude.{codes, OnOk, IfErr, if◌then◌else◌}
+use Rattle.std.proofs.Common.{◌≡◌, ◌≢◌, ℕ, true, Result, List}
+use Rattle.std.proofs.Common.{refl, sym, ap, ◌∙◌, arith, rules, inl, inr}
+use Rattle.std.specs.Prelude.{codes, if◌then◌else◌}
 use Rattle.std.specs.Str.{bytes_eq, all_ascii_digits}
 use Rattle.std.proofs.lemmas.Fmt.{digits_decimal}
 use Rattle.smx_types.specs.declared.command.Entry.{Entry}
 use Rattle.smx_types.specs.declared.driver.DriverSpec.{DriverSpec}
-use Rattle.smx_types.specs.declared.transcript.Transcript.{Transcript}
 use Rattle.smx_types.specs.declared.view.BindingLine.{BindingLine}
-use Rattle.smx_types.specs.declared.view.ConfigView.{ConfigView}
 use Rattle.smx_types.specs.declared.view.DescriptorLine.{DescriptorLine}
 use Rattle.smx_types.specs.declared.version.Version.{Version}
 use Rattle.smx_types.specs.declared.version.Version.TheVariants.{V1, V2}
@@ -23,29 +21,27 @@ use Rattle.smx_words.specs.Spelling.{route_words, message_words, full_words, hun
 use Rattle.smx_words.specs.Spellable.{FitsDriver, FitsEntryIn, FitsDescriptor, FitsLink, FitsBinding}
 use Rattle.smx_words.specs.Spellable.{FitsRoute, FitsMessage, FitsFull, FitsNext}
 use Rattle.smx_text.specs.declared.text_fault.Cause.{Cause}
-use Rattle.smx_text.specs.declared.text_fault.Cause.TheVariants as cause
-use Rattle.smx_text.specs.declared.transcript.draft.Stage.TheVariants as stage
-use Rattle.smx_text.specs.declared.transcript.draft.TranscriptDraft.{TranscriptDraft}
-use Rattle.smx_text.specs.Drafts.{grammar_of, lines}
-use Rattle.smx_text.specs.Grammar.{IsBegun, IsNoLine, IsOneLine, header, line_text}
+use Rattle.smx_text.specs.Grammar.{IsNoLine, IsOneLine, header, line_text}
 use Rattle.smx_text.specs.Reading.{Refuses, RefusesLine, AnswersLine, AnswersText}
 use Rattle.smx_text.specs.TranscriptLines.{TranscriptLine}
 use Rattle.smx_text.specs.TranscriptLines as line
-use Rattle.smx_text.specs.TranscriptText.{line_words, FitsHungIn, FitsLine, body, transcript_grammar}
+use Rattle.smx_text.specs.TranscriptText.{line_words, FitsHungIn, FitsLine, transcript_grammar}
 use Rattle.smx_text.proofs.GrammarLemmas.{IsWellMade}
+use Rattle.smx_text.proofs.HasReadingLemmas.{HasReading, by_reading}
 use Rattle.smx_text.proofs.ReadingLemmas.{refuses, answers}
-use Rattle.smx_text.proofs.TranscriptDrafts.{new_draft, takes, is_full, with_line, with_view}
-use Rattle.smx_text.proofs.TranscriptDraftLemmas.{draft, run, run_append, run_body, taken}
-use Rattle.smx_text.proofs.TranscriptLemmas.{misplaced, some_of, is_group, group_answers}
+use Rattle.smx_text.proofs.MachineLemmas.{IsLineOrNot, well_made as made_by, reads}
+use Rattle.smx_text.proofs.TranscriptMachineLemmas.{reader}
 use Rattle.smx_text.proofs.VersionLemmas.{AreVersions}
-use Rattle.smx_text.proofs.LineWordLemmas.{one_spelling, first_word, end_spelled, config_spelled, one_line_of, differ}
+use Rattle.smx_text.proofs.LineWordLemmas.{one_spelling, first_word, end_spelled, config_spelled, differ}
 use Rattle.smx_words.specs.Words.{AreWords}
 use Rattle.smx_words.proofs.NumberLemmas.{own}
 use Rattle.smx_words.proofs.DecidedCommandLemmas.{entry_has_words}
-use Rattle.smx_words.proofs.DecidedLemmas.{one_line}
+use Rattle.smx_words.proofs.DecidedLemmas.{one_line, reading, same_or_not}
 use Rattle.smx_words.proofs.DecidedLineLemmas.{bind_has_words, descriptor_has_words, driver_has_words, full_has_words}
 use Rattle.smx_words.proofs.DecidedLineLemmas.{hung_has_words, link_has_words, message_has_words, next_has_words}
 use Rattle.smx_words.proofs.DecidedLineLemmas.{route_has_words}
+use Rattle.smx_words.proofs.InVersionLemmas.{reading_in}
+use Rattle.smx_types.specs.Versions.{is_of_hangup}
 
 -- ---- kinds of lines, by their first words
 
@@ -132,25 +128,6 @@ module _ (version : Version) where
 
 -- ---- the whole text
 
--- the line `end` is not among the lines of a transcript between the header and the end
-end_is_last : (t : Transcript) (ls more : List TranscriptLine) → body t ≡ ls ++ line.End ∷ more → ⊥
-end_is_last t ls more e =
-    let start = new_draft t.version in
-    let all = sym (ap (run start) e) ∙ run_body t in
-    let d = some_of (run start ls) (line.End ∷ more) (draft stage.View t)
-    (sym (run_append start ls (line.End ∷ more)) ∙ all) in
-    let last = taken d.0 (draft stage.View t) line.End more d.2 in
-    absurd (cc last.1)
-
--- two transcripts of one version with the same lines are equal
-one_value : (t u : Transcript) → t.version ≡ u.version → body t ≡ body u → t ≡ u
-one_value t u version e =
-    same_value (sym (run_body t) ∙ ap (run (new_draft t.version)) e
-    ∙ ap (λ (v : Version). run (new_draft v) (body u)) version ∙ run_body u) where
-      same_value : Some (draft stage.View t) ≡ Some (draft stage.View u) → t ≡ u
-      same_value e = let same : draft stage.View t ≡ draft stage.View u = cc e in
-          ap (λ (d : TranscriptDraft). d.transcript) same
-
 -- the header of a transcript contains no line feed
 header_is_line : (version : Version) → IsOneLine (header (transcript_grammar version))
 header_is_line V1 = search rules
@@ -158,15 +135,7 @@ header_is_line V2 = search rules
 
 -- the transcript text is well made: a line's text determines it, each is one line, and lines determine the transcript
 pub well_made : (version : Version) → IsWellMade (transcript_grammar version)
-well_made version = record {
-  header_line = header_is_line version;
-  one_line = λ k fits. one_line_of (line_words k) (spelling version k fits);
-  tells_apart = tells_apart version;
-  fits = λ t allowed. allowed.fits;
-  fits_end = tt;
-  end_is_last = end_is_last;
-  one_value = λ t u allowed also e. one_value t u (allowed.version_is ∙ sym also.version_is) e;
-}
+well_made version = made_by (reader version) (tells_apart version) tt (header_is_line version) (spelling version)
 
 -- the grammars of transcripts are well made in both versions, and their headers differ
 pub versions : AreVersions transcript_grammar
@@ -180,32 +149,12 @@ pub answers_line : {A : Type 0} (version : Version) (ls longer : List Transcript
     → AnswersLine (transcript_grammar version) ls k longer r → AnswersText (transcript_grammar version) ls text longer r
 answers_line version = answers (transcript_grammar version) (tells_apart version)
 
--- the result for the text of a line of a group: a function appends it to its group, if it may follow
-pub group_text : {A X : Type 0} (d : TranscriptDraft) (k : TranscriptLine) (text : List ℕ)
-    → IsBegun (grammar_of d) (lines d) → is_group k ≡ true → is_full d k ≡ false → k ≢ line.End
-    → (put : List X → ConfigView) (old new : List X) (x : X) (takes_it : Bool) → takes_it ≡ takes d k
-    → with_line d k ≡ with_view d (put (old ++ x ∷ []))
-    → FitsLine d.transcript.version k × (text ≡ line_text (grammar_of d) k)
-    → (r : Result A Cause) → OnOk r ((takes_it ≡ true) × (new ≡ old ++ x ∷ []))
-    → IfErr r (λ why. why ≡ (if takes_it then cause.NoMemory else cause.Form))
-    → AnswersText (grammar_of d) (lines d) text (lines (draft d.stage (record d.transcript { view = put new }))) r
-group_text d k text begun group room other put old new x takes_it may is spelled r ok err =
-    answers_line d.transcript.version (lines d) (lines (draft d.stage (record d.transcript { view = put new }))) k text
-    spelled r (group_answers d k begun group room other put old new x takes_it may is spelled.0 r ok err)
-
 -- a cause for which a line is refused is one for which its text is refused
 pub refused_line : (version : Version) (ls : List TranscriptLine) (k : TranscriptLine) (text : List ℕ)
     → FitsLine version k → text ≡ line_text (transcript_grammar version) k → (why : Cause)
     → RefusesLine (transcript_grammar version) ls k why → Refuses (transcript_grammar version) ls text why
 refused_line version ls k text fits is why h =
     refuses (transcript_grammar version) (tells_apart version) ls k text fits is why h
-
--- if a draft doesn't accept the end, a text may not end after its lines
-pub not_at_end : (d : TranscriptDraft) → takes d line.End ≡ false
-    → IsNoLine (grammar_of d) (lines d) (line_text (grammar_of d) line.End)
-not_at_end d h =
-    refused_line d.transcript.version (lines d) line.End (line_text (grammar_of d) line.End) tt refl cause.Form
-    (misplaced d line.End h)
 
 -- a text that is no line of a transcript, kind by kind
 module _ (version : Version) (ls : List TranscriptLine) (text : List ℕ)
@@ -235,3 +184,38 @@ module _ (version : Version) (ls : List TranscriptLine) (text : List ℕ)
   no_line (line.Full x) fits may is = fulls x fits is
   no_line (line.Hung x) fits may is = hungs x fits is
   no_line line.End fits may is = end is
+
+-- a text other than the end is that of a line that fits, or of no line of a transcript
+line_or_not : (version : Version) (ls : List TranscriptLine) (text : List ℕ)
+    → text ≢ line_text (transcript_grammar version) line.End → IsLineOrNot (transcript_grammar version) ls text
+line_or_not version ls text other =
+    by_reading entry_words (reading_in entry_has_words is_of_hangup version text (λ x. omega arith))
+    (λ x fits is. inl (line.Entry x, fits, is)) (λ entries.
+    by_reading message_words (reading message_has_words (λ x. omega arith) text)
+    (λ x fits is. inl (line.Msg x, fits, is)) (λ messages.
+    by_reading driver_words (reading driver_has_words (λ x. omega arith) text)
+    (λ x fits is. inl (line.Driver x, fits, is)) (λ drivers.
+    by_reading next_words (reading next_has_words (λ x. omega arith) text)
+    (λ x fits is. inl (line.Next x.0 x.1, fits, is)) (λ nexts.
+    by_reading descriptor_words (reading descriptor_has_words (λ x. omega arith) text)
+    (λ x fits is. inl (line.Fd x, fits, is)) (λ fds.
+    by_reading link_words (reading link_has_words (λ x. omega arith) text)
+    (λ x fits is. inl (line.Link x, fits, is)) (λ links.
+    by_reading bind_words (reading bind_has_words (λ x. omega arith) text)
+    (λ x fits is. inl (line.Bind x, fits, is)) (λ binds.
+    by_reading route_words (reading route_has_words (λ x. omega arith) text)
+    (λ x fits is. inl (line.Route x, fits, is)) (λ routes.
+    by_reading full_words (reading full_has_words (λ x. omega arith) text)
+    (λ x fits is. inl (line.Full x, fits, is)) (λ fulls.
+    by_reading hung_words (reading_in hung_has_words (λ x. true) version text (λ x. omega arith))
+    (λ x fits is. inl (line.Hung x, fits, is)) (λ hungs.
+    elim (same_or_not text (line_text (transcript_grammar version) line.Config)) [
+      | inl is ↦ inl (line.Config, tt, is)
+      | inr config ↦ inr (no_line version ls text entries messages drivers config nexts fds links binds routes fulls
+          hungs other)
+    ]))))))))))
+
+-- any bytes spell a transcript of this version, or have a first fault other than out of memory
+pub transcripts_have_reading : (version : Version) (bytes : List ℕ) → HasReading (transcript_grammar version) bytes
+transcripts_have_reading version =
+    reads (reader version) (tells_apart version) tt (well_made version) (line_or_not version)

@@ -1,9 +1,10 @@
 -- Texts with one driver over the limit of their version.
 use Rattle.std.proofs.Common.{◌≡◌, ℕ, zero, suc, ◌+◌, ◌≤◌, List, [], ◌∷◌, ◌++◌, length, map, refl, sym, ap, subst}
-use Rattle.std.proofs.Common.{◌∙◌, append_assoc, arith, rules, true}
+use Rattle.std.proofs.Common.{◌∙◌, append_assoc, arith, rules, nat_le, true}
 use Rattle.std.specs.Fmt.{digits}
 use Rattle.std.specs.List.{AllByRecursion}
 use Rattle.std.specs.Prelude.{codes}
+use Rattle.std.proofs.lemmas.Bool.Decides.{nat_tests}
 use Rattle.std.proofs.lemmas.List.{append-nil, length-append, map_push}
 use Rattle.smx_types.specs.ProgramLists.{ProgramLists}
 use Rattle.smx_types.specs.Versions.{most_drivers}
@@ -27,12 +28,12 @@ use Rattle.smx_text.specs.TranscriptText.{IsAllowed, transcript_grammar}
 use Rattle.smx_text.specs.WorkedFaults.{AreWrongPrograms, IsWrongTranscript, driver_lines, with_drivers}
 use Rattle.smx_text.proofs.EachLemmas.{all_map, all_append}
 use Rattle.smx_text.proofs.ProgramsGrammarLemmas.{refused_line}
-use Rattle.smx_text.proofs.ProgramsLemmas.{too_many}
+use Rattle.smx_text.proofs.MachineLemmas.{too_many}
+use Rattle.smx_text.proofs.ProgramsMachineLemmas.{stands}
 use Rattle.smx_text.proofs.ReadingLemmas.{beginning_more}
-use Rattle.smx_text.proofs.TranscriptDraftLemmas.{draft}
-use Rattle.smx_text.proofs.TranscriptDrafts.{new_view, is_full}
+use Rattle.smx_text.proofs.TranscriptDrafts.{draft, new_view, is_full}
 use Rattle.smx_text.proofs.TranscriptGrammarLemmas.{refused_line as refused_transcript_line}
-use Rattle.smx_text.proofs.TranscriptLemmas.{too_many as too_many_of_a_transcript}
+use Rattle.smx_text.proofs.TranscriptMachineLemmas.{stands as stands_at}
 use Rattle.smx_text.proofs.TranscriptVersionLemmas.{needs_no_later}
 use Rattle.smx_text.proofs.TranscriptWholeLemmas.{spellable_allowed}
 use Rattle.smx_text.proofs.WorkedFaultLemmas.{wrong_programs, wrong_transcript}
@@ -140,6 +141,9 @@ too_many_drivers : (version : Version) (n : ℕ) → n ≡ most_drivers version
 too_many_drivers version n most =
     one_too_many (programs_grammar version) (row.Driver ip) (driver_is version) n
     (programs version n, [], are_allowed version n (omega (arith, most)), begins) full where
+      as_many : nat_le (most_drivers version) (length (repeated ip n)) ≡ true
+      as_many = let long = many ip n in grind (arith, nat_tests)
+
       begins : body (programs version n) ≡ repeated (row.Driver ip) n ++ []
       begins = body_is version n ∙ sym (append-nil (repeated (row.Driver ip) n))
 
@@ -148,7 +152,7 @@ too_many_drivers version n most =
           subst (λ (ls : List row.Line). IsOneTooMany (programs_grammar version) ls driver_text) (body_is version n)
           (refused_line version (body (programs version n)) (row.Driver ip) driver_text ip_fits
           (sym (driver_is version)) cause.Many
-          (too_many version (programs version n) (row.Driver ip) refl (omega (arith, many ip n, most))))
+          (too_many (stands (programs version n)) (row.Driver ip) refl as_many))
 
 -- in programs of version 1, a 65th driver is over the limit
 pub driver_65 : AreWrongPrograms (with_drivers (codes "programs 1\n") 65) 66 cause.Many
@@ -209,7 +213,7 @@ too_many_of_transcript version n most as_many =
           (lines_are version n)
           (refused_transcript_line version (lines (behind_drivers version n)) (line.Driver ip) driver_text ip_fits
           (sym (driver_of_transcript_is version)) cause.Many
-          (too_many_of_a_transcript (behind_drivers version n) (line.Driver ip) refl as_many))
+          (too_many (stands_at (behind_drivers version n)) (line.Driver ip) refl as_many))
 
 -- in a transcript of version 1, a 65th driver is over the limit
 pub driver_65_of_a_transcript : IsWrongTranscript (with_drivers (codes "transcript 1\n") 65) 66 cause.Many

@@ -2,6 +2,7 @@
 use Rattle.std.proofs.Common.{◌≡◌, ◌≢◌, ℕ, zero, suc, ◌+◌, ◌≤◌, List, [], ◌∷◌, ◌++◌, length, refl, sym, ap, subst}
 use Rattle.std.proofs.Common.{◌∙◌, append_assoc, arith, rules, inl, inr}
 use Rattle.std.specs.Fmt.{decimal}
+use Rattle.std.proofs.lemmas.Bool.Decides.{nat_tests}
 use Rattle.std.proofs.lemmas.List.{length-append}
 use Rattle.smx_types.specs.declared.command.Command.{Command}
 use Rattle.smx_words.specs.Words.{LINE_FEED}
@@ -19,9 +20,9 @@ use Rattle.smx_text.specs.ProgramLines.{Line}
 use Rattle.smx_text.specs.ProgramLines as line
 use Rattle.smx_text.specs.ProgramsText.{body, programs_grammar}
 use Rattle.smx_text.specs.WorkedFaults.{AreWrongPrograms, process_lines, with_line_4, with_processes}
-use Rattle.smx_text.proofs.ProgramsDecidedLemmas.{nothing_begun}
 use Rattle.smx_text.proofs.ProgramsGrammarLemmas.{refused_line}
-use Rattle.smx_text.proofs.ProgramsLemmas.{longer_begun, misplaced, too_many}
+use Rattle.smx_text.proofs.MachineLemmas.{longer_begun, misplaced, nothing_begun, too_many}
+use Rattle.smx_text.proofs.ProgramsMachineLemmas.{reader, stands}
 use Rattle.smx_text.proofs.BodyLemmas.{added_process}
 use Rattle.smx_text.proofs.ReadingLemmas.{beginning_more}
 use Rattle.smx_text.proofs.LineWordLemmas.{differ}
@@ -50,11 +51,11 @@ version_3 = wrong_in_each (λ version. (codes "programs 3", ([], search rules, r
 
 -- a header of version 1 with nothing after it is cut at line 2
 pub header_alone : AreWrongPrograms (codes "programs 1\n") 2 cause.Cut
-header_alone = wrong_programs V1 refl (codes "programs 1\n", [], inr ([], nothing_begun V1, refl, refl), tt, refl)
+header_alone = wrong_programs V1 refl (codes "programs 1\n", [], inr ([], nothing_begun (reader V1), refl, refl), tt, refl)
 
 -- a header of version 2 with nothing after it is cut at line 2
 pub version_2_alone : AreWrongPrograms (codes "programs 2\n") 2 cause.Cut
-version_2_alone = wrong_programs V2 refl (codes "programs 2\n", [], inr ([], nothing_begun V2, refl, refl), tt, refl)
+version_2_alone = wrong_programs V2 refl (codes "programs 2\n", [], inr ([], nothing_begun (reader V2), refl, refl), tt, refl)
 
 -- ---- misplaced lines
 
@@ -68,7 +69,7 @@ unfolding digits
 out_of_turn =
     wrong_at_4 (codes "process 2") (search rules)
     (refused_line V1 (body before) (line.Process 2) _ (omega arith) refl cause.Form
-    (misplaced V1 before (line.Process 2) (λ e. omega (arith, e))))
+    (misplaced (stands before) (line.Process 2) refl))
 
 -- no driver comes after a process
 pub late_driver : AreWrongPrograms (with_line_4 (codes "driver eth leaf 2 8 3 16")) 4 cause.Form
@@ -76,7 +77,7 @@ unfolding digits
 late_driver =
     wrong_at_4 (codes "driver eth leaf 2 8 3 16") (search rules)
     (refused_line V1 (body before) (line.Driver eth) _ (search rules) refl cause.Form
-    (misplaced V1 before (line.Driver eth) (λ e. omega (arith, e))))
+    (misplaced (stands before) (line.Driver eth) refl))
 
 -- the line `clone ip`
 abbrev clone : Line
@@ -88,9 +89,9 @@ no_process =
     wrong_programs V1 refl (
       [],
       codes "clone ip",
-      record { begun = nothing_begun V1; next = (codes "end\n", search rules, refl); numbered = refl },
+      record { begun = nothing_begun (reader V1); next = (codes "end\n", search rules, refl); numbered = refl },
       refused_line V1 [] clone _ (search rules) refl cause.Form
-          (misplaced V1 (program_lists [] []) clone (λ e. omega (arith, e))),
+          (misplaced (stands (program_lists [] [])) clone refl),
     )
 
 -- ---- the end
@@ -159,8 +160,8 @@ begun_by zero most = (before, line.Process 0 ∷ [], before_allowed, refl)
 begun_by (suc n) most =
     let long = many {X = List Command} [] n in
     subst (IsBegun (programs_grammar V1)) (sym (body_of n))
-    (longer_begun V1 (processes n) (line.Process n) refl (begun_by n (omega (arith, most))) (sym long)
-    (omega (arith, long, most)) (omega (arith, most)))
+    (longer_begun (stands (processes n)) (line.Process n) (begun_by n (omega (arith, most)))
+    (grind (arith, nat_tests)) (grind (arith, nat_tests)) (omega (arith, most)) (λ e. cc))
 
 -- one driver and n processes without a command have n + 1 lines
 body_long : (n : ℕ) → length (body (processes n)) ≡ n + 1
@@ -197,5 +198,5 @@ process_65 =
         numbered = omega (arith, body_long 64);
       },
       refused_line V1 (body (processes 64)) (line.Process 64) (codes "process 64") (omega arith) refl cause.Many
-          (too_many V1 (processes 64) (line.Process 64) (sym long) (omega (arith, long))),
+          (too_many (stands (processes 64)) (line.Process 64) refl refl),
     )

@@ -37,11 +37,11 @@ use Rattle.smx_text.specs.TranscriptLines.{TranscriptLine}
 use Rattle.smx_text.specs.TranscriptLines as line
 use Rattle.smx_text.specs.TranscriptText.{FitsLine, line_words, transcript_grammar}
 use Rattle.smx_text.specs.WorkedFaults.{IsWrongTranscript, with_line_3, with_line_5}
-use Rattle.smx_text.proofs.TranscriptDraftLemmas.{draft}
-use Rattle.smx_text.proofs.TranscriptDrafts.{new_view, takes}
-use Rattle.smx_text.proofs.TranscriptGrammarLemmas.{kind_at, kind_first, kind_of, not_at_end, refused_line}
+use Rattle.smx_text.proofs.MachineLemmas.{misplaced, nothing_begun}
+use Rattle.smx_text.proofs.TranscriptDrafts.{draft, new_view, takes}
+use Rattle.smx_text.proofs.TranscriptGrammarLemmas.{kind_at, kind_first, kind_of, refused_line}
 use Rattle.smx_text.proofs.TranscriptGrammarLemmas.{spelling}
-use Rattle.smx_text.proofs.TranscriptLemmas.{misplaced, nothing_begun}
+use Rattle.smx_text.proofs.TranscriptMachineLemmas.{reader, stands}
 use Rattle.smx_text.proofs.LineWordLemmas.{first_word, differ}
 use Rattle.smx_text.proofs.WorkedFaultLemmas.{told, wrong_transcript, wrong_transcript_in_each}
 use Rattle.smx_words.proofs.DecidedCommandLemmas.{entry_has_words}
@@ -130,7 +130,7 @@ misplaced_at_5 : (text : List ℕ) → IsOneLine text → (k : TranscriptLine) �
     → text ≡ line_text (transcript_grammar V1) k → takes behind_link k ≡ false
     → IsWrongTranscript (with_line_5 text) 5 cause.Form
 misplaced_at_5 text one k fits is never =
-    wrong_at_5 text one (refused_line V1 (lines behind_link) k text fits is cause.Form (misplaced behind_link k never))
+    wrong_at_5 text one (refused_line V1 (lines behind_link) k text fits is cause.Form (misplaced (stands behind_link) k never))
 
 -- ---- misplaced lines
 
@@ -158,7 +158,7 @@ version_3 =
 -- a header of version 2 with nothing after it is cut at line 2
 pub version_2_alone : IsWrongTranscript (codes "transcript 2\n") 2 cause.Cut
 version_2_alone =
-    wrong_transcript V2 refl (codes "transcript 2\n", [], inr ([], nothing_begun V2, refl, refl), tt, refl)
+    wrong_transcript V2 refl (codes "transcript 2\n", [], inr ([], nothing_begun (reader V2), refl, refl), tt, refl)
 
 -- the line of descriptor 0 of process 0, open on minor 0 of `ip`
 abbrev descriptor : TranscriptLine
@@ -170,11 +170,13 @@ unfolding digits
 missing_next =
     wrong_below_config (codes "fd 0 0 ip 0") (codes "end\n") (search rules)
     (refused_line V1 (lines below_config) descriptor (codes "fd 0 0 ip 0") (search (rules, arith)) refl
-    cause.Form (misplaced below_config descriptor refl))
+    cause.Form (misplaced (stands below_config) descriptor refl))
 
 -- the next id and serial may not be missing after `config`
 pub end_too_early : IsWrongTranscript (codes "transcript 1\nconfig\nend\n") 3 cause.Form
-end_too_early = wrong_below_config (codes "end") [] (search rules) (not_at_end below_config refl)
+end_too_early =
+    wrong_below_config (codes "end") [] (search rules)
+    (refused_line V1 (lines below_config) line.End _ tt refl cause.Form (misplaced (stands below_config) line.End refl))
 
 -- the next id and serial come only once
 pub two_nexts : IsWrongTranscript (with_line_5 (codes "next 2 1")) 5 cause.Form
@@ -231,7 +233,7 @@ late_full_place =
     wrong_line V2 (lines behind_hung) (codes "full eth 0 r") (one_hung, [], search (rules, arith), refl)
     (codes "end\n", search rules, refl) refl
     (refused_line V2 (lines behind_hung) full_place (codes "full eth 0 r") (search (rules, arith)) refl cause.Form
-    (misplaced behind_hung full_place refl))
+    (misplaced (stands behind_hung) full_place refl))
 
 -- ---- lines that spell nothing of their kind
 

@@ -1,10 +1,11 @@
-use Rattle.std.proofs.Common.{ap, refl, rules}
+use Rattle.std.proofs.Common.{ap, rules}
 use Rattle.std.proofs.lemmas.Result.{err_from_is_err_and}
 use Rattle.smx_types.specs.ProgramLists.{ProgramLists}
 use Rattle.smx_text.specs.declared.text_fault.Cause.TheVariants as cause
 use Rattle.smx_text.specs.ProgramLines as line
 use Rattle.smx_text.proofs.ProgramsGrammarLemmas.{answers_line, refused_line}
-use Rattle.smx_text.proofs.ProgramsLemmas.{longer_begun}
+use Rattle.smx_text.proofs.MachineLemmas.{longer_begun}
+use Rattle.smx_text.proofs.ProgramsMachineLemmas.{stands}
 use Rattle.smx_text.proofs.programs.draft.ProgramsDraftDraft.add.Goals as goal
 
 pub returns-in-Ok-Some-clause-answers : goal.returns-in-Ok-Some-clause-answers
@@ -26,8 +27,8 @@ returns-in_ok-room_for_command-in-Err-clause-answers c =
     let version = ap (λ (v : ProgramLists). v.version) c.self.view_is in
     let some = rw version at c.in-Err.ensures.wanted in
     refused_line _ _ (line.Command some.0) _ some.1 some.2 cause.NoMemory
-    (longer_begun c.args.self.now.version c.args.self.now (line.Command some.0) refl c.requires.begun (search rules)
-    (search rules) some.1)
+    (longer_begun (stands c.args.self.now) (line.Command some.0) c.requires.begun (search rules) (search rules) some.1
+    (λ e. cc))
 
 pub add_command-requires-clause-fits : goal.add_command-requires-clause-fits
 add_command-requires-clause-fits c =

@@ -2,7 +2,8 @@ use Rattle.std.proofs.Common.{rules, refl, ◌≡◌, codes}
 use Rattle.smx_text.specs.declared.text_fault.Cause.TheVariants as cause
 use Rattle.smx_text.specs.TranscriptLines as line
 use Rattle.smx_text.proofs.TranscriptGrammarLemmas.{answers_line, refused_line}
-use Rattle.smx_text.proofs.TranscriptLemmas.{longer_begun, misplaced}
+use Rattle.smx_text.proofs.MachineLemmas.{longer_begun, misplaced}
+use Rattle.smx_text.proofs.TranscriptMachineLemmas.{stands}
 use Rattle.smx_text.proofs.transcript.draft.TranscriptDraft.add_other.Goals as goal
 
 pub returns-in-Ok-Some-clause-answers : goal.returns-in-Ok-Some-clause-answers
@@ -14,13 +15,13 @@ pub returns-in-Err-clause-answers : goal.returns-in-Err-clause-answers
 returns-in-Err-clause-answers c =
     let some = c.in-Err.ensures.wanted in
     refused_line _ _ (line.Msg some.0) _ some.1 some.2 cause.NoMemory
-    (longer_begun c.args.self.now (line.Msg some.0) c.requires.begun (search rules) refl some.1 (λ e. cc))
+    (longer_begun (stands c.args.self.now) (line.Msg some.0) c.requires.begun (search rules) refl some.1 (λ e. cc))
 
 pub returns-in-Err-2-clause-answers : goal.returns-in-Err-2-clause-answers
 returns-in-Err-2-clause-answers c =
     let some = c.in-Err-2.ensures.wanted in
     refused_line _ _ (line.Msg some.0) _ some.1 some.2 cause.Form
-    (misplaced c.args.self.now (line.Msg some.0) (search rules))
+    (misplaced (stands c.args.self.now) (line.Msg some.0) (search rules))
 
 pub add_message-requires-clause-fits : goal.add_message-requires-clause-fits
 add_message-requires-clause-fits c =

@@ -3,7 +3,8 @@ use Rattle.std.proofs.lemmas.Result.{err_from_is_err_and}
 use Rattle.smx_text.specs.declared.text_fault.Cause.TheVariants as cause
 use Rattle.smx_text.specs.TranscriptLines as line
 use Rattle.smx_text.proofs.TranscriptGrammarLemmas.{answers_line, refused_line}
-use Rattle.smx_text.proofs.TranscriptLemmas.{longer_begun}
+use Rattle.smx_text.proofs.MachineLemmas.{longer_begun}
+use Rattle.smx_text.proofs.TranscriptMachineLemmas.{stands}
 use Rattle.smx_text.proofs.transcript.draft.TranscriptDraftDraft.add.Goals as goal
 
 pub returns-in-Ok-Some-clause-answers : goal.returns-in-Ok-Some-clause-answers
@@ -22,7 +23,7 @@ pub returns-in_ok-room_for_entry-in-Err-clause-answers : goal.returns-in_ok-room
 returns-in_ok-room_for_entry-in-Err-clause-answers c =
     let some = c.in-Err.ensures.wanted in
     refused_line _ _ (line.Entry some.0) _ some.1 some.2 cause.NoMemory
-    (longer_begun c.args.self.now (line.Entry some.0) c.requires.begun (search rules) (search rules) some.1 (λ e. cc))
+    (longer_begun (stands c.args.self.now) (line.Entry some.0) c.requires.begun (search rules) (search rules) some.1 (λ e. cc))
 
 pub add_entry-requires-clause-fits : goal.add_entry-requires-clause-fits
 add_entry-requires-clause-fits c =
