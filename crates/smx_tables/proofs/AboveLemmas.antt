@@ -4,16 +4,22 @@ use Rattle.std.proofs.Common.{get_or, find, Some, None, refl, sym, ap, ◌∙◌
 use Rattle.std.specs.Prelude.{nat_lt}
 use Rattle.std.specs.List.{list_any}
 use Rattle.std.specs.Option.{option_map_or}
-use Rattle.std.proofs.lemmas.Bool.{cases_Bool, eqb-true, false≢true}
+use Rattle.std.proofs.Math.Bool.{and_comm, or-false}
+use Rattle.std.proofs.lemmas.Bool.{and_parts, cases_Bool, eqb-true, false_from_ne_true, false≢true}
 use Rattle.std.proofs.lemmas.Bool.Decides.{nat_tests}
 use Rattle.smx_types.specs.declared.link.Link.{Link}
 use Rattle.smx_types.specs.declared.stream.StreamId.{StreamId}
 use Rattle.smx_model.specs.Configuration.{same_stream}
 use Rattle.smx_model.specs.Ordered.{ComesBefore, IsRising}
 use Rattle.smx_model.specs.Paths.{AreLowersApart}
+use Rattle.smx_model.proofs.TestLemmas.{any_more}
 use Rattle.smx_streams.proofs.NameLemmas.{same_sym}
 -- streams that pass the test `same_stream` are equal, and each stream passes it with itself
 pub use Rattle.smx_streams.proofs.GridLemmas.{same_is as stream_is, same_self as stream_self}
+
+-- the test whether two streams are equal is symmetric
+pub stream_turned : (x y : StreamId) → same_stream x y ≡ same_stream y x
+stream_turned x y = grind (arith, nat_tests)
 
 -- the test whether two numbers are equal is symmetric
 pub eqb_swap : (x y : ℕ) → eqb x y ≡ eqb y x
@@ -27,11 +33,8 @@ IsOnce key (l ∷ ls) = (key l ≡ true → list_any key ls ≡ false) × IsOnce
 -- if no link passes a test, no link passes both it and another test
 none_also : (key t u : Link → Bool) (ls : List Link) → ((l : Link) → u l ≡ (key l && t l)) → list_any key ls ≡ false
     → list_any u ls ≡ false
-none_also key t u [] e h = refl
-none_also key t u (l ∷ ls) e h = elim (cases_Bool (key l)) [
-  | inl k ↦ let n : true ≡ false = rw k at h in absurd cc
-  | inr k ↦ rw (e l, k) (none_also key t u ls e (rw k at h))
-]
+none_also key t u ls e h = false_from_ne_true _
+    (λ up. false≢true (sym h ∙ any_more u key ls (λ l k. (and_parts (key l) (t l) (sym (e l) ∙ k)).0) up))
 
 -- if at most one link passes a test, some link passes both it and another one exactly if the link that the first test
 -- finds passes the other
@@ -39,10 +42,7 @@ pub any_once : (key t u : Link → Bool) (ls : List Link) → IsOnce key ls → 
     → list_any u ls ≡ option_map_or t (find key ls) false
 any_once key t u [] o e = refl
 any_once key t u (l ∷ ls) o e = elim (cases_Bool (key l)) [
-  | inl k ↦ elim (cases_Bool (t l)) [
-    | inl g ↦ rw (e l, k, g) refl
-    | inr f ↦ rw (e l, k, f) (none_also key t u ls e (o.0 k))
-  ]
+  | inl k ↦ rw (e l, k, none_also key t u ls e (o.0 k)) (or-false (t l))
   | inr k ↦ rw (e l, k) (any_once key t u ls o.1 e)
 ]
 
@@ -73,8 +73,12 @@ none_later l (k ∷ ls) h =
     let f : eqb k.id l.id ≡ false = grind (arith, nat_tests, h.0) in
     rw f (none_later l ls h.1)
 
+-- the ids of the links rise
+abbrev pub IsIdsRising : List Link → Type 0
+IsIdsRising ls = IsRising (λ l k. nat_lt l.id k.id) ls
+
 -- if the ids of links rise, at most one link has a given id
-pub once_id : (id : ℕ) (ls : List Link) → IsRising (λ l k. nat_lt l.id k.id) ls → IsOnce (λ l. eqb l.id id) ls
+pub once_id : (id : ℕ) (ls : List Link) → IsIdsRising ls → IsOnce (λ l. eqb l.id id) ls
 once_id id [] h = tt
 once_id id (l ∷ ls) h = (
   (λ k. ap (λ (x : ℕ). list_any (λ m. eqb m.id x) ls) (sym (eqb-true l.id id k)) ∙ none_later l ls h.0),
@@ -82,17 +86,26 @@ once_id id (l ∷ ls) h = (
 )
 
 -- if ids rise, some link with an id passes a test exactly if the link that is found by this id passes it
-pub any_with_id : (t : Link → Bool) (id : ℕ) (ls : List Link) → IsRising (λ l k. nat_lt l.id k.id) ls
+pub any_with_id : (t : Link → Bool) (id : ℕ) (ls : List Link) → IsIdsRising ls
     → list_any (λ l. eqb l.id id && t l) ls ≡ option_map_or t (find (λ l. eqb l.id id) ls) false
 any_with_id t id ls h = any_once (λ l. eqb l.id id) t (λ l. eqb l.id id && t l) ls (once_id id ls h) (λ l. refl)
 
+-- the link above a stream has an id exactly if the link with this id is above the stream
+pub above_with_id : (links : List Link) (id : ℕ) (x : StreamId) → AreLowersApart links → IsIdsRising links
+    → option_map_or (λ k. eqb k.id id) (find (λ k. same_stream k.lower x) links) false
+    ≡ option_map_or (λ k. same_stream k.lower x) (find (λ k. eqb k.id id) links) false
+above_with_id links id x apart rise =
+    sym (any_once (λ k. same_stream k.lower x) (λ k. eqb k.id id) (λ k. eqb k.id id && same_stream k.lower x) links
+    (once_below x links apart) (λ k. and_comm (eqb k.id id) (same_stream k.lower x)))
+    ∙ any_with_id (λ k. same_stream k.lower x) id links rise
+
 -- the link that is found by an id passes a test exactly if some link with this id passes it
-pub some_with_id : (t : Link → Bool) (id : ℕ) (ls : List Link) (l : Link) → IsRising (λ l k. nat_lt l.id k.id) ls
+pub some_with_id : (t : Link → Bool) (id : ℕ) (ls : List Link) (l : Link) → IsIdsRising ls
     → Some l ≡ find (λ l. eqb l.id id) ls → t l ≡ list_any (λ l. eqb l.id id && t l) ls
 some_with_id t id ls l h e = sym (any_with_id t id ls h ∙ rw (sym e) refl)
 
 -- if no link is found by an id, no link with this id passes a test
-pub none_with_id : (t : Link → Bool) (id : ℕ) (ls : List Link) → IsRising (λ l k. nat_lt l.id k.id) ls
+pub none_with_id : (t : Link → Bool) (id : ℕ) (ls : List Link) → IsIdsRising ls
     → None ≡ find (λ l. eqb l.id id) ls → false ≡ list_any (λ l. eqb l.id id && t l) ls
 none_with_id t id ls h e = sym (any_with_id t id ls h ∙ rw (sym e) refl)
 
@@ -110,18 +123,13 @@ none_kept t id (l ∷ ls) h = elim (cases_Bool (eqb l.id id)) [
 ids_of_one : (t : Link → Bool) (id : ℕ) (ls : List Link) → IsOnce (λ l. eqb l.id id) ls
     → list_any (λ l. eqb l.id id && t l) ls ≡ true → map (λ l. l.id) (filter (λ l. eqb l.id id && t l) ls) ≡ id ∷ []
 ids_of_one t id [] o h = absurd (false≢true h)
-ids_of_one t id (l ∷ ls) o h = elim (cases_Bool (eqb l.id id)) [
-  | inl k ↦ elim (cases_Bool (t l)) [
-    | inl g ↦ rw (k, g) (ap (λ (ks : List Link). l.id ∷ map (λ m. m.id) ks) (none_kept t id ls (o.0 k))
-        ∙ ap (λ (x : ℕ). x ∷ []) (eqb-true l.id id k))
-    | inr f ↦ let later : list_any (λ m. eqb m.id id && t m) ls ≡ true = rw (k, f) at h in
-        absurd (false≢true (sym (none_also (λ m. eqb m.id id) t (λ m. eqb m.id id && t m) ls (λ m. refl) (o.0 k))
-        ∙ later))
-  ]
-  | inr k ↦ rw k (ids_of_one t id ls o.1 (rw k at h))
+ids_of_one t id (l ∷ ls) o h = elim (cases_Bool (eqb l.id id && t l)) [
+  | inl b ↦ let k = (and_parts (eqb l.id id) (t l) b).0 in
+      rw (b, none_kept t id ls (o.0 k)) (ap (λ (x : ℕ). x ∷ []) (eqb-true l.id id k))
+  | inr n ↦ rw n (ids_of_one t id ls o.1 (rw n at h))
 ]
 
 -- if ids rise and a link with an id passes a test, the ids of all links with both are this one id
-pub target_of_id : (t : Link → Bool) (id : ℕ) (ls : List Link) → IsRising (λ l k. nat_lt l.id k.id) ls
+pub target_of_id : (t : Link → Bool) (id : ℕ) (ls : List Link) → IsIdsRising ls
     → list_any (λ l. eqb l.id id && t l) ls ≡ true → map (λ l. l.id) (filter (λ l. eqb l.id id && t l) ls) ≡ id ∷ []
 target_of_id t id ls rise h = ids_of_one t id ls (once_id id ls rise) h

@@ -1,104 +1,60 @@
 -- Emptying the read sides below listed links, link by link.
-use Rattle.std.proofs.Common.{◌≡◌, ℕ, Bool, true, false, ◌&&◌, ◌||◌, not, eqb, List, [], ◌∷◌, ◌++◌, filter, find}
-use Rattle.std.proofs.Common.{arith, Option, Some, None, refl, sym, ap, ◌∙◌, inl, inr}
+use Rattle.std.proofs.Common.{◌≡◌, ℕ, Bool, false, ◌&&◌, ◌||◌, not, eqb, List, [], ◌∷◌, ◌++◌, filter, find}
+use Rattle.std.proofs.Common.{arith, Option, Some, None, refl, sym, ap, ◌∙◌}
 use Rattle.std.proofs.Math.Bool.{and-false, or-false}
 use Rattle.std.specs.Prelude.{Vec}
-use Rattle.std.specs.List.{AllByRecursion}
 use Rattle.std.specs.Option.{option_map_or}
-use Rattle.std.proofs.lemmas.Bool.{cases_Bool, or_left, or_right}
-use Rattle.std.proofs.lemmas.List.Elements.{filter_agree, recursion_from_All}
-use Rattle.std.proofs.lemmas.Option.{same_Some}
+use Rattle.std.proofs.lemmas.List.Elements.{filter_agree}
 use Rattle.std.proofs.lemmas.Bool.Decides.{nat_tests}
 use Rattle.smx_types.specs.declared.link.Link.{Link}
 use Rattle.smx_types.specs.declared.stream.Place.{Place}
 use Rattle.smx_types.specs.declared.stream.Side.TheVariants as side
-use Rattle.smx_types.specs.declared.stream.StreamId.{StreamId}
 use Rattle.smx_model.specs.Configuration.{QueuedMessage, same_place, same_side, same_stream}
 use Rattle.smx_model.specs.Paths.{AreLowersApart}
-use Rattle.smx_model.specs.Standing.{is_below}
 use Rattle.smx_model.specs.Configuration.{read_side}
 use Rattle.smx_queues.specs.FlowTables.{FlowLists}
 use Rattle.smx_tables.specs.DroppedMessages.{EmptiesPlaces, HasRoom}
 use Rattle.smx_tables.specs.ListedLinks.{is_listed, is_read_below_listed}
-use Rattle.smx_tables.proofs.AboveLemmas.{stream_is, stream_self}
+use Rattle.smx_tables.proofs.AboveLemmas.{above_with_id, stream_turned, IsIdsRising}
 use Rattle.smx_tables.proofs.DropLemmas.{filter_twice}
-use Rattle.smx_tables.proofs.ReleasedIdLemmas.{IsFoundBy, found_by, listed_one_more}
-use Rattle.smx_tables.proofs.RemovalLemmas.{IsIdsRising}
+use Rattle.smx_tables.proofs.ReleasedIdLemmas.{listed_one_more}
+use Rattle.smx_tables.proofs.RemovalLemmas.{none_passes}
 
--- the id of the link above the stream is listed
-abbrev at_link : List ℕ → List Link → StreamId → Bool
-at_link ids links x = option_map_or (λ l. is_listed ids l.id) (find (λ l. same_stream l.lower x) links) false
+-- one more id adds the read side of the stream below its link, if it is the id of a link
+one_read_more : (links : List Link) (ids : List ℕ) (id : ℕ) → AreLowersApart links → IsIdsRising links → (p : Place)
+    → is_read_below_listed links (ids ++ id ∷ []) p ≡ (is_read_below_listed links ids p
+    || (option_map_or (λ k. same_stream k.lower p.stream) (find (λ k. eqb k.id id) links) false
+    && same_side p.side side.Read))
+one_read_more links ids id apart rise p =
+    rw (← above_with_id links id p.stream apart rise) (by (same_side p.side side.Read) (find _ links)) where
+      by : (b : Bool) (o : Option Link) → (b && option_map_or (λ l. is_listed (ids ++ id ∷ []) l.id) o false)
+          ≡ ((b && option_map_or (λ l. is_listed ids l.id) o false) || (option_map_or (λ l. eqb l.id id) o false && b))
+      by b None = grind (arith, nat_tests)
+      by b (Some l) = rw (listed_one_more ids id l.id) (grind (arith, nat_tests))
 
--- one more id lists the link above one more stream
-link_more : (ids : List ℕ) (id : ℕ) (s x : StreamId) (links : List Link) → AllByRecursion (IsFoundBy id s) links
-    → at_link (ids ++ id ∷ []) links x ≡ (at_link ids links x || (is_below links x && same_stream x s))
-link_more ids id s x [] h = refl
-link_more ids id s x (l ∷ ls) h = elim (cases_Bool (same_stream l.lower x)) [
-  | inl t ↦
-      rw t (listed_one_more ids id l.id ∙ ap (λ (b : Bool). is_listed ids l.id || b)
-      (h.0 ∙ ap (λ (y : StreamId). same_stream y s) (stream_is l.lower x t)))
-  | inr f ↦ rw f (link_more ids id s x ls h.1)
-]
-
--- the lower stream of a link that is found by its id is below a link
-below_found : (id : ℕ) (links : List Link) (l : Link) → find (λ k. eqb k.id id) links ≡ Some l
-    → is_below links l.lower ≡ true
-below_found id [] l e = absurd cc
-below_found id (k ∷ ks) l e = elim (cases_Bool (eqb k.id id)) [
-  | inl t ↦
-      let same = same_Some k l (rw t at e) in
-      or_left _ _ (ap (λ (m : Link). same_stream m.lower l.lower) same ∙ stream_self l.lower)
-  | inr f ↦ or_right (same_stream k.lower l.lower) _ (below_found id ks l (rw f at e))
-]
-
--- a test that follows from another test is redundant beside it
-asked_once : (r old b v : Bool) → (v ≡ true → b ≡ true) → (r && (old || (b && v))) ≡ ((r && old) || (v && r))
-asked_once r old b true h = let below = h refl in grind (arith, nat_tests)
-asked_once r old b false h = grind (arith, nat_tests)
-
--- one more id adds one place
+-- the id of a link adds one place
 pub read_more : (links : List Link) (ids : List ℕ) (id : ℕ) (l : Link) → AreLowersApart links → IsIdsRising links
     → find (λ k. eqb k.id id) links ≡ Some l → (p : Place)
     → is_read_below_listed links (ids ++ id ∷ []) p
     ≡ (is_read_below_listed links ids p || same_place p (read_side l.lower))
 read_more links ids id l apart rise found p =
-    ap (λ (b : Bool). same_side p.side side.Read && b)
-    (link_more ids id l.lower p.stream links
-    (recursion_from_All (IsFoundBy id l.lower) links (found_by links id l apart rise found)))
-    ∙ asked_once (same_side p.side side.Read) (at_link ids links p.stream) (is_below links p.stream)
-    (same_stream p.stream l.lower)
-    (λ t. ap (is_below links) (stream_is p.stream l.lower t) ∙ below_found id links l found)
+    rw (one_read_more links ids id apart rise p, found, stream_turned l.lower p.stream) refl
 
 -- an id that no link has adds no place
-pub read_none : (links : List Link) (ids : List ℕ) (id : ℕ) → find (λ k. eqb k.id id) links ≡ None → (p : Place)
+pub read_none : (links : List Link) (ids : List ℕ) (id : ℕ) → AreLowersApart links → IsIdsRising links
+    → find (λ k. eqb k.id id) links ≡ None → (p : Place)
     → is_read_below_listed links (ids ++ id ∷ []) p ≡ is_read_below_listed links ids p
-read_none links ids id none p = ap (λ (b : Bool). same_side p.side side.Read && b) (same links none) where
-  same : (ls : List Link) → find (λ k. eqb k.id id) ls ≡ None
-      → at_link (ids ++ id ∷ []) ls p.stream ≡ at_link ids ls p.stream
-  same [] e = refl
-  same (l ∷ ls) e = elim (cases_Bool (eqb l.id id)) [
-    | inl t ↦ let k : ◌≡◌ {A = Option Link} (Some l) None = rw t at e in absurd cc
-    | inr f ↦ elim (cases_Bool (same_stream l.lower p.stream)) [
-      | inl a ↦
-          rw a (listed_one_more ids id l.id
-          ∙ (ap (λ (b : Bool). is_listed ids l.id || b) f ∙ or-false (is_listed ids l.id)))
-      | inr b ↦ rw b (same ls (rw f at e))
-    ]
-  ]
+read_none links ids id apart rise none p =
+    rw (one_read_more links ids id apart rise p, none) (or-false (is_read_below_listed links ids p))
 
 -- an empty list of ids removes nothing
 pub none_listed_yet : {X : Type 0} (place : X → Place) (links : List Link) (xs : List X)
     → xs ≡ filter (λ x. not (is_read_below_listed links [] (place x))) xs
-none_listed_yet place links [] = refl
-none_listed_yet place links (x ∷ xs) =
-    rw (none (place x)) (ap (λ (ys : List _). x ∷ ys) (none_listed_yet place links xs)) where
-      by : (o : Option Link) → option_map_or (λ l. is_listed [] l.id) o false ≡ false
-      by None = refl
-      by (Some l) = refl
-
-      none : (p : Place) → is_read_below_listed links [] p ≡ false
-      none p = ap (λ (b : Bool). same_side p.side side.Read && b) (by (find (λ l. same_stream l.lower p.stream) links))
-          ∙ and-false (same_side p.side side.Read)
+none_listed_yet place links xs = sym (none_passes (λ x. is_read_below_listed links [] (place x)) xs
+    (λ x. by (same_side (place x).side side.Read) (find (λ l. same_stream l.lower (place x).stream) links))) where
+      by : (b : Bool) (o : Option Link) → (b && option_map_or (λ l. is_listed [] l.id) o false) ≡ false
+      by b None = and-false b
+      by b (Some l) = and-false b
 
 -- ---- lists after two removals
 

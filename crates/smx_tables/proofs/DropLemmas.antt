@@ -1,15 +1,16 @@
 -- The messages that are dropped at a place, and the serials of dropped messages in order.
 use Rattle.std.proofs.Common.{◌≡◌, ◌≢◌, ℕ, suc, ◌+◌, ◌≤◌, Bool, true, false, ◌&&◌, ◌||◌, not, cond, eqb, ltb, List, []}
-use Rattle.std.proofs.Common.{◌∷◌, ◌++◌, length, map, filter, get_or, refl, sym, ap, ◌∙◌, subst, arith, inl, inr}
-use Rattle.std.specs.List.{AllPairs, sum_by}
+use Rattle.std.proofs.Common.{◌∷◌, ◌++◌, length, map, filter, refl, sym, ap, ◌∙◌, arith, inl, inr}
+use Rattle.std.specs.List.{AllByRecursion, AllPairs, sum_by}
 use Rattle.std.specs.List.Sorted.{IsNonDecreasing, IsPermutation}
+use Rattle.std.proofs.Math.Bool.{not-not}
 use Rattle.std.proofs.lemmas.Bool.{cases_Bool, cases_eq, eq-eqb, ltb-true, ltb-false, ne_eqb}
 use Rattle.std.proofs.lemmas.Bool.Decides.{nat_tests}
 use Rattle.std.proofs.lemmas.List.{map-append}
+use Rattle.std.proofs.lemmas.List.Elements.{filter_agree}
 use Rattle.std.proofs.lemmas.List.Sums.{sum_by-cons}
-use Rattle.std.proofs.lemmas.List.Sorted.{IsPermutation-append_left, IsPermutation-cons, IsPermutation-map}
-use Rattle.std.proofs.lemmas.List.Sorted.{IsPermutation-middle, IsPermutation-refl, IsPermutation-sym}
-use Rattle.std.proofs.lemmas.List.Sorted.{IsPermutation-trans, sum_by-IsPermutation}
+use Rattle.std.proofs.lemmas.List.Sorted.{IsPermutation-append_left, IsPermutation-filter_both, IsPermutation-map}
+use Rattle.std.proofs.lemmas.List.Sorted.{IsPermutation-refl, IsPermutation-trans, sum_by-IsPermutation}
 use Rattle.smx_types.specs.declared.message.Message.{Message}
 use Rattle.smx_types.specs.declared.command.Sides.{Sides}
 use Rattle.smx_types.specs.declared.stream.Place.{Place}
@@ -18,10 +19,12 @@ use Rattle.smx_types.specs.declared.stream.Side.TheVariants as side
 use Rattle.smx_types.specs.declared.stream.StreamId.{StreamId}
 use Rattle.smx_model.specs.Commands.{is_side}
 use Rattle.smx_model.specs.Configuration.{QueuedMessage, is_at, same_stream}
-use Rattle.smx_model.specs.Ordered.{in_rising_order, with_inserted}
+use Rattle.smx_model.specs.Ordered.{AllLater, in_rising_order}
 use Rattle.smx_model.specs.Queues.{queue}
 use Rattle.smx_model.specs.Removal.{serials, serials_that_left}
 use Rattle.smx_model.proofs.CountLemmas.{times, times_rising}
+use Rattle.smx_model.proofs.EachLemmas.{each_of_every, later_pairs, later_placed}
+use Rattle.smx_model.proofs.TestLemmas.{all_true, keep_all, none_kept}
 use Rattle.smx_model.proofs.QueueLemmas.{gone_is}
 use Rattle.smx_tables.specs.DroppedMessages.{AreDropped, is_flushed_at}
 -- filtering by two tests in turn is filtering by both at once
@@ -36,16 +39,14 @@ at s x = record { stream = s; side = x }
 -- the items that fail one of two tests: those that fail the first, and the others that fail the second, in some order
 split : {X : Type 0} (t u : X → Bool) (xs : List X)
     → IsPermutation (filter (λ x. not (t x && not (u x))) xs) (filter (λ x. not (t x)) xs ++ filter u (filter t xs))
-split t u [] = IsPermutation-refl []
-split t u (x ∷ xs) = elim (cases_Bool (t x)) [
-  | inl a ↦ elim (cases_Bool (u x)) [
-    | inl b ↦
-        rw (a, b) (IsPermutation-trans _ _ _ (IsPermutation-cons x _ _ (split t u xs))
-        (IsPermutation-sym _ _ (IsPermutation-middle (filter (λ y. not (t y)) xs) x (filter u (filter t xs)))))
-    | inr b ↦ rw (a, b) (split t u xs)
-  ]
-  | inr a ↦ rw a (IsPermutation-cons x _ _ (split t u xs))
-]
+split t u xs =
+    let kept = filter (λ x. not (t x && not (u x))) xs in
+    let first : filter (λ x. not (t x)) kept ≡ filter (λ x. not (t x)) xs = filter_twice _ _ xs
+    ∙ filter_agree (λ x. not (t x && not (u x)) && not (t x)) (λ x. not (t x)) (λ x. grind (arith, nat_tests)) xs in
+    let second : filter t kept ≡ filter u (filter t xs) = filter_twice _ t xs
+    ∙ filter_agree (λ x. not (t x && not (u x)) && t x) (λ x. t x && u x) (λ x. grind (arith, nat_tests)) xs
+    ∙ sym (filter_twice t u xs) in
+    rw (first, second) at (IsPermutation-filter_both (λ x. not (t x)) t (λ x. sym (not-not (t x))) kept)
 
 -- the serials of a flow's messages at a place are those of its queue
 serials_at : (flow : List QueuedMessage) (p : Place)
@@ -59,44 +60,30 @@ pub dropped_more : (old flow new : List QueuedMessage) (p : Place) (dropped more
     → new ≡ filter (λ h. not (is_at p h)) flow → more ≡ dropped ++ map (λ m. m.serial) (queue flow p)
     → AreDropped old flow dropped → AreDropped old new more
 dropped_more old flow new p dropped more fewer longer h =
-    let at : map (λ (m : Message). m.serial) (queue flow p)
-    ≡ serials (filter (is_at p) (filter h.keep old)) =
-    sym (serials_at flow p) ∙ ap (λ (hs : List QueuedMessage). serials (filter (is_at p) hs)) h.left in
-    let parts : serials (filter (λ x. not (h.keep x)) old ++ filter (is_at p) (filter h.keep old))
-    ≡ serials (filter (λ x. not (h.keep x)) old) ++ map (λ (m : Message). m.serial) (queue flow p) =
-    map-append (λ (x : QueuedMessage). x.message.serial) (filter (λ x. not (h.keep x)) old)
-    (filter (is_at p) (filter h.keep old)) ∙ ap (λ (ns : List ℕ). serials (filter (λ x. not (h.keep x)) old) ++ ns)
-    (sym at) in
-    let all = IsPermutation-map (λ (x : QueuedMessage). x.message.serial) _ _ (split h.keep (is_at p) old) in
-    let first = IsPermutation-append_left (map (λ (m : Message). m.serial) (queue flow p))
-    (serials (filter (λ x. not (h.keep x)) old)) dropped h.gone in
+    let fails = filter (λ x. not (h.keep x)) old in
+    let here : serials (filter (is_at p) (filter h.keep old)) ≡ map (λ (m : Message). m.serial) (queue flow p) =
+    ap (λ (hs : List QueuedMessage). serials (filter (is_at p) hs)) (sym h.left) ∙ serials_at flow p in
+    let parts : serials (fails ++ filter (is_at p) (filter h.keep old)) ≡ serials fails ++ map (λ m. m.serial) (queue flow p)
+    = map-append (λ (x : QueuedMessage). x.message.serial) fails (filter (is_at p) (filter h.keep old))
+    ∙ ap (λ (ns : List ℕ). serials fails ++ ns) here in
     record {
       keep = λ x. h.keep x && not (is_at p x);
-      left = fewer ∙ (ap (filter (λ x. not (is_at p x))) h.left ∙ filter_twice h.keep (λ x. not (is_at p x)) old);
-      gone = subst (λ (ns : List ℕ). IsPermutation (serials (filter (λ x. not (h.keep x && not (is_at p x))) old)) ns)
-          (sym longer)
-          (IsPermutation-trans _ _ _
-          (subst (λ (ns : List ℕ). IsPermutation (serials (filter (λ x. not (h.keep x && not (is_at p x))) old)) ns)
-          parts all) first);
+      left = fewer ∙ ap (filter (λ x. not (is_at p x))) h.left ∙ filter_twice h.keep (λ x. not (is_at p x)) old;
+      gone = rw longer (IsPermutation-trans _ _ _
+          (rw parts at (IsPermutation-map (λ (x : QueuedMessage). x.message.serial) _ _ (split h.keep (is_at p) old)))
+          (IsPermutation-append_left _ (serials fails) dropped h.gone));
     }
-
--- a test that all items pass keeps all, and its negation none
-none_kept : {X : Type 0} (xs : List X) → (filter (λ x. true) xs ≡ xs) × (filter (λ x. not true) xs ≡ [])
-none_kept [] = (refl, refl)
-none_kept (x ∷ xs) = let r = none_kept xs in (ap (λ (ys : List _). x ∷ ys) r.0, r.1)
 
 -- filtering by a test that all items pass changes nothing
 pub all_stay : {X : Type 0} (xs : List X) → xs ≡ filter (λ x. true) xs
-all_stay xs = sym (none_kept xs).0
+all_stay xs = sym (keep_all (λ x. true) xs (all_true _ xs (λ x. refl)))
 
 -- at first nothing is dropped
 pub none_dropped : (flow : List QueuedMessage) (dropped : List ℕ) → dropped ≡ [] → AreDropped flow flow dropped
 none_dropped flow dropped none = record {
   keep = λ x. true;
-  left = sym (none_kept flow).0;
-  gone = subst (λ (ns : List ℕ). IsPermutation (serials (filter (λ x. not true) flow)) ns) (sym none)
-      (subst (λ (hs : List QueuedMessage). IsPermutation (serials hs) []) (sym (none_kept flow).1)
-      (IsPermutation-refl []));
+  left = all_stay flow;
+  gone = rw (none, none_kept (λ (x : QueuedMessage). false) flow (all_true _ flow (λ x. refl))) (IsPermutation-refl []);
 }
 
 -- ---- the number of messages
@@ -117,39 +104,16 @@ on_both_sides stream sides s side.Read = grind (arith, nat_tests)
 
 -- ---- sorted numbers
 
--- no number of the list is below this number
-abbrev AllFrom : ℕ → List ℕ → Type 0
-AllFrom n [] = Unit {0}
-AllFrom n (m ∷ ms) = (n ≤ m) × AllFrom n ms
-
 -- no number of the list is below an earlier one
 abbrev IsUp : List ℕ → Type 0
-IsUp [] = Unit {0}
-IsUp (n ∷ ns) = AllFrom n ns × IsUp ns
-
--- if no number of a list is below m, and n ≤ m, none is below n
-all_from_less : (n m : ℕ) (ns : List ℕ) → n ≤ m → AllFrom m ns → AllFrom n ns
-all_from_less n m [] le h = tt
-all_from_less n m (k ∷ ns) le h = (omega (arith, h.0), all_from_less n m ns le h.1)
-
--- if no number of a list is below n, that stays so with one more number that isn't below n
-from_placed : (n m : ℕ) (ns : List ℕ) → n ≤ m → AllFrom n ns → AllFrom n (with_inserted ltb ns m)
-from_placed n m [] le h = (le, tt)
-from_placed n m (k ∷ ns) le h =
-    elim (cases_Bool (ltb m k)) [ inl t ↦ rw t (le, h) | inr f ↦ rw f (h.0, from_placed n m ns le h.1) ]
-
--- inserting a number in order keeps a list in order
-up_placed : (ns : List ℕ) (n : ℕ) → IsUp ns → IsUp (with_inserted ltb ns n)
-up_placed [] n h = (tt, tt)
-up_placed (k ∷ ns) n h = elim (cases_Bool (ltb n k)) [
-  | inl t ↦ let less = ltb-true n k t in rw t ((omega arith, all_from_less n k ns (omega arith) h.0), h)
-  | inr f ↦ let more = ltb-false n k f in rw f (from_placed k n ns more h.0, up_placed ns n h.1)
-]
+IsUp ns = AllLater (λ m n. m ≤ n) ns
 
 -- the function `in_rising_order` puts a list in order
 rising_up : (ns : List ℕ) → IsUp (in_rising_order ns)
 rising_up [] = tt
-rising_up (n ∷ ns) = up_placed (in_rising_order ns) n (rising_up ns)
+rising_up (n ∷ ns) = later_placed (λ m k. m ≤ k) ltb n (λ k t. let lt = ltb-true n k t in omega arith)
+    (λ k m t le. let lt = ltb-true n k t in omega (arith, le)) (in_rising_order ns)
+    (each_of_every _ (in_rising_order ns) (λ k f. ltb-false n k f)) (rising_up ns)
 
 -- the number of times that a number is in a list, as a sum over the list
 times_sum : (k : ℕ) (ns : List ℕ) → times k ns ≡ sum_by (λ m. cond (eqb m k) 1 0) ns
@@ -166,58 +130,28 @@ times_permuted k ns ms h =
 here_once : (n : ℕ) (ns : List ℕ) → times n (n ∷ ns) ≡ suc (times n ns)
 here_once n ns = rw (eq-eqb n n refl) (omega arith)
 
--- a number below all numbers of a list is not in it
-low_is_none : (n m : ℕ) (ns : List ℕ) → AllFrom m ns → suc n ≤ m → times n ns ≡ 0
-low_is_none n m [] h lt = refl
-low_is_none n m (k ∷ ns) h lt =
-    rw (ne_eqb k n (λ e. let j = h.0 in omega arith)) (omega (arith, low_is_none n m ns h.1 lt))
+-- if no number of a list is below m, no number that is in it is
+none_lower : (m n : ℕ) (ns : List ℕ) → AllByRecursion (λ k. m ≤ k) ns → 1 ≤ times n ns → m ≤ n
+none_lower m n [] h some = absurd (omega arith)
+none_lower m n (k ∷ ns) h some = elim (cases_eq k n)
+    [ inl e ↦ omega (arith, h.0, e) | inr ne ↦ none_lower m n ns h.1 (omega (arith, rw (ne_eqb k n ne) at some)) ]
 
 -- two lists in order are equal if each number is in both equally often
 one_up : (ns ms : List ℕ) → IsUp ns → IsUp ms → ((k : ℕ) → times k ns ≡ times k ms) → ns ≡ ms
 one_up [] [] h g same = refl
 one_up [] (m ∷ ms) h g same = absurd (omega (arith, same m, here_once m ms))
 one_up (n ∷ ns) [] h g same = absurd (omega (arith, same n, here_once n ns))
-one_up (n ∷ ns) (m ∷ ms) h g same = elim (cases_eq n m) [
-  | inl e ↦
-      rw e (ap (λ (ks : List ℕ). m ∷ ks)
-      (one_up ns ms h.1 g.1 (λ k. let s : times k (m ∷ ns)
-      ≡ times k (m ∷ ms) = subst (λ (x : ℕ). times k (x ∷ ns) ≡ times k (m ∷ ms)) e (same k) in omega (arith, s))))
-  | inr ne ↦ absurd (differ ne)
-] where
-  above : m ≤ n → n ≢ m → suc m ≤ n
-  above le other = elim (cases_Bool (ltb m n)) [
-    | inl t ↦ let lt = ltb-true m n t in
-        omega arith
-    | inr f ↦ let ge = ltb-false m n f in absurd (other (omega arith))
-  ]
-
-  differ : n ≢ m → ⊥
-  differ ne = elim (cases_Bool (ltb n m)) [
-    | inl t ↦ let lt = ltb-true n m t in let none = low_is_none n m ms g.0 (omega arith) in
-        let not_m : eqb m n ≡ false = ne_eqb m n (λ e. ne (sym e)) in
-        let s : suc (times n ns) ≡ times n (m ∷ ms) = sym (here_once n ns) ∙ same n in
-        let z : times n (m ∷ ms) ≡ 0 = rw not_m (omega (arith, none)) in omega (arith, s, z)
-    | inr f ↦ let le = ltb-false n m f in let none = low_is_none m n ns h.0 (omega (arith, above le ne)) in
-        let not_n : eqb n m ≡ false = ne_eqb n m ne in
-        let s : times m (n ∷ ns) ≡ suc (times m ms) = same m ∙ here_once m ms in
-        let z : times m (n ∷ ns) ≡ 0 = rw not_n (omega (arith, none)) in omega (arith, s, z)
-  ]
-
--- a list that doesn't decrease is in order
-from_sorted : (ns : List ℕ) → IsNonDecreasing ns → IsUp ns
-from_sorted [] h = tt
-from_sorted (n ∷ ns) h = (
-  all_from n ns (λ j d lt. let e = h 0 (suc j) d (omega arith) (omega arith) in e),
-  from_sorted ns (λ i j d le lt. h (suc i) (suc j) d (omega arith) (omega arith)),
-) where
-  all_from : (k : ℕ) (ms : List ℕ) → ((j d : ℕ) → suc j ≤ length ms → k ≤ get_or ms j d) → AllFrom k ms
-  all_from k [] f = tt
-  all_from k (m ∷ ms) f = (f 0 m (omega arith), all_from k ms (λ j d lt. f (suc j) d (omega arith)))
+one_up (n ∷ ns) (m ∷ ms) h g same =
+    let below = none_lower m n (m ∷ ms) (omega arith, g.0) (omega (arith, same n, here_once n ns)) in
+    let above = none_lower n m (n ∷ ns) (omega arith, h.0) (omega (arith, same m, here_once m ms)) in
+    let e : n ≡ m = omega (arith, below, above) in
+    rw e (ap (λ (ks : List ℕ). m ∷ ks) (one_up ns ms h.1 g.1 (λ k. omega (arith, rw e at (same k)))))
 
 -- a permutation that doesn't decrease is the list in rising order
 pub sorted_is : (ns ms out : List ℕ) → IsPermutation ns ms → IsPermutation ms out → IsNonDecreasing out
     → out ≡ in_rising_order ns
-sorted_is ns ms out h k up = one_up out (in_rising_order ns) (from_sorted out up) (rising_up ns)
+sorted_is ns ms out h k up = one_up out (in_rising_order ns)
+    (later_pairs (λ m n. m ≤ n) out (λ i j d lt. up i j d (omega arith))) (rising_up ns)
     (λ n. times_permuted n ms out k ∙ (times_permuted n ns ms h ∙ sym (times_rising n ns)))
 
 -- the dropped serials, once they are sorted, are those that left the flow

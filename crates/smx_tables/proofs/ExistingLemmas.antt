@@ -4,9 +4,9 @@ use Rattle.std.proofs.Common.{length, find, get_or, Option, Some, None, Ok, Err,
 use Rattle.std.proofs.Common.{ap, subst, ◌∙◌, arith, inl, inr}
 use Rattle.std.proofs.Math.Bool.{or-false}
 use Rattle.std.specs.Prelude.{nat_lt}
-use Rattle.std.specs.Option.{option_map, ok_or}
+use Rattle.std.specs.Option.{is_some, option_map, ok_or}
 use Rattle.std.specs.List.{All, AllByRecursion, list_any, list_all}
-use Rattle.std.proofs.lemmas.Bool.{cases_Bool, and_parts, and_from, or_cases, or_left, or_right, false_from_ne_true}
+use Rattle.std.proofs.lemmas.Bool.{cases_Bool, and_parts, or_cases, or_left, or_right, false_from_ne_true}
 use Rattle.std.proofs.lemmas.Bool.{false≢true}
 use Rattle.std.proofs.lemmas.Bool.Decides.{nat_tests}
 use Rattle.std.proofs.lemmas.List.{get_or_default}
@@ -21,7 +21,10 @@ use Rattle.smx_types.specs.declared.stream.Descriptor.{Descriptor}
 use Rattle.smx_types.specs.declared.stream.StreamId.{StreamId}
 use Rattle.smx_model.specs.Configuration.{Configuration, is_fd, same_stream}
 use Rattle.smx_model.specs.KnownStreams.{IsKnown}
-use Rattle.smx_model.specs.Paths.{HasNoCycle, reaches}
+use Rattle.smx_model.specs.Paths.{AreLowersApart, HasNoCycle, reaches}
+use Rattle.smx_model.proofs.EachLemmas.{each_both, each_find}
+use Rattle.smx_model.proofs.TestLemmas.{find_passes}
+use Rattle.smx_links.proofs.LowerLemmas.{any_found}
 use Rattle.smx_model.specs.SoundLinks.{AreLinksSound}
 use Rattle.smx_model.specs.Standing.{exists, is_below, is_named, is_persistent, stands_within}
 use Rattle.smx_model.proofs.KeptLemmas.{exists_is_stands}
@@ -31,8 +34,8 @@ use Rattle.smx_streams.specs.StreamTables.{StreamTable, HasHolds, number_at, str
 use Rattle.smx_tables.specs.ExistingStreams.{AreHeld, TellsExisting, holds_of, is_held}
 use Rattle.smx_links.specs.LinkLists.{LinkList, IsLinked, refusal, with_link}
 use Rattle.smx_links.specs.declared.link_fault.LinkFault.TheVariants as link_fault
-use Rattle.smx_tables.proofs.AboveLemmas.{stream_is, stream_self}
-use Rattle.smx_tables.proofs.ClimbLemmas.{named_stands}
+use Rattle.smx_tables.proofs.AboveLemmas.{stream_is, stream_self, stream_turned}
+use Rattle.smx_tables.proofs.ClimbLemmas.{named_stands, stands_by, stands_is}
 -- all items, or any, that pass a test pass each weaker one; and if all items pass, all items of a filtered list do
 pub use Rattle.smx_model.proofs.TestLemmas.{all_filter as all_fewer, all_more as all_weaker, any_more as any_weaker}
 
@@ -68,21 +71,13 @@ pub stands_there : (fds : List Descriptor) (links : List Link) (n : ℕ) (s : St
 stands_there fds links zero s h =
     elim (or_cases (is_named fds s) (list_any (λ l. is_persistent l && same_stream l.lower s) links) h) [
       | inl a ↦ or_left _ _ a
-      | inr b ↦
-          or_right _ _ (any_weaker (λ l. is_persistent l && same_stream l.lower s) (λ l. same_stream l.lower s) links
-          (λ l t. (and_parts (is_persistent l) (same_stream l.lower s) t).1) b)
+      | inr b ↦ or_right _ _ (any_weaker _ _ links (λ l t. (and_parts (is_persistent l) _ t).1) b)
     ]
-stands_there fds links (suc n) s
-    h = elim (or_cases (stands_within fds links n s)
-    (list_any (λ l. not (is_persistent l) && (same_stream l.lower s && stands_within fds links n l.ctl)) links) h) [
-      | inl a ↦ stands_there fds links n s a
-      | inr b ↦
-          or_right _ _
-          (any_weaker (λ l. not (is_persistent l) && (same_stream l.lower s && stands_within fds links n l.ctl))
-          (λ l. same_stream l.lower s) links
-          (λ l t. (and_parts (same_stream l.lower s) (stands_within fds links n l.ctl)
-          (and_parts (not (is_persistent l)) (same_stream l.lower s && stands_within fds links n l.ctl) t).1).0) b)
-    ]
+stands_there fds links (suc n) s h = elim (or_cases (stands_within fds links n s) _ h) [
+  | inl a ↦ stands_there fds links n s a
+  | inr b ↦
+      or_right _ _ (any_weaker _ _ links (λ l t. (and_parts _ _ (and_parts (not (is_persistent l)) _ t).1).0) b)
+]
 
 -- ---- a climb reaches a driver to which fewer drivers lead
 
@@ -104,28 +99,6 @@ climbs_to_fewer drivers links none known = λ i d lt.
 
 -- ---- a stream in the table exists
 
--- a stream below a persistent link exists within any number of climbs
-persistent_stands : (fds : List Descriptor) (links : List Link) (n : ℕ) (s : StreamId)
-    → list_any (λ l. is_persistent l && same_stream l.lower s) links ≡ true → stands_within fds links n s ≡ true
-persistent_stands fds links zero s h = or_right _ _ h
-persistent_stands fds links (suc n) s h = or_left _ _ (persistent_stands fds links n s h)
-
--- if a stream is below a link, and t holds for the ordinary links above it, then a link above it is persistent, or is
--- ordinary and t holds for it
-by_link : (t : Link → Bool) (s : StreamId) (ls : List Link)
-    → AllByRecursion (λ l. same_stream l.lower s ≡ true → is_persistent l ≡ false → t l ≡ true) ls
-    → is_below ls s ≡ true
-    → (list_any (λ l. is_persistent l && same_stream l.lower s) ls
-    || list_any (λ l. not (is_persistent l) && (same_stream l.lower s && t l)) ls) ≡ true
-by_link t s [] h b = b
-by_link t s (l ∷ ls) h b = elim (cases_Bool (same_stream l.lower s)) [
-  | inl here ↦ elim (cases_Bool (is_persistent l)) [
-    | inl p ↦ or_left _ _ (or_left _ _ (and_from _ _ p here))
-    | inr o ↦ or_right _ _ (or_left _ _ (and_from _ _ (ap not o) (and_from _ _ here (h.0 here o))))
-  ]
-  | inr other ↦ let rest = by_link t s ls h.1 (rw other at b) in rw other (grind (arith, nat_tests))
-]
-
 -- if the lower stream of the link is held and the link is ordinary, its controlling stream is in the table
 abbrev pub IsTight : StreamTable → Link → Type 0
 IsTight t l = is_held t l ≡ true → is_persistent l ≡ false → is_there t l.ctl ≡ true
@@ -134,60 +107,49 @@ IsTight t l = is_held t l ≡ true → is_persistent l ≡ false → is_there t 
 abbrev pub IsHeldBelow : List Link → StreamTable → Type 0
 IsHeldBelow links t = (s : StreamId) → nat_lt 0 (number_at t.holds s) ≡ true → is_below links s ≡ true
 
--- if the streams in the table at drivers of height n or less exist within n climbs, the controlling streams of the
--- ordinary links above a held stream of height n + 1 or less do so too
-mutual_step : (drivers : List DriverSpec) (links : List Link) (t : StreamTable) (n : ℕ) (s : StreamId) (ls : List Link)
-    → nat_lt 0 (number_at t.holds s) ≡ true → height drivers links s.driver ≤ suc n
-    → ((x : StreamId) → height drivers links x.driver ≤ n → is_there t x ≡ true → stands_within t.fds links n x ≡ true)
-    → AllByRecursion (IsTight t) ls → AllByRecursion (ClimbsToFewer drivers links) ls
-    → AllByRecursion (λ l. same_stream l.lower s ≡ true → is_persistent l ≡ false
-    → stands_within t.fds links n l.ctl ≡ true) ls
-mutual_step drivers links t n s [] up few ih h r = tt
-mutual_step drivers links t n s (l ∷ ls) up few ih h r = (
-  (λ here o.
-      let same = stream_is l.lower s here in
-      let held : is_held t l ≡ true = ap (λ (x : StreamId). nat_lt 0 (number_at t.holds x)) same ∙ up in
-      let less = r.0 in
-      let at : height drivers links l.lower.driver ≡ height drivers links s.driver =
-      ap (λ (x : StreamId). height drivers links x.driver) same in
-      ih l.ctl (omega (arith, less, at, few)) (h.0 held o)),
-  mutual_step drivers links t n s ls up few ih h.1 r.1,
-)
-
--- a stream of a driver to which no driver leads is below no link
-none_lower : (drivers : List DriverSpec) (links : List Link) (s : StreamId) (ls : List Link)
-    → height drivers links s.driver ≤ 0 → AllByRecursion (ClimbsToFewer drivers links) ls → is_below ls s ≡ false
-none_lower drivers links s [] few r = refl
-none_lower drivers links s (l ∷ ls) few r = elim (cases_Bool (same_stream l.lower s)) [
-  | inl here ↦
-      let at : height drivers links l.lower.driver ≡ height drivers links s.driver =
-      ap (λ (x : StreamId). height drivers links x.driver) (stream_is l.lower s here) in
-      let less = r.0 in
-      absurd (omega (arith, less, at, few))
-  | inr other ↦ rw other (none_lower drivers links s ls few r.1)
-]
+-- there is a link above a held stream; it is persistent, or its controlling stream is in the table; and fewer drivers
+-- lead to its upper driver than to that of the stream
+above_held : (drivers : List DriverSpec) (links : List Link) (t : StreamTable) (s : StreamId) → IsHeldBelow links t
+    → AllByRecursion (λ l. IsTight t l × ClimbsToFewer drivers links l) links → nat_lt 0 (number_at t.holds s) ≡ true
+    → (l : Link) × (find (λ k. same_stream k.lower s) links ≡ Some l)
+    × (is_persistent l ≡ false → is_there t l.ctl ≡ true)
+    × (height drivers links l.ctl.driver < height drivers links s.driver)
+above_held drivers links t s below h held = by (find (λ k. same_stream k.lower s) links) refl where
+  by : (o : Option Link) → find (λ k. same_stream k.lower s) links ≡ o → (l : Link) × (o ≡ Some l)
+      × (is_persistent l ≡ false → is_there t l.ctl ≡ true)
+      × (height drivers links l.ctl.driver < height drivers links s.driver)
+  by None e =
+      absurd (false≢true (ap is_some (sym e) ∙ any_found (λ k. same_stream k.lower s) links ∙ below s held))
+  by (Some l) e =
+      let same = stream_is l.lower s (find_passes _ links l e) in
+      let p = each_find _ _ links l e h in (
+        l,
+        refl,
+        p.0 (ap (λ (x : StreamId). nat_lt 0 (number_at t.holds x)) same ∙ held),
+        subst (λ (x : StreamId). height drivers links l.ctl.driver < height drivers links x.driver) same p.1,
+      )
 
 -- a stream in the table exists within n climbs, if n is at least the number of drivers that lead to its driver
 there_stands_within : (drivers : List DriverSpec) (links : List Link) (t : StreamTable) (n : ℕ) (s : StreamId)
-    → IsHeldBelow links t → AllByRecursion (IsTight t) links → AllByRecursion (ClimbsToFewer drivers links) links
+    → AreLowersApart links → IsHeldBelow links t
+    → AllByRecursion (λ l. IsTight t l × ClimbsToFewer drivers links l) links
     → height drivers links s.driver ≤ n → is_there t s ≡ true → stands_within t.fds links n s ≡ true
-there_stands_within drivers links t zero s up h r few there =
+there_stands_within drivers links t zero s apart up h few there =
     elim (or_cases (is_named t.fds s) (nat_lt 0 (number_at t.holds s)) there) [
       | inl named ↦ named_stands t.fds links 0 s named
-      | inr held ↦ absurd (false≢true (sym (none_lower drivers links s links few r) ∙ up s held))
+      | inr held ↦ let above = above_held drivers links t s up h held in absurd (omega (arith, above.3, few))
     ]
-there_stands_within drivers links t (suc n) s up h r few there =
+there_stands_within drivers links t (suc n) s apart up h few there =
     elim (or_cases (is_named t.fds s) (nat_lt 0 (number_at t.holds s)) there) [
       | inl named ↦ named_stands t.fds links (suc n) s named
       | inr held ↦
-          let climb = mutual_step drivers links t n s links held few
-          (λ x less at. there_stands_within drivers links t n x up h r less at) h r in
-          elim (or_cases (list_any (λ l. is_persistent l && same_stream l.lower s) links)
-          (list_any (λ l. not (is_persistent l) && (same_stream l.lower s && stands_within t.fds links n l.ctl)) links)
-          (by_link (λ l. stands_within t.fds links n l.ctl) s links climb (up s held))) [
-            | inl p ↦ persistent_stands t.fds links (suc n) s p
-            | inr o ↦ or_right _ _ o
-          ]
+          let above = above_held drivers links t s up h held in
+          stands_is t.fds links (suc n) s apart
+          ∙ or_right _ _ (ap (stands_by t.fds links (suc n)) above.1 ∙ elim (cases_Bool (is_persistent above.0)) [
+            | inl p ↦ or_left _ _ p
+            | inr o ↦ or_right _ _ (there_stands_within drivers links t n above.0.ctl apart up h
+                (omega (arith, above.3, few)) (above.2 o))
+          ])
     ]
 
 -- a stream in the table exists
@@ -197,9 +159,9 @@ pub there_exists : (drivers : List DriverSpec) (c : Configuration) (t : StreamTa
     → exists drivers c s ≡ true
 there_exists drivers c t s sound known same up h there =
     let n = height drivers c.links s.driver in
-    let r = recursion_from_All (ClimbsToFewer drivers c.links) c.links
-    (climbs_to_fewer drivers c.links sound.no_cycle known) in
-    let within = there_stands_within drivers c.links t n s up h r (omega arith) there in
+    let fewer = recursion_from_All _ c.links (climbs_to_fewer drivers c.links sound.no_cycle known) in
+    let within = there_stands_within drivers c.links t n s sound.lowers up (each_both _ _ c.links h fewer) (omega arith)
+    there in
     (exists_is_stands drivers c s sound known).1
     (record {
       climbs = n;
@@ -279,11 +241,8 @@ held_by_one_more old new ctl lower kind t u free is held h = λ s.
     let l : Link = record { id = old.next_id; ctl = ctl; lower = lower; kind = kind } in
     let links : new.links ≡ old.links ++ l ∷ [] = ap (λ (x : LinkList). x.links) is in
     let more = ap (λ (ls : List Link). is_below ls s) links ∙ below_more old.links l s
-    ∙ ap (λ (b : Bool). is_below old.links s || b) (turned lower s) in
+    ∙ ap (λ (b : Bool). is_below old.links s || b) (stream_turned lower s) in
     h.holds s ∙ by s (same_stream s lower) ∙ ap (λ (b : Bool). if b then 1 else 0) (sym more) where
-      turned : (x y : StreamId) → same_stream x y ≡ same_stream y x
-      turned x y = grind (arith, nat_tests)
-
       none : number_at t.holds lower ≡ 0
       none = held lower ∙ ap (λ (b : Bool). if b then 1 else 0) free
 

@@ -1,5 +1,5 @@
 -- If no link is loose, the links whose lower streams are not held are the orphaned ones.
-use Rattle.std.proofs.Common.{◌≡◌, ℕ, Bool, true, false, ◌&&◌, ◌||◌, not, List, [], ◌∷◌, length, filter}
+use Rattle.std.proofs.Common.{◌≡◌, ℕ, true, false, ◌&&◌, ◌||◌, not, List, [], ◌∷◌, length, filter}
 use Rattle.std.proofs.Common.{refl, sym, ap, subst, ◌∙◌, arith, inl, inr}
 use Rattle.std.proofs.Math.Bool.{not-not}
 use Rattle.std.specs.Prelude.{nat_lt}
@@ -13,23 +13,16 @@ use Rattle.smx_types.specs.declared.stream.Descriptor.{Descriptor}
 use Rattle.smx_types.specs.declared.stream.StreamId.{StreamId}
 use Rattle.smx_model.specs.Configuration.{Configuration, same_stream}
 use Rattle.smx_model.specs.KnownStreams.{IsKnown}
+use Rattle.smx_model.proofs.EachLemmas.{each_both, each_map}
 use Rattle.smx_model.specs.SoundLinks.{AreLinksSound}
 use Rattle.smx_model.specs.Standing.{is_below, is_persistent, stands_within}
 use Rattle.smx_streams.specs.StreamTables.{StreamTable, number_at, exists as is_there}
 use Rattle.smx_tables.specs.ExistingStreams.{AreHeld, IsReleasing, is_held, is_loose}
 use Rattle.smx_tables.specs.ListedLinks.{is_orphaned, AreIdsOf}
 use Rattle.smx_links.specs.LinkLists.{is_one_of}
-use Rattle.smx_tables.proofs.AboveLemmas.{stream_is}
+use Rattle.smx_tables.proofs.AboveLemmas.{stream_is, IsIdsRising}
 use Rattle.smx_tables.proofs.ExistingLemmas.{IsTight, there_exists}
-use Rattle.smx_tables.proofs.RemovalLemmas.{IsIdsRising, any_kept, links_stay, listed_any}
-
--- two tests that agree on each link keep the same links
-pub kept_alike : (p q : Link → Bool) (ls : List Link) → AllByRecursion (λ k. p k ≡ q k) ls → filter p ls ≡ filter q ls
-kept_alike p q [] h = refl
-kept_alike p q (k ∷ ks) h = elim (cases_Bool (q k)) [
-  | inl t ↦ rw (h.0, t) (ap (λ (xs : List Link). k ∷ xs) (kept_alike p q ks h.1))
-  | inr f ↦ rw (h.0, f) (kept_alike p q ks h.1)
-]
+use Rattle.smx_tables.proofs.RemovalLemmas.{any_kept, links_stay, listed_any}
 
 -- if no link is loose, the controlling stream of each ordinary link whose lower stream is held is in the table
 all_tight : (t : StreamTable) (ls : List Link) → list_any (is_loose t) ls ≡ false → AllByRecursion (IsTight t) ls
@@ -49,30 +42,22 @@ pub released_are_orphaned : (drivers : List DriverSpec) (c : Configuration) (t :
     → t.fds ≡ c.fds → IsReleasing c.links (length drivers) t → list_any (is_loose t) c.links ≡ false
     → AllByRecursion (λ l. not (is_held t l) ≡ is_orphaned c.fds c.links (length drivers) l) c.links
 released_are_orphaned drivers c t sound known same h none =
-    let linked = all_tight t c.links none in
-    each c.links (recursion_from_All (λ l. is_held t l ≡ false → is_orphaned t.fds c.links (length drivers) l ≡ true)
-    c.links h.orphaned) linked where
-      each : (ls : List Link)
-          → AllByRecursion (λ l. is_held t l ≡ false → is_orphaned t.fds c.links (length drivers) l ≡ true) ls
-          → AllByRecursion (IsTight t) ls
-          → AllByRecursion (λ l. not (is_held t l) ≡ is_orphaned c.fds c.links (length drivers) l) ls
-      each [] a b = tt
-      each (l ∷ ls) a b = (
-        elim (cases_Bool (is_held t l)) [
-          | inl held ↦ rw held (elim (cases_Bool (is_persistent l)) [
-            | inl p ↦ rw p refl
-            | inr o ↦
-                let there : stands_within c.fds c.links (length drivers) l.ctl
-                ≡ true = there_exists drivers c t l.ctl sound known same
-                (λ x up. held_below c.links (length drivers) t x h up) (all_tight t c.links none) (b.0 held o) in
-                rw (o, there) refl
-          ])
-          | inr free ↦
-              rw free (sym (subst (λ (fds : List Descriptor). is_orphaned fds c.links (length drivers) l ≡ true) same
-              (a.0 free)))
-        ],
-        each ls a.1 b.1,
-      )
+    let tight = all_tight t c.links none in
+    each_map _ _ c.links by (each_both _ _ c.links (recursion_from_All _ c.links h.orphaned) tight) where
+      by : (l : Link) → (is_held t l ≡ false → is_orphaned t.fds c.links (length drivers) l ≡ true) × IsTight t l
+          → not (is_held t l) ≡ is_orphaned c.fds c.links (length drivers) l
+      by l p = elim (cases_Bool (is_held t l)) [
+        | inl held ↦ rw held (elim (cases_Bool (is_persistent l)) [
+          | inl q ↦ rw q refl
+          | inr o ↦
+              let there : stands_within c.fds c.links (length drivers) l.ctl ≡ true = there_exists drivers c t l.ctl sound
+              known same (λ x up. held_below c.links (length drivers) t x h up) (all_tight t c.links none) (p.1 held o) in
+              rw (o, there) refl
+        ])
+        | inr free ↦
+            rw free (sym (subst (λ (fds : List Descriptor). is_orphaned fds c.links (length drivers) l ≡ true) same
+            (p.0 free)))
+      ]
 
 -- a stream is below a link with a held lower stream exactly if it is below a link and held
 below_held : (t : StreamTable) (s : StreamId) (ls : List Link)

@@ -1,13 +1,9 @@
 -- Releasing the lower streams of links by the ids of the links.
 use Rattle.std.proofs.Common.{◌≡◌, ℕ, ◌-◌, ◌<◌, ◌≤◌, Bool, true, false, ◌&&◌, ◌||◌, not, eqb, List, [], ◌∷◌, ◌++◌}
-use Rattle.std.proofs.Common.{get_or, find, Some, None, if◌then◌else◌, refl, sym, ap, subst, ◌∙◌, arith}
-use Rattle.std.proofs.Common.{inl, inr}
-use Rattle.std.proofs.Math.Bool.{or-false}
-use Rattle.std.specs.List.{All, AllByRecursion, list_any}
-use Rattle.std.proofs.lemmas.Bool.{cases_Bool}
-use Rattle.std.proofs.lemmas.List.Elements.{recursion_from_All}
+use Rattle.std.proofs.Common.{find, Option, Some, None, if◌then◌else◌, refl, ap, subst, ◌∙◌, arith}
+use Rattle.std.proofs.Math.Bool.{and-true, or-false}
+use Rattle.std.specs.Option.{option_map_or}
 use Rattle.std.proofs.lemmas.List.Folds.{list_any-append}
-use Rattle.std.proofs.lemmas.Option.{same_Some}
 use Rattle.std.proofs.lemmas.Bool.Decides.{nat_tests}
 use Rattle.smx_types.specs.declared.link.Link.{Link}
 use Rattle.smx_types.specs.declared.stream.StreamId.{StreamId}
@@ -18,12 +14,9 @@ use Rattle.smx_streams.specs.StreamTables.{StreamTable, AreHungsSound, HasHolds,
 use Rattle.smx_tables.specs.ExistingStreams.{AreHeld}
 use Rattle.smx_tables.specs.ListedLinks.{is_listed}
 use Rattle.smx_links.specs.LinkLists.{is_one_of, others_of}
-use Rattle.smx_links.proofs.IdLemmas.{none_of_none, one_of_more}
-use Rattle.smx_tables.proofs.AboveLemmas.{once_below, once_id, stream_is, stream_self}
-use Rattle.smx_tables.proofs.ExistingLemmas.{same_test}
+use Rattle.smx_tables.proofs.AboveLemmas.{above_with_id, any_once, once_below, stream_is, stream_turned, IsIdsRising}
 use Rattle.smx_tables.proofs.HungLemmas.{none_went}
-use Rattle.smx_tables.proofs.RemovalLemmas.{IsIdsRising, any_kept}
-use Rattle.smx_tables.proofs.FoundLinkLemmas.{found_has, found_itself}
+use Rattle.smx_tables.proofs.RemovalLemmas.{any_kept}
 
 -- ---- releasing a stream that has at most one hold
 
@@ -52,75 +45,38 @@ pub listed_one_more : (ids : List ℕ) (id x : ℕ) → is_listed (ids ++ id ∷
 listed_one_more ids id x = list_any-append (λ i. eqb x i) ids (id ∷ [])
     ∙ ap (λ (b : Bool). is_listed ids x || b) (or-false (eqb x id))
 
--- the id and the lower stream find the same link
-abbrev pub IsFoundBy : ℕ → StreamId → Link → Type 0
-IsFoundBy id s l = eqb l.id id ≡ same_stream l.lower s
+-- after one more id, the streams below the remaining links are the same ones except the lower stream of its link
+below_less : (links : List Link) (ids : List ℕ) (id : ℕ) (x : StreamId) → AreLowersApart links → IsIdsRising links
+    → is_below (others_of (ids ++ id ∷ []) links) x ≡ (is_below (others_of ids links) x
+    && not (option_map_or (λ k. same_stream k.lower x) (find (λ k. eqb k.id id) links) false))
+below_less links ids id x apart rise =
+    rw (left (ids ++ id ∷ []), left ids, ← above_with_id links id x apart rise)
+    (by (find (λ l. same_stream l.lower x) links)) where
+      left : (js : List ℕ) → is_below (others_of js links) x
+          ≡ option_map_or (λ l. not (is_one_of js l)) (find (λ l. same_stream l.lower x) links) false
+      left js = any_kept (λ l. same_stream l.lower x) (λ l. not (is_one_of js l)) links
+          ∙ any_once (λ l. same_stream l.lower x) (λ l. not (is_one_of js l)) _ links (once_below x links apart) (λ l. refl)
 
--- after one more id, the streams below the remaining links are the same ones except that link's lower stream
-below_one_less : (ids : List ℕ) (id : ℕ) (s x : StreamId) (ls : List Link) → AllByRecursion (IsFoundBy id s) ls
-    → is_below (others_of (ids ++ id ∷ []) ls) x ≡ (is_below (others_of ids ls) x && not (same_stream x s))
-below_one_less ids id s x ls h =
-    any_kept (λ l. same_stream l.lower x) (λ l. not (is_one_of (ids ++ id ∷ []) l)) ls
-    ∙ each ls h
-    ∙ ap (λ (b : Bool). b && not (same_stream x s))
-    (sym (any_kept (λ l. same_stream l.lower x) (λ l. not (is_one_of ids l)) ls)) where
-      each : (ks : List Link) → AllByRecursion (IsFoundBy id s) ks
-          → list_any (λ l. same_stream l.lower x && not (is_one_of (ids ++ id ∷ []) l)) ks
-          ≡ (list_any (λ l. same_stream l.lower x && not (is_one_of ids l)) ks && not (same_stream x s))
-      each [] k = refl
-      each (l ∷ ks) k = elim (cases_Bool (same_stream l.lower x)) [
-        | inl here ↦
-            let own = k.0 ∙ ap (λ (y : StreamId). same_stream y s) (stream_is l.lower x here) in
-            rw (here, one_of_more ids id l, own, each ks k.1) (grind (arith, nat_tests))
-        | inr other ↦ rw other (each ks k.1)
-      ]
-
--- if ids rise and no stream is below two links, an id and the lower stream of its link find the same link
-pub found_by : (links : List Link) (id : ℕ) (l : Link) → AreLowersApart links → IsIdsRising links
-    → find (λ k. eqb k.id id) links ≡ Some l → All (IsFoundBy id l.lower) links
-found_by links id l apart rise found = λ i d lt.
-    let k = get_or links i d in
-    let by_id : eqb k.id id ≡ true → k ≡ l = λ t.
-    same_Some k l (sym (found_itself (λ m. eqb m.id id) links i d (once_id id links rise) lt t) ∙ found) in
-    let has = found_has (λ (m : Link). find (λ n. same_stream n.lower m.lower) links ≡ Some m) (λ m. eqb m.id id)
-    links l
-    (recursion_from_All (λ m. find (λ n. same_stream n.lower m.lower) links ≡ Some m) links
-    (λ j e in_range. found_itself (λ n. same_stream n.lower (get_or links j e).lower) links j e
-    (once_below (get_or links j e).lower links apart) in_range (stream_self (get_or links j e).lower))) found in
-    same_test (eqb k.id id) (same_stream k.lower l.lower)
-    (λ t. ap (λ (m : Link). same_stream m.lower l.lower) (by_id t) ∙ stream_self l.lower)
-    (λ t. ap (λ (m : Link). eqb m.id id)
-    (same_Some k l
-    (sym (found_itself (λ n. same_stream n.lower l.lower) links i d (once_below l.lower links apart) lt t) ∙ has.1))
-    ∙ has.0)
+      by : (o : Option Link) → option_map_or (λ l. not (is_one_of (ids ++ id ∷ []) l)) o false
+          ≡ (option_map_or (λ l. not (is_one_of ids l)) o false && not (option_map_or (λ l. eqb l.id id) o false))
+      by None = refl
+      by (Some l) = rw (listed_one_more ids id l.id) (grind (arith, nat_tests))
 
 -- one more id, of a link whose lower stream is released
 pub released_more : (links : List Link) (ids : List ℕ) (id : ℕ) (l : Link) (t new : StreamTable) → AreLowersApart links
     → IsIdsRising links → find (λ k. eqb k.id id) links ≡ Some l
     → AreHeld (others_of ids links) t → HasHolds t l.lower 0 new → AreHeld (others_of (ids ++ id ∷ []) links) new
 released_more links ids id l t new apart rise found held h = λ x.
-    let less = below_one_less ids id l.lower x links
-    (recursion_from_All (IsFoundBy id l.lower) links (found_by links id l apart rise found)) in
-    h.holds x ∙ by x (same_stream x l.lower) ∙ ap (λ (b : Bool). if b then 1 else 0) (sym less) where
+    rw (below_less links ids id x apart rise, found, stream_turned l.lower x)
+    (h.holds x ∙ by x (same_stream x l.lower)) where
       by : (x : StreamId) (v : Bool) → (if v then 0 else number_at t.holds x)
           ≡ (if (is_below (others_of ids links) x && not v) then 1 else 0)
       by x true = grind (arith, nat_tests)
       by x false = held x ∙ grind (arith, nat_tests)
 
 -- one more id that no link has
-pub released_none : (links : List Link) (ids : List ℕ) (id : ℕ) (t : StreamTable) → find (λ k. eqb k.id id) links ≡ None
+pub released_none : (links : List Link) (ids : List ℕ) (id : ℕ) (t : StreamTable) → AreLowersApart links
+    → IsIdsRising links → find (λ k. eqb k.id id) links ≡ None
     → AreHeld (others_of ids links) t → AreHeld (others_of (ids ++ id ∷ []) links) t
-released_none links ids id t none held = subst (λ (ls : List Link). AreHeld ls t) (sym (same links none)) held where
-  same : (ls : List Link) → find (λ k. eqb k.id id) ls ≡ None → others_of (ids ++ id ∷ []) ls ≡ others_of ids ls
-  same [] h = refl
-  same (l ∷ ls) h = elim (cases_Bool (eqb l.id id)) [
-    | inl t ↦ let k : Some l ≡ None = rw t at h in absurd cc
-    | inr f ↦ elim (cases_Bool (is_one_of ids l)) [
-      | inl u ↦ rw (one_of_more ids id l, u) (same ls (rw f at h))
-      | inr u ↦ rw (one_of_more ids id l, u, f) (ap (λ (ks : List Link). l ∷ ks) (same ls (rw f at h)))
-    ]
-  ]
-
--- before the first id
-pub released_at_first : (links : List Link) (t : StreamTable) → AreHeld links t → AreHeld (others_of [] links) t
-released_at_first links t h = subst (λ (ls : List Link). AreHeld ls t) (sym (none_of_none links)) h
+released_none links ids id t apart rise none held = λ x.
+    rw (below_less links ids id x apart rise, none, and-true (is_below (others_of ids links) x)) (held x)

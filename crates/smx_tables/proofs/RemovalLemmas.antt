@@ -1,88 +1,47 @@
 -- Removing links by their ids removes the links that pass the test by which the ids were listed.
 use Rattle.std.proofs.Common.{◌≡◌, ℕ, Bool, true, false, ◌&&◌, ◌||◌, not, eqb, List, [], ◌∷◌, length, map, filter}
-use Rattle.std.proofs.Common.{find, refl, sym, ap, subst, ◌∙◌, arith, inl, inr}
+use Rattle.std.proofs.Common.{find, get_or, refl, sym, ap, subst, ◌∙◌, inl, inr}
 use Rattle.std.proofs.Math.Bool.{and-false, and-true}
-use Rattle.std.specs.Prelude.{nat_lt}
 use Rattle.std.specs.List.{list_any, AllByRecursion}
 use Rattle.std.specs.Option.{option_map_or}
 use Rattle.std.proofs.lemmas.Bool.{cases_Bool, eqb-true, eq-eqb}
-use Rattle.std.proofs.lemmas.Bool.Decides.{nat_tests}
 use Rattle.std.proofs.lemmas.List.{nil_from_length}
-use Rattle.std.proofs.lemmas.List.Elements.{filter_agree}
+use Rattle.std.proofs.lemmas.List.Elements.{filter_agree, recursion_from_All}
 use Rattle.smx_types.specs.declared.link.Link.{Link}
 use Rattle.smx_types.specs.declared.link.Route.{Route}
 use Rattle.smx_types.specs.declared.stream.Place.{Place}
 use Rattle.smx_types.specs.declared.stream.StreamId.{StreamId}
 use Rattle.smx_types.specs.declared.stream.Side.TheVariants as side
 use Rattle.smx_model.specs.Configuration.{Configuration, QueuedMessage, same_side, same_stream}
-use Rattle.smx_model.specs.Ordered.{ComesBefore, IsRising}
 use Rattle.smx_model.specs.Paths.{AreLowersApart}
+use Rattle.smx_model.proofs.EachLemmas.{each_map}
 use Rattle.smx_model.specs.Removal.{without_links, is_read_below}
 use Rattle.smx_model.specs.Standing.{is_below}
 use Rattle.smx_links.specs.LinkLists.{is_one_of}
 use Rattle.smx_tables.specs.ListedLinks.{is_listed, is_read_below_listed, AreIdsOf}
-use Rattle.smx_tables.proofs.AboveLemmas.{any_once, eqb_swap, once_below}
+use Rattle.smx_tables.proofs.AboveLemmas.{any_once, any_with_id, eqb_swap, once_below, once_id, IsIdsRising}
+use Rattle.smx_tables.proofs.FoundLinkLemmas.{found_itself}
 
 -- the ids of the links that go
 abbrev pub ids_of : (Link → Bool) → List Link → List ℕ
 ids_of goes ls = map (λ l. l.id) (filter goes ls)
 
--- the ids of the links rise
-abbrev pub IsIdsRising : List Link → Type 0
-IsIdsRising ls = IsRising (λ l k. nat_lt l.id k.id) ls
-
--- an id that comes before all others is not among them
-not_later : (goes : Link → Bool) (l : Link) (ls : List Link) → ComesBefore (λ l k. nat_lt l.id k.id) l ls
-    → is_listed (ids_of goes ls) l.id ≡ false
-not_later goes l [] h = refl
-not_later goes l (k ∷ ls) h =
-    let f : eqb l.id k.id ≡ false = grind (arith, nat_tests, h.0) in
-    elim (cases_Bool (goes k)) [ inl t ↦ rw (t, f) (not_later goes l ls h.1) | inr n ↦ rw n (not_later goes l ls h.1) ]
-
 -- the ids list the links that go, and no others
 abbrev pub IsListOf : (Link → Bool) → List ℕ → List Link → Type 0
 IsListOf goes ids ls = AllByRecursion (λ l. is_listed ids l.id ≡ goes l) ls
 
--- one more id, below those of all links, doesn't change which of the links are listed
-list_more : (goes : Link → Bool) (l : Link) (ids : List ℕ) (ls : List Link) → ComesBefore (λ l k. nat_lt l.id k.id) l ls
-    → IsListOf goes ids ls → IsListOf goes (l.id ∷ ids) ls
-list_more goes l ids [] h a = tt
-list_more goes l ids (k ∷ ls) h a =
-    let f : eqb k.id l.id ≡ false = grind (arith, nat_tests, h.0) in
-    (rw f a.0, list_more goes l ids ls h.1 a.1)
-
--- if the first link goes, its id is in front of those of the others that go
-goes_first : (goes : Link → Bool) (l : Link) (ls : List Link) → goes l ≡ true
-    → ids_of goes (l ∷ ls) ≡ l.id ∷ ids_of goes ls
-goes_first goes l ls h = rw h refl
-
--- if the first link stays, the ids of the links that go are those of the others
-stays_first : (goes : Link → Bool) (l : Link) (ls : List Link) → goes l ≡ false → ids_of goes (l ∷ ls) ≡ ids_of goes ls
-stays_first goes l ls h = rw h refl
-
--- if ids rise, the ids of the links that go list these links and no others
-pub listed : (goes : Link → Bool) (ls : List Link) → IsIdsRising ls → IsListOf goes (ids_of goes ls) ls
-listed goes [] h = tt
-listed goes (l ∷ ls) h = elim (cases_Bool (goes l)) [
-  | inl t ↦ (
-    rw (t, eq-eqb l.id l.id refl) refl,
-    subst (λ (ids : List ℕ). IsListOf goes ids ls) (sym (goes_first goes l ls t))
-        (list_more goes l (ids_of goes ls) ls h.0 (listed goes ls h.1)),
-  )
-  | inr f ↦ (
-    rw f (not_later goes l ls h.0),
-    subst (λ (ids : List ℕ). IsListOf goes ids ls) (sym (stays_first goes l ls f)) (listed goes ls h.1),
-  )
+-- two tests that agree on each link keep the same links
+pub kept_alike : (p q : Link → Bool) (ls : List Link) → AllByRecursion (λ k. p k ≡ q k) ls → filter p ls ≡ filter q ls
+kept_alike p q [] h = refl
+kept_alike p q (k ∷ ks) h = elim (cases_Bool (q k)) [
+  | inl t ↦ rw (h.0, t) (ap (λ (xs : List Link). k ∷ xs) (kept_alike p q ks h.1))
+  | inr f ↦ rw (h.0, f) (kept_alike p q ks h.1)
 ]
 
 -- two tests that agree on each link leave the same links
 pub links_stay : (f g : Link → Bool) (ls : List Link) → AllByRecursion (λ l. f l ≡ g l) ls
     → filter (λ l. not (f l)) ls ≡ filter (λ l. not (g l)) ls
-links_stay f g [] h = refl
-links_stay f g (l ∷ ls) h = elim (cases_Bool (g l)) [
-  | inl t ↦ rw (h.0, t) (links_stay f g ls h.1)
-  | inr n ↦ rw (h.0, n) (ap (λ (zs : List Link). l ∷ zs) (links_stay f g ls h.1))
-]
+links_stay f g ls h = kept_alike _ _ ls (each_map _ _ ls (λ l e. ap not e) h)
 
 -- the list of the ids of some links contains an id exactly if one of the links has it
 route_listed : (ls : List Link) (id : ℕ) → is_listed (map (λ l. l.id) ls) id ≡ list_any (λ l. eqb l.id id) ls
@@ -133,10 +92,10 @@ ids_in_order goes ls ids e id = ap (λ (xs : List ℕ). is_listed xs id) e ∙ r
 -- the ids of the links that go list these links and no others, in any order
 pub listed_any : (goes : Link → Bool) (ls : List Link) (ids : List ℕ) → IsIdsRising ls → AreIdsOf goes ls ids
     → IsListOf goes ids ls
-listed_any goes ls ids rise h = each ls (listed goes ls rise) where
-  each : (ks : List Link) → IsListOf goes (ids_of goes ls) ks → IsListOf goes ids ks
-  each [] a = tt
-  each (k ∷ ks) a = (h k.id ∙ sym (route_listed (filter goes ls) k.id) ∙ a.0, each ks a.1)
+listed_any goes ls ids rise h = recursion_from_All (λ l. is_listed ids l.id ≡ goes l) ls (λ i d lt.
+    let l = get_or ls i d in
+    h l.id ∙ any_kept (λ k. eqb k.id l.id) goes ls ∙ any_with_id goes l.id ls rise
+    ∙ rw (found_itself (λ k. eqb k.id l.id) ls i d (once_id l.id ls rise) lt (eq-eqb l.id l.id refl)) refl)
 
 -- the configuration without the links with these ids, the routes to them, and the messages and full marks of their
 -- lower streams' read sides
@@ -191,7 +150,7 @@ all_stay goes (l ∷ ls) h = elim (cases_Bool (goes l)) [
 ]
 
 -- a test that no item passes removes nothing
-none_passes : {X : Type 0} (t : X → Bool) (xs : List X) → ((x : X) → t x ≡ false) → filter (λ x. not (t x)) xs ≡ xs
+pub none_passes : {X : Type 0} (t : X → Bool) (xs : List X) → ((x : X) → t x ≡ false) → filter (λ x. not (t x)) xs ≡ xs
 none_passes {X = X} t [] h = refl
 none_passes {X = X} t (x ∷ xs) h = rw (h x) (ap (λ (zs : List X). x ∷ zs) (none_passes t xs h))
 

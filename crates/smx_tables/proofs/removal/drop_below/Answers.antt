@@ -34,7 +34,8 @@ loop-id-preserved c =
       | in_default w ↦ rw (w.queues-is, w.dropped-is)
           (empties_alike (is_read_below_listed links so_far) (is_read_below_listed links now) _ _ _ _
           (λ p. ap (λ (ids : List ℕ). is_read_below_listed links ids p) more
-          ∙ read_none links so_far _ (sym w.in_default.ensures.value) p) c.loop-id.invariant)
+          ∙ read_none links so_far _ w.in_default.ensures.sound.sound.lowers
+          w.in_default.ensures.sound.ids.rise (sym w.in_default.ensures.value) p) c.loop-id.invariant)
     ]
 
 pub returns : goal.returns

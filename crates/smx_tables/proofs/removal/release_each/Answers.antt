@@ -6,13 +6,14 @@ use Rattle.std.proofs.lemmas.List.{take_all}
 use Rattle.smx_tables.proofs.HungLemmas.{left_twice, none_went, there_before}
 use Rattle.smx_tables.proofs.TouchLemmas.{still_touched}
 use Rattle.smx_links.specs.LinkLists.{others_of}
-use Rattle.smx_tables.proofs.ReleasedIdLemmas.{released_at_first, released_more, released_none}
+use Rattle.smx_links.proofs.IdLemmas.{none_of_none}
+use Rattle.smx_tables.proofs.ReleasedIdLemmas.{released_more, released_none}
 use Rattle.smx_tables.proofs.removal.release_each.Goals as goal
 use Rattle.smx_tables.proofs.removal.release_each.Goals.{in-Some, in_default}
 
 pub loop-id-init : goal.loop-id-init
 loop-id-init c = record {
-  held = released_at_first c.args.links.now.links c.args.streams.now c.requires.held;
+  held = rw (none_of_none c.args.links.now.links) c.requires.held;
   fds = refl;
   minors = refl;
   hungs = none_went c.args.streams.now c.is_sound.ensures;
@@ -50,7 +51,8 @@ loop-id-preserved c = elim c.match-get.branch [
     held = subst (λ (ids : List ℕ). AreHeld (others_of ids c.args.links.now.links) c.loop-id.streams)
         (sym (take_more c.args.gone.now c.loop-id.id-index 0 (omega arith)))
         (released_none c.args.links.now.links (take c.loop-id.id-index c.args.gone.now) _ c.loop-id.streams
-        (sym w.in_default.ensures.value) c.loop-id.invariant.held);
+        w.in_default.ensures.sound.sound.lowers w.in_default.ensures.sound.ids.rise (sym w.in_default.ensures.value)
+        c.loop-id.invariant.held);
     fds = c.loop-id.invariant.fds;
     minors = c.loop-id.invariant.minors;
     hungs = c.loop-id.invariant.hungs;
