@@ -1,22 +1,24 @@
 -- The words of a command, by the table of commands.
-use Rattle.std.proofs.Common.{◌≡◌, ℕ, true, List, [], ◌∷◌, refl, inl, inr, rules}
+use Rattle.std.proofs.Common.{◌≡◌, ℕ, true, List, [], ◌∷◌, refl, inl, rules}
 use Rattle.std.specs.Prelude.{codes}
 use Rattle.std.specs.Fmt.{decimal}
+use Rattle.std.specs.List.{AllByRecursion}
 use Rattle.smx_types.specs.declared.command.Command.{Command as AnyCommand}
 use Rattle.smx_types.specs.declared.command.Command.TheVariants as command
 use Rattle.smx_types.specs.declared.version.Version.{Version}
 use Rattle.smx_types.specs.declared.version.Version.TheVariants.{V1, V2}
 use Rattle.smx_words.specs.Spellable.{CanTell, FitsCommandIn}
 use Rattle.smx_words.specs.Spelling.{command_words}
-use Rattle.smx_explain.specs.Rows.{IsFixed, IsRow, commands}
+use Rattle.smx_explain.specs.Rows.{IsFixed, IsRow, WordRow, commands, rows_in}
 use Rattle.smx_explain.specs.declared.kinds.Choice.{Choice}
 use Rattle.smx_explain.specs.declared.kinds.Choice.TheVariants.{Command, Equals}
 use Rattle.smx_explain.specs.declared.kinds.Value.{Value}
 use Rattle.smx_explain.specs.declared.kinds.Value.TheVariants.{Name, Number, Which, Sides, Bytes}
 use Rattle.smx_explain.proofs.CompleteLemmas.{fixed_in}
-use Rattle.smx_explain.proofs.ShapeLemmas.{given}
+use Rattle.smx_explain.proofs.RowLemmas.{all_rows, row_of}
+use Rattle.smx_explain.proofs.ShapeLemmas.{Words, each, words_of}
 use Rattle.smx_explain.proofs.Spelling.{Takes}
-use Rattle.smx_explain.proofs.WalkLemmas.{number, tells}
+use Rattle.smx_explain.proofs.WalkLemmas.{◌▹◌, number, tells}
 
 -- a word of the table, and words for the values after it
 pub record HasForm (version : Version) (c : AnyCommand) : Type 0 where
@@ -100,89 +102,51 @@ module _ (version : Version) where
 abbrev pub IsCommand : Version → List (List ℕ) → Type 0
 IsCommand version words = (c : AnyCommand) × FitsCommandIn version c × (command_words c ≡ words)
 
-module _ (version : Version) where
-  -- a word of version 1's commands, and words for the values after it, are the words of a command
-  of_row : (word : List ℕ) (values : List Value) (next : Choice) (args : List (List ℕ))
-      → IsRow commands word values next → Takes values args → IsCommand version (word ∷ args)
-  of_row word values next args (inl is) takes =
-      let (((a, is_a), end), are) = given (Name ∷ []) args is.1 takes in
-      (command.OpenClone a, (is_a, tells version), cc (is.0, are))
-  of_row word values next args (inr (inl is)) takes =
-      let (((a, is_a), ((b, is_b), end)), are) = given (Name ∷ Number ∷ []) args is.1 takes in
-      (command.OpenMinor a is_b.0, ((is_a, is_b.1), tells version), cc (is.0, are, is_b.2))
-  of_row word values next args (inr (inr (inl is))) takes =
-      let (((a, is_a), end), are) = given (Number ∷ []) args is.1 takes in
-      (command.Dup is_a.0, (is_a.1, tells version), cc (is.0, are, is_a.2))
-  of_row word values next args (inr (inr (inr (inl is)))) takes =
-      let (((a, is_a), end), are) = given (Number ∷ []) args is.1 takes in
-      (command.Close is_a.0, (is_a.1, tells version), cc (is.0, are, is_a.2))
-  of_row word values next args (inr (inr (inr (inr (inl is))))) takes =
-      let (end, are) = given [] args is.1 takes in
-      (command.CloseAll, (tt, tells version), cc (is.0, are))
-  of_row word values next args (inr (inr (inr (inr (inr (inl is)))))) takes =
-      let (((a, is_a), ((b, is_b), end)), are) = given (Number ∷ Number ∷ []) args is.1 takes in
-      (command.Link is_a.0 is_b.0, ((is_a.1, is_b.1), tells version), cc (is.0, are, is_a.2, is_b.2))
-  of_row word values next args (inr (inr (inr (inr (inr (inr (inl is))))))) takes =
-      let (((a, is_a), ((b, is_b), end)), are) = given (Number ∷ Number ∷ []) args is.1 takes in
-      (command.Plink is_a.0 is_b.0, ((is_a.1, is_b.1), tells version), cc (is.0, are, is_a.2, is_b.2))
-  of_row word values next args (inr (inr (inr (inr (inr (inr (inr (inl is)))))))) takes =
-      let (((a, is_a), ((b, is_b), end)), are) = given (Number ∷ Which ∷ []) args is.1 takes in
-      (command.Unlink is_a.0 is_b.0, ((is_a.1, is_b.1), tells version), cc (is.0, are, is_a.2, is_b.2))
-  of_row word values next args (inr (inr (inr (inr (inr (inr (inr (inr (inl is))))))))) takes =
-      let (((a, is_a), ((b, is_b), end)), are) = given (Number ∷ Which ∷ []) args is.1 takes in
-      (command.Punlink is_a.0 is_b.0, ((is_a.1, is_b.1), tells version), cc (is.0, are, is_a.2, is_b.2))
-  of_row word values next args (inr (inr (inr (inr (inr (inr (inr (inr (inr (inl is)))))))))) takes =
-      let (((a, is_a), ((b, is_b), end)), are) = given (Number ∷ Number ∷ []) args is.1 takes in
-      (command.Bind is_a.0 is_b.0, ((is_a.1, is_b.1), tells version), cc (is.0, are, is_a.2, is_b.2))
-  of_row word values next args (inr (inr (inr (inr (inr (inr (inr (inr (inr (inr (inl is))))))))))) takes =
-      let (((a, is_a), end), are) = given (Number ∷ []) args is.1 takes in
-      (command.Unbind is_a.0, (is_a.1, tells version), cc (is.0, are, is_a.2))
-  of_row word values next args (inr (inr (inr (inr (inr (inr (inr (inr (inr (inr (inr (inl is)))))))))))) takes =
-      let (((a, is_a), ((b, is_b), ((c, is_c), end))), are) = given (Number ∷ Number ∷ Number ∷ []) args is.1 takes in (
-        command.Route is_a.0 is_b.0 is_c.0,
-        ((is_a.1, is_b.1, is_c.1), tells version),
-        cc (is.0, are, is_a.2, is_b.2, is_c.2),
-      )
-  of_row word values next args (inr (inr (inr (inr (inr (inr (inr (inr (inr (inr (inr (inr (inl is))))))))))))) takes =
-      let (((a, is_a), ((b, is_b), end)), are) = given (Number ∷ Number ∷ []) args is.1 takes in
-      (command.Unroute is_a.0 is_b.0, ((is_a.1, is_b.1), tells version), cc (is.0, are, is_a.2, is_b.2))
-  of_row word values next args
-      (inr (inr (inr (inr (inr (inr (inr (inr (inr (inr (inr (inr (inr (inl is)))))))))))))) takes =
-      let (((a, is_a), ((b, is_b), ((c, is_c), end))), are) = given (Number ∷ Number ∷ Bytes ∷ []) args is.1 takes in (
-        command.Write is_a.0 is_b.0 is_c.0,
-        ((is_a.1, is_b.1, is_c.1), tells version),
-        cc (is.0, are, is_a.2, is_b.2, is_c.2),
-      )
-  of_row word values next args
-      (inr (inr (inr (inr (inr (inr (inr (inr (inr (inr (inr (inr (inr (inr (inl is))))))))))))))) takes =
-      let (((a, is_a), end), are) = given (Number ∷ []) args is.1 takes in
-      (command.Read is_a.0, (is_a.1, tells version), cc (is.0, are, is_a.2))
-  of_row word values next args
-      (inr (inr (inr (inr (inr (inr (inr (inr (inr (inr (inr (inr (inr (inr (inr (inl is)))))))))))))))) takes =
-      let (((a, is_a), ((b, is_b), end)), are) = given (Number ∷ Sides ∷ []) args is.1 takes in
-      (command.Flush is_a.0 is_b.0, (is_a.1, tells version), cc (is.0, are, is_a.2, is_b.2))
-  of_row word values next args
-      (inr (inr (inr (inr (inr (inr (inr (inr (inr (inr (inr (inr (inr (inr (inr (inr (inl is))))))))))))))))) takes =
-      let (((a, is_a), ((b, is_b), ((c, is_c), ((d, is_d), end)))), are) =
-      given (Name ∷ Number ∷ Number ∷ Bytes ∷ []) args is.1 takes in (
-        command.Inject a is_b.0 is_c.0 is_d.0,
-        ((is_a, is_b.1, is_c.1, is_d.1), tells version),
-        cc (is.0, are, is_b.2, is_c.2, is_d.2),
-      )
-  of_row word values next args
-      (inr (inr (inr (inr (inr (inr (inr (inr (inr (inr (inr (inr (inr (inr (inr (inr (inr (inl is))))))))))))))))))
-      takes =
-      let (((a, is_a), ((b, is_b), end)), are) = given (Name ∷ Number ∷ []) args is.1 takes in
-      (command.Transmit a is_b.0, ((is_a, is_b.1), tells version), cc (is.0, are, is_b.2))
-  of_row word values next args
-      (inr (inr (inr (inr (inr (inr (inr (inr (inr (inr (inr (inr (inr (inr (inr (inr (inr (inr is))))))))))))))))))
-      takes = absurd is
+-- a row's word, and words for its values, are the words of a command
+abbrev IsOfCommand : Version → WordRow → Type 0
+IsOfCommand version row = (ws : Words row.1) → IsCommand version (row.0 ∷ words_of row.1 ws)
+
+-- each row that both versions have is that of a command
+each_row : (version : Version) → AllByRecursion (IsOfCommand version) commands
+each_row version =
+    (λ ((a, is_a), end). (command.OpenClone a, (is_a, tells version), refl))
+    ▹ (λ ((a, is_a), ((b, is_b), end)). (command.OpenMinor a is_b.0, ((is_a, is_b.1), tells version), cc is_b.2))
+    ▹ (λ ((a, is_a), end). (command.Dup is_a.0, (is_a.1, tells version), cc is_a.2))
+    ▹ (λ ((a, is_a), end). (command.Close is_a.0, (is_a.1, tells version), cc is_a.2))
+    ▹ (λ end. (command.CloseAll, (tt, tells version), refl))
+    ▹ (λ ((a, is_a), ((b, is_b), end)).
+    (command.Link is_a.0 is_b.0, ((is_a.1, is_b.1), tells version), cc (is_a.2, is_b.2)))
+    ▹ (λ ((a, is_a), ((b, is_b), end)).
+    (command.Plink is_a.0 is_b.0, ((is_a.1, is_b.1), tells version), cc (is_a.2, is_b.2)))
+    ▹ (λ ((a, is_a), ((b, is_b), end)).
+    (command.Unlink is_a.0 is_b.0, ((is_a.1, is_b.1), tells version), cc (is_a.2, is_b.2)))
+    ▹ (λ ((a, is_a), ((b, is_b), end)).
+    (command.Punlink is_a.0 is_b.0, ((is_a.1, is_b.1), tells version), cc (is_a.2, is_b.2)))
+    ▹ (λ ((a, is_a), ((b, is_b), end)).
+    (command.Bind is_a.0 is_b.0, ((is_a.1, is_b.1), tells version), cc (is_a.2, is_b.2)))
+    ▹ (λ ((a, is_a), end). (command.Unbind is_a.0, (is_a.1, tells version), cc is_a.2))
+    ▹ (λ ((a, is_a), ((b, is_b), ((c, is_c), end))).
+    (command.Route is_a.0 is_b.0 is_c.0, ((is_a.1, is_b.1, is_c.1), tells version), cc (is_a.2, is_b.2, is_c.2)))
+    ▹ (λ ((a, is_a), ((b, is_b), end)).
+    (command.Unroute is_a.0 is_b.0, ((is_a.1, is_b.1), tells version), cc (is_a.2, is_b.2)))
+    ▹ (λ ((a, is_a), ((b, is_b), ((c, is_c), end))).
+    (command.Write is_a.0 is_b.0 is_c.0, ((is_a.1, is_b.1, is_c.1), tells version), cc (is_a.2, is_b.2, is_c.2)))
+    ▹ (λ ((a, is_a), end). (command.Read is_a.0, (is_a.1, tells version), cc is_a.2))
+    ▹ (λ ((a, is_a), ((b, is_b), end)). (command.Flush is_a.0 is_b.0, (is_a.1, tells version), cc (is_a.2, is_b.2)))
+    ▹ (λ ((a, is_a), ((b, is_b), ((c, is_c), ((d, is_d), end)))). (
+      command.Inject a is_b.0 is_c.0 is_d.0,
+      ((is_a, is_b.1, is_c.1, is_d.1), tells version),
+      cc (is_b.2, is_c.2, is_d.2),
+    ))
+    ▹ (λ ((a, is_a), ((b, is_b), end)). (command.Transmit a is_b.0, ((is_a, is_b.1), tells version), cc is_b.2))
+    ▹ tt
 
 -- a fixed word of a command, and words for the values after it, are the words of a command of that version
 pub of_form : (version : Version) (word : List ℕ) (values : List Value) (next : Choice) (args : List (List ℕ))
     → IsFixed version Command word values next → Takes values args → IsCommand version (word ∷ args)
-of_form V1 word values next args is takes = of_row V1 word values next args is takes
-of_form V2 word values next args (inl is) takes =
-    let (((a, is_a), ((b, is_b), end)), are) = given (Name ∷ Number ∷ []) args is.1 takes in
-    (command.Hangup a is_b.0, ((is_a, is_b.1), tt), cc (is.0, are, is_b.2))
-of_form V2 word values next args (inr is) takes = of_row V2 word values next args is takes
+of_form version word values next args is takes =
+    let (ws, are) = each values args takes in
+    let hangup : IsOfCommand V2 (codes "hangup", Name ∷ Number ∷ [], Equals) =
+    λ ((a, is_a), ((b, is_b), end)). (command.Hangup a is_b.0, ((is_a, is_b.1), tt), cc is_b.2) in
+    rw are (row_of (IsOfCommand version) (rows_in version Command)
+    (all_rows IsOfCommand Command each_row (hangup, tt) version) word values next is ws)

@@ -1,5 +1,5 @@
 -- The words of a line of each text, by the tables.
-use Rattle.std.proofs.Common.{◌≡◌, ◌<◌, ℕ, true, List, [], ◌∷◌, ◌++◌, refl, sym, ap, subst, ◌∙◌, inl, inr, rules}
+use Rattle.std.proofs.Common.{◌≡◌, ℕ, true, List, [], ◌∷◌, ◌++◌, refl, sym, ap, subst, ◌∙◌, inl, inr, rules}
 use Rattle.std.specs.Prelude.{◌↔◌, codes}
 use Rattle.std.specs.Fmt.{decimal}
 use Rattle.smx_types.specs.Versions.{is_hangup, tells_of_hangup}
@@ -22,7 +22,7 @@ use Rattle.smx_text.specs.TranscriptLines.{TranscriptLine as AnyTranscriptLine}
 use Rattle.smx_text.specs.TranscriptLines as told
 use Rattle.smx_text.specs.TranscriptText as transcript
 use Rattle.smx_explain.specs.Columns.{IsLine, first_choice}
-use Rattle.smx_explain.specs.Rows.{IsRow, programs_lines, transcript_lines}
+use Rattle.smx_explain.specs.Rows.{IsOther}
 use Rattle.smx_explain.specs.declared.kinds.Choice.{Choice}
 use Rattle.smx_explain.specs.declared.kinds.Choice.TheVariants.{ProgramsLine, TranscriptLine, Command, Equals, Reply}
 use Rattle.smx_explain.specs.declared.kinds.Choice.TheVariants.{End}
@@ -36,7 +36,7 @@ use Rattle.smx_explain.proofs.RowLemmas.{equals_behind}
 use Rattle.smx_explain.proofs.SessionFormLemmas.{lone_spelled, of_lone, of_session_line, request_spelled}
 use Rattle.smx_explain.proofs.ShapeLemmas.{Words, words_of}
 use Rattle.smx_explain.proofs.Spelling.{Spells, Takes}
-use Rattle.smx_explain.proofs.WalkLemmas.{cut, ended_as, from_row, number, plain, with_args}
+use Rattle.smx_explain.proofs.WalkLemmas.{◌▹◌, cut, from_row, number, of_choice, with_args}
 
 -- ---- drivers
 
@@ -56,12 +56,11 @@ driver_takes d f = (f.name, ((d.kind, tt, refl), numbers)) where
   numbers = (number d.minors f.minors, (number d.high f.high, (number d.low f.low, (number d.max f.max, tt))))
 
 -- words for the values of a driver are those of some driver that can be spelled
-driver_of : (words : List (List ℕ)) → ((ws : Words driver_values) × (words ≡ words_of driver_values ws))
-    → (d : DriverSpec) × FitsDriver d × (words ≡ driver_args d)
-driver_of words (((a, is_a), ((b, is_b), ((c, is_c), ((d, is_d), ((e, is_e), ((f, is_f), end)))))), are) = (
+driver_of : (ws : Words driver_values) → (d : DriverSpec) × FitsDriver d × (words_of driver_values ws ≡ driver_args d)
+driver_of ((a, is_a), ((b, is_b), ((c, is_c), ((d, is_d), ((e, is_e), ((f, is_f), end)))))) = (
   record { name = a; kind = is_b.0; minors = is_c.0; high = is_d.0; low = is_e.0; max = is_f.0 },
   record { name = is_a; minors = is_c.1; high = is_d.1; low = is_e.1; max = is_f.1 },
-  cc (are, is_b.2, is_c.2, is_d.2, is_e.2, is_f.2),
+  cc (is_b.2, is_c.2, is_d.2, is_e.2, is_f.2),
 )
 
 -- ---- lines of programs
@@ -77,28 +76,14 @@ module _ (version : Version) where
   programs_line line.End f = from_row version ProgramsLine (codes "end") ([]) End ([]) [] (search rules) tt tt
   programs_line (line.Command c) f = lone_spelled version ProgramsLine (λ word values lone. lone) c f
 
-  -- a first word of a line of programs, and words that complete the line after it, are those of such a line
-  programs_row : (word : List ℕ) (values : List Value) (next : Choice) (words : List (List ℕ))
-      → IsRow programs_lines word values next → Spells version values next words
-      → IsLine Programs version (word ∷ words)
-  programs_row word values next words (inl is) h =
-      let (d, fits, are) = driver_of words (ended_as version values next words driver_values is.1 is.2 h) in
-      (line.Driver d, fits, cc (is.0, are))
-  programs_row word values next words (inr (inl is)) h =
-      let (((a, is_a), end), are) = ended_as version values next words (Number ∷ []) is.1 is.2 h in
-      (line.Process is_a.0, is_a.1, cc (is.0, are, is_a.2))
-  programs_row word values next words (inr (inr (inl is))) h =
-      let (end, are) = ended_as version values next words [] is.1 is.2 h in
-      (line.End, tt, cc (is.0, are))
-  programs_row word values next words (inr (inr (inr is))) h = absurd is
-
-  -- words that complete a line from its start are those of a line of programs
-  of_programs_line : (words : List (List ℕ)) → Spells version [] ProgramsLine words → IsLine Programs version words
-  of_programs_line [] h = absurd h
-  of_programs_line (word ∷ words) (values, next, inl is, h) =
-      programs_row word values next words (plain version ProgramsLine refl word values next is) h
-  of_programs_line (word ∷ words) (values, next, inr is, h) =
-      let t = of_lone version word values next words is h in (line.Command t.0, t.1, sym t.2)
+-- words that complete a line from its start are those of a line of programs
+of_programs_line : (version : Version) → (words : List (List ℕ)) → Spells version [] ProgramsLine words
+    → IsLine Programs version words
+of_programs_line version = of_choice ProgramsLine (IsLine Programs)
+    (λ v. (λ ws. let (d, fits, are) = driver_of ws in (line.Driver d, fits, cc are))
+    ▹ (λ ((a, is_a), end). (line.Process is_a.0, is_a.1, cc is_a.2)) ▹ (λ end. (line.End, tt, refl)) ▹ tt) tt version
+    (λ end. absurd end) (λ word values next is words h.
+    let t = of_lone version word values next is words h in (line.Command t.0, t.1, sym t.2))
 
 -- ---- lines of a transcript
 
@@ -196,79 +181,6 @@ module _ (version : Version) where
   transcript_line (told.Entry e) f = entry_spelled e f
   transcript_line (told.Hung h) f = hung_spelled h f.0 f.1
 
-  -- a first word of a line of a transcript, and words that complete the line after it, are those of such a line
-  transcript_row : (word : List ℕ) (values : List Value) (next : Choice) (words : List (List ℕ))
-      → IsRow transcript_lines word values next → Spells version values next words
-      → IsLine Transcript version (word ∷ words)
-  transcript_row word values next words (inl is) h =
-      let (d, fits, are) = driver_of words (ended_as version values next words driver_values is.1 is.2 h) in
-      (told.Driver d, fits, cc (is.0, are))
-  transcript_row word values next words (inr (inl is)) h =
-      let (end, are) = ended_as version values next words [] is.1 is.2 h in
-      (told.Config, tt, cc (is.0, are))
-  transcript_row word values next words (inr (inr (inl is))) h =
-      let (((a, is_a), ((b, is_b), end)), are) =
-      ended_as version values next words (Number ∷ Number ∷ []) is.1 is.2 h in
-      (told.Next is_a.0 is_b.0, (is_a.1, is_b.1), cc (is.0, are, is_a.2, is_b.2))
-  transcript_row word values next words (inr (inr (inr (inl is)))) h =
-      let (((a, is_a), ((b, is_b), ((c, is_c), ((d, is_d), end)))), are) =
-      ended_as version values next words (Process ∷ Number ∷ Name ∷ Number ∷ []) is.1 is.2 h in (
-        told.Fd (record { process = is_a.0; fd = is_b.0; driver = c; minor = is_d.0 }),
-        record { process = is_a.1; fd = is_b.1; driver = is_c; minor = is_d.1 },
-        cc (is.0, are, is_a.2, is_b.2, is_d.2),
-      )
-  transcript_row word values next words (inr (inr (inr (inr (inl is))))) h =
-      let (((a, is_a), ((b, is_b), ((c, is_c), ((d, is_d), ((e, is_e), ((f, is_f), end)))))), are) =
-      ended_as version values next words (Number ∷ Name ∷ Number ∷ Name ∷ Number ∷ LinkKind ∷ []) is.1 is.2 h in (
-        told.Link (record {
-          id = is_a.0;
-          ctl_driver = b;
-          ctl_minor = is_c.0;
-          lower_driver = d;
-          lower_minor = is_e.0;
-          kind = is_f.0;
-        }),
-        record { id = is_a.1; ctl_driver = is_b; ctl_minor = is_c.1; lower_driver = is_d; lower_minor = is_e.1 },
-        cc (is.0, are, is_a.2, is_c.2, is_e.2, is_f.2),
-      )
-  transcript_row word values next words (inr (inr (inr (inr (inr (inl is)))))) h =
-      let (((a, is_a), ((b, is_b), ((c, is_c), end))), are) =
-      ended_as version values next words (Name ∷ Number ∷ Number ∷ []) is.1 is.2 h in (
-        told.Bind (record { driver = a; addr = is_b.0; minor = is_c.0 }),
-        record { driver = is_a; addr = is_b.1; minor = is_c.1 },
-        cc (is.0, are, is_b.2, is_c.2),
-      )
-  transcript_row word values next words (inr (inr (inr (inr (inr (inr (inl is))))))) h =
-      let (((a, is_a), ((b, is_b), ((c, is_c), end))), are) =
-      ended_as version values next words (Name ∷ Number ∷ Number ∷ []) is.1 is.2 h in (
-        told.Route (record { driver = a; addr = is_b.0; id = is_c.0 }),
-        record { driver = is_a; addr = is_b.1; id = is_c.1 },
-        cc (is.0, are, is_b.2, is_c.2),
-      )
-  transcript_row word values next words (inr (inr (inr (inr (inr (inr (inr (inl is)))))))) h =
-      let (((a, is_a), ((b, is_b), ((c, is_c), ((d, is_d), ((e, is_e), ((f, is_f), end)))))), are) =
-      ended_as version values next words (Name ∷ Number ∷ Side ∷ Number ∷ Number ∷ Bytes ∷ []) is.1 is.2 h in (
-        told.Msg (record {
-          driver = a;
-          minor = is_b.0;
-          side = is_c.0;
-          message = record { serial = is_d.0; addr = is_e.0; bytes = is_f.0 };
-        }),
-        record { driver = is_a; minor = is_b.1; serial = is_d.1; addr = is_e.1; bytes = is_f.1 },
-        cc (is.0, are, is_b.2, is_c.2, is_d.2, is_e.2, is_f.2),
-      )
-  transcript_row word values next words (inr (inr (inr (inr (inr (inr (inr (inr (inl is))))))))) h =
-      let (((a, is_a), ((b, is_b), ((c, is_c), end))), are) =
-      ended_as version values next words (Name ∷ Number ∷ Side ∷ []) is.1 is.2 h in (
-        told.Full (record { driver = a; minor = is_b.0; side = is_c.0 }),
-        record { driver = is_a; minor = is_b.1 },
-        cc (is.0, are, is_b.2, is_c.2),
-      )
-  transcript_row word values next words (inr (inr (inr (inr (inr (inr (inr (inr (inr (inl is)))))))))) h =
-      let (end, are) = ended_as version values next words [] is.1 is.2 h in
-      (told.End, tt, cc (is.0, are))
-  transcript_row word values next words (inr (inr (inr (inr (inr (inr (inr (inr (inr (inr is)))))))))) h = absurd is
-
   -- the words after a process are those of a command and a reply
   record IsCall (words : List (List ℕ)) : Type 0 where
     command : AnyCommand
@@ -280,13 +192,9 @@ module _ (version : Version) where
   -- words that complete the line from the equals sign are that sign and a reply
   equals : (words : List (List ℕ)) → Spells version [] Equals words
       → (rest : List (List ℕ)) × (words ≡ codes "=" ∷ rest) × IsReply version rest
-  equals [] h = absurd h
-  equals (word ∷ words) (values, next, inl is, h) = from (plain version Equals refl word values next is) where
-    from : IsRow ((codes "=", [], Reply) ∷ []) word values next
-        → (rest : List (List ℕ)) × (word ∷ words ≡ codes "=" ∷ rest) × IsReply version rest
-    from (inl is) = (words, cc is.0, of_reply version words (rw (← is.1, ← is.2) h))
-    from (inr is) = absurd is
-  equals (word ∷ words) (values, next, inr is, h) = absurd is
+  equals = of_choice Equals (λ v words. (rest : List (List ℕ)) × (words ≡ codes "=" ∷ rest) × IsReply v rest)
+      (λ v. (λ words h. (words, refl, of_reply v words h)) ▹ tt) tt version (λ end. absurd end)
+      (λ word values next is. absurd is)
 
   -- words that complete the line from a command are a command, the equals sign and a reply
   call : (words : List (List ℕ)) → Spells version [] Command words → IsCall words
@@ -308,10 +216,9 @@ module _ (version : Version) where
   call (word ∷ words) (values, next, inr is, h) = absurd is
 
   -- the word of a process, and words that complete the line after it, are those of an entry's line
-  entry : (word : List ℕ) (values : List Value) (next : Choice) (words : List (List ℕ)) (process : ℕ) → process < 64
-      → word ≡ decimal process → values ≡ [] → next ≡ Command → Spells version values next words
-      → IsLine Transcript version (word ∷ words)
-  entry word values next words process small is none then h =
+  entry : (word : List ℕ) (values : List Value) (next : Choice) → IsOther version TranscriptLine word values next
+      → (words : List (List ℕ)) → Spells version values next words → IsLine Transcript version (word ∷ words)
+  entry word values next ((process, small, is), none, then) words h =
       let t = call words (rw (← none, ← then) h) in (
         told.Entry (record { process = process; command = t.command; reply = t.reply }),
         (
@@ -322,19 +229,58 @@ module _ (version : Version) where
       )
 
 -- words that complete a line from its start are those of a line of a transcript
-of_transcript_line : (version : Version) (words : List (List ℕ)) → Spells version [] TranscriptLine words
+of_transcript_line : (version : Version) → (words : List (List ℕ)) → Spells version [] TranscriptLine words
     → IsLine Transcript version words
-of_transcript_line version [] h = absurd h
-of_transcript_line V1 (word ∷ words) (values, next, inl is, h) = transcript_row V1 word values next words is h
-of_transcript_line V2 (word ∷ words) (values, next, inl (inl is), h) =
-    let (((a, is_a), ((b, is_b), end)), are) = ended_as V2 values next words (Name ∷ Number ∷ []) is.1 is.2 h in (
-      told.Hung (record { driver = a; minor = is_b.0 }),
-      (record { driver = is_a; minor = is_b.1 }, tt),
-      cc (is.0, are, is_b.2),
-    )
-of_transcript_line V2 (word ∷ words) (values, next, inl (inr is), h) = transcript_row V2 word values next words is h
-of_transcript_line version (word ∷ words) (values, next, inr ((process, small, is), none, then), h) =
-    entry version word values next words process small is none then h
+of_transcript_line version = of_choice TranscriptLine (IsLine Transcript)
+    (λ v. (λ ws. let (d, fits, are) = driver_of ws in (told.Driver d, fits, cc are))
+    ▹ (λ end. (told.Config, tt, refl))
+    ▹ (λ ((a, is_a), ((b, is_b), end)). (told.Next is_a.0 is_b.0, (is_a.1, is_b.1), cc (is_a.2, is_b.2)))
+    ▹ (λ ((a, is_a), ((b, is_b), ((c, is_c), ((d, is_d), end)))). (
+      told.Fd (record { process = is_a.0; fd = is_b.0; driver = c; minor = is_d.0 }),
+      record { process = is_a.1; fd = is_b.1; driver = is_c; minor = is_d.1 },
+      cc (is_a.2, is_b.2, is_d.2),
+    ))
+    ▹ (λ ((a, is_a), ((b, is_b), ((c, is_c), ((d, is_d), ((e, is_e), ((f, is_f), end)))))). (
+      told.Link (record {
+        id = is_a.0;
+        ctl_driver = b;
+        ctl_minor = is_c.0;
+        lower_driver = d;
+        lower_minor = is_e.0;
+        kind = is_f.0;
+      }),
+      record { id = is_a.1; ctl_driver = is_b; ctl_minor = is_c.1; lower_driver = is_d; lower_minor = is_e.1 },
+      cc (is_a.2, is_c.2, is_e.2, is_f.2),
+    ))
+    ▹ (λ ((a, is_a), ((b, is_b), ((c, is_c), end))). (
+      told.Bind (record { driver = a; addr = is_b.0; minor = is_c.0 }),
+      record { driver = is_a; addr = is_b.1; minor = is_c.1 },
+      cc (is_b.2, is_c.2),
+    ))
+    ▹ (λ ((a, is_a), ((b, is_b), ((c, is_c), end))). (
+      told.Route (record { driver = a; addr = is_b.0; id = is_c.0 }),
+      record { driver = is_a; addr = is_b.1; id = is_c.1 },
+      cc (is_b.2, is_c.2),
+    ))
+    ▹ (λ ((a, is_a), ((b, is_b), ((c, is_c), ((d, is_d), ((e, is_e), ((f, is_f), end)))))). (
+      told.Msg (record {
+        driver = a;
+        minor = is_b.0;
+        side = is_c.0;
+        message = record { serial = is_d.0; addr = is_e.0; bytes = is_f.0 };
+      }),
+      record { driver = is_a; minor = is_b.1; serial = is_d.1; addr = is_e.1; bytes = is_f.1 },
+      cc (is_b.2, is_c.2, is_d.2, is_e.2, is_f.2),
+    ))
+    ▹ (λ ((a, is_a), ((b, is_b), ((c, is_c), end))). (
+      told.Full (record { driver = a; minor = is_b.0; side = is_c.0 }),
+      record { driver = is_a; minor = is_b.1 },
+      cc (is_b.2, is_c.2),
+    ))
+    ▹ (λ end. (told.End, tt, refl)) ▹ tt)
+    ((λ ((a, is_a), ((b, is_b), end)).
+    (told.Hung (record { driver = a; minor = is_b.0 }), (record { driver = is_a; minor = is_b.1 }, tt), cc is_b.2)) ▹ tt)
+    version (λ end. absurd end) (entry version)
 
 -- ---- all lines
 

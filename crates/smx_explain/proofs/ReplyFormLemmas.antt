@@ -1,5 +1,5 @@
 -- The words of a reply, by the table of replies.
-use Rattle.std.proofs.Common.{◌≡◌, ℕ, true, List, [], ◌∷◌, map, refl, inl, inr, rules}
+use Rattle.std.proofs.Common.{◌≡◌, ℕ, true, false, List, [], ◌∷◌, map, refl, sym, subst, inl, inr, rules}
 use Rattle.std.specs.Prelude.{codes}
 use Rattle.std.specs.Fmt.{decimal}
 use Rattle.std.specs.List.{AllByRecursion}
@@ -13,14 +13,13 @@ use Rattle.smx_types.specs.declared.version.Version.TheVariants.{V1, V2}
 use Rattle.smx_words.specs.HexWords.{hex_word}
 use Rattle.smx_words.specs.Spellable.{CanTell, FitsNumber, FitsReplyIn}
 use Rattle.smx_words.specs.Spelling.{fault_words, reply_words}
-use Rattle.smx_explain.specs.Rows.{IsRow, invalid, replies, rows}
+use Rattle.smx_explain.specs.Rows.{IsRow, replies, rows, rows_in}
 use Rattle.smx_explain.specs.declared.kinds.Choice.{Choice}
 use Rattle.smx_explain.specs.declared.kinds.Choice.TheVariants.{Reply, BadDescriptor, Invalid, Again, NoDevice}
 use Rattle.smx_explain.specs.declared.kinds.Choice.TheVariants.{Serials, End}
-use Rattle.smx_explain.specs.declared.kinds.Value.{Value}
 use Rattle.smx_explain.specs.declared.kinds.Value.TheVariants.{Number, Bytes}
 use Rattle.smx_explain.proofs.Spelling.{Spells}
-use Rattle.smx_explain.proofs.WalkLemmas.{ended_as, from_row, no_more, number, plain, tells}
+use Rattle.smx_explain.proofs.WalkLemmas.{◌▹◌, from_row, number, of_choice, tells}
 
 -- ---- each reply is spelled by the table
 
@@ -97,162 +96,69 @@ module _ (version : Version) where
 abbrev pub IsReply : Version → List (List ℕ) → Type 0
 IsReply version words = (r : AnyReply) × FitsReplyIn version r × (reply_words r ≡ words)
 
--- a fault of a version has these words
-abbrev IsFault : Version → List (List ℕ) → Type 0
-IsFault version words = (f : Fault) × CanTell version (tells_of_hangup (reply.Fault f)) × (fault_words f ≡ words)
-
 module _ (version : Version) where
-  -- if the line ends after a word, nothing follows it
-  nothing : (values : List Value) (next : Choice) (words : List (List ℕ)) → values ≡ [] → next ≡ End
-      → Spells version values next words → words ≡ []
-  nothing values next words none then h = no_more version words (rw (← none, ← then) h)
-
-  -- `EINVAL` and a reason from its table are the words of a fault
-  invalid_row : (word : List ℕ) (values : List Value) (next : Choice) (words : List (List ℕ))
-      → IsRow invalid word values next → Spells version values next words
-      → IsFault version (codes "EINVAL" ∷ word ∷ words)
-  invalid_row word values next words (inl is) h =
-      (fault.Below, tells version, cc (is.0, nothing values next words is.1 is.2 h))
-  invalid_row word values next words (inr (inl is)) h =
-      (fault.NotMux, tells version, cc (is.0, nothing values next words is.1 is.2 h))
-  invalid_row word values next words (inr (inr (inl is))) h =
-      (fault.AlreadyBelow, tells version, cc (is.0, nothing values next words is.1 is.2 h))
-  invalid_row word values next words (inr (inr (inr (inl is)))) h =
-      (fault.Cycle, tells version, cc (is.0, nothing values next words is.1 is.2 h))
-  invalid_row word values next words (inr (inr (inr (inr (inl is))))) h =
-      (fault.NoLink, tells version, cc (is.0, nothing values next words is.1 is.2 h))
-  invalid_row word values next words (inr (inr (inr (inr (inr (inl is)))))) h =
-      (fault.Unbound, tells version, cc (is.0, nothing values next words is.1 is.2 h))
-  invalid_row word values next words (inr (inr (inr (inr (inr (inr (inl is))))))) h =
-      (fault.Unrouted, tells version, cc (is.0, nothing values next words is.1 is.2 h))
-  invalid_row word values next words (inr (inr (inr (inr (inr (inr (inr is))))))) h = absurd is
-
-  -- `EAGAIN` and a reason from its table are the words of a fault
-  again_row : (word : List ℕ) (values : List Value) (next : Choice) (words : List (List ℕ))
-      → IsRow (rows Again) word values next → Spells version values next words
-      → IsFault version (codes "EAGAIN" ∷ word ∷ words)
-  again_row word values next words (inl is) h =
-      (fault.TooManyLinks, tells version, cc (is.0, nothing values next words is.1 is.2 h))
-  again_row word values next words (inr (inl is)) h =
-      (fault.Full, tells version, cc (is.0, nothing values next words is.1 is.2 h))
-  again_row word values next words (inr (inr (inl is))) h =
-      (fault.Empty, tells version, cc (is.0, nothing values next words is.1 is.2 h))
-  again_row word values next words (inr (inr (inr is))) h = absurd is
-
-  -- `EBADF` and the word for a descriptor are the words of a fault
-  descriptor_row : (word : List ℕ) (values : List Value) (next : Choice) (words : List (List ℕ))
-      → IsRow (rows BadDescriptor) word values next → Spells version values next words
-      → IsFault version (codes "EBADF" ∷ word ∷ words)
-  descriptor_row word values next words (inl is) h =
-      (fault.BadDescriptor, tells version, cc (is.0, nothing values next words is.1 is.2 h))
-  descriptor_row word values next words (inr is) h = absurd is
-
-  -- `ENXIO` and the word for a driver or a minor are the words of a fault
-  device_row : (word : List ℕ) (values : List Value) (next : Choice) (words : List (List ℕ))
-      → IsRow (rows NoDevice) word values next → Spells version values next words
-      → IsFault version (codes "ENXIO" ∷ word ∷ words)
-  device_row word values next words (inl is) h =
-      (fault.NoDriver, tells version, cc (is.0, nothing values next words is.1 is.2 h))
-  device_row word values next words (inr (inl is)) h =
-      (fault.NoMinor, tells version, cc (is.0, nothing values next words is.1 is.2 h))
-  device_row word values next words (inr (inr is)) h = absurd is
-
-  -- `EINVAL` and the words that complete the line after it are those of a fault
-  of_invalid : (words : List (List ℕ)) → Spells version [] Invalid words → IsFault version (codes "EINVAL" ∷ words)
-  of_invalid [] h = absurd h
-  of_invalid (word ∷ words) (values, next, inl is, h) =
-      invalid_row word values next words (plain version Invalid refl word values next is) h
-  of_invalid (word ∷ words) (values, next, inr is, h) = absurd is
-
-  -- `EAGAIN` and the words that complete the line after it are those of a fault
-  of_again : (words : List (List ℕ)) → Spells version [] Again words → IsFault version (codes "EAGAIN" ∷ words)
-  of_again [] h = absurd h
-  of_again (word ∷ words) (values, next, inl is, h) =
-      again_row word values next words (plain version Again refl word values next is) h
-  of_again (word ∷ words) (values, next, inr is, h) = absurd is
-
-  -- `EBADF` and the words that complete the line after it are those of a fault
-  of_descriptor : (words : List (List ℕ)) → Spells version [] BadDescriptor words
-      → IsFault version (codes "EBADF" ∷ words)
-  of_descriptor [] h = absurd h
-  of_descriptor (word ∷ words) (values, next, inl is, h) =
-      descriptor_row word values next words (plain version BadDescriptor refl word values next is) h
-  of_descriptor (word ∷ words) (values, next, inr is, h) = absurd is
+  -- a fault that each version has is a reply
+  wrong : (f : Fault) → tells_of_hangup (reply.Fault f) ≡ false → IsReply version (fault_words f)
+  wrong f none = (reply.Fault f, (tt, subst (CanTell version) (sym none) (tells version)), refl)
 
   -- words that complete the line from its serials are those of serials
   of_serials : (words : List (List ℕ)) → Spells version [] Serials words
       → (ns : List ℕ) × AllByRecursion FitsNumber ns × (map decimal ns ≡ words)
   of_serials [] h = ([], tt, refl)
-  of_serials (word ∷ words) (values, next, inl is, h) = absurd (plain version Serials refl word values next is)
+  of_serials (word ∷ words) (values, next, inl is, h) = absurd (none version is) where
+    none : (v : Version) → IsRow (rows_in v Serials) word values next → ⊥
+    none V1 is = is
+    none V2 is = is
   of_serials (word ∷ words) (values, next, inr ((n, fits, is), none, then), h) =
       let t = of_serials words (rw (← none, ← then) h) in
       (n ∷ t.0, (fits, t.1), cc (is, t.2))
 
--- `ENXIO` and the words that complete the line after it are those of a fault of that version
-of_device : (version : Version) (words : List (List ℕ)) → Spells version [] NoDevice words
-    → IsFault version (codes "ENXIO" ∷ words)
-of_device version [] h = absurd h
-of_device V1 (word ∷ words) (values, next, inl is, h) = device_row V1 word values next words is h
-of_device V2 (word ∷ words) (values, next, inl (inl is), h) =
-    (fault.HungUp, tt, cc (is.0, nothing V2 values next words is.1 is.2 h))
-of_device V2 (word ∷ words) (values, next, inl (inr is), h) = device_row V2 word values next words is h
-of_device version (word ∷ words) (values, next, inr is, h) = absurd is
+-- after an error, some words are those of a fault
+abbrev AreAfter : List ℕ → Version → List (List ℕ) → Type 0
+AreAfter error version words = IsReply version (error ∷ words)
 
-module _ (version : Version) where
-  -- the words of a fault of a version are those of a reply
-  of_fault : (words : List (List ℕ)) → IsFault version words → IsReply version words
-  of_fault words (f, told, are) = (reply.Fault f, (tt, told), are)
+-- after `EINVAL`
+of_invalid : (version : Version) → (words : List (List ℕ)) → Spells version [] Invalid words
+    → IsReply version (codes "EINVAL" ∷ words)
+of_invalid version = of_choice Invalid (AreAfter (codes "EINVAL"))
+    (λ v. (λ end. wrong v fault.Below refl) ▹ (λ end. wrong v fault.NotMux refl)
+    ▹ (λ end. wrong v fault.AlreadyBelow refl) ▹ (λ end. wrong v fault.Cycle refl) ▹ (λ end. wrong v fault.NoLink refl)
+    ▹ (λ end. wrong v fault.Unbound refl) ▹ (λ end. wrong v fault.Unrouted refl) ▹ tt) tt version
+    (λ end. absurd end) (λ word values next is. absurd is)
 
-  -- a first word of a reply, and words that complete the line after it, are those of a reply
-  reply_row : (word : List ℕ) (values : List Value) (next : Choice) (words : List (List ℕ))
-      → IsRow replies word values next → Spells version values next words → IsReply version (word ∷ words)
-  reply_row word values next words (inl is) h =
-      let (((a, is_a), ((b, is_b), end)), are) =
-      ended_as version values next words (Number ∷ Number ∷ []) is.1 is.2 h in
-      (reply.Fd is_a.0 is_b.0, ((is_a.1, is_b.1), tells version), cc (is.0, are, is_a.2, is_b.2))
-  reply_row word values next words (inr (inl is)) h =
-      let (((a, is_a), end), are) = ended_as version values next words (Number ∷ []) is.1 is.2 h in
-      (reply.Id is_a.0, (is_a.1, tells version), cc (is.0, are, is_a.2))
-  reply_row word values next words (inr (inr (inl is))) h =
-      let (((a, is_a), end), are) = ended_as version values next words (Number ∷ []) is.1 is.2 h in
-      (reply.Took is_a.0, (is_a.1, tells version), cc (is.0, are, is_a.2))
-  reply_row word values next words (inr (inr (inr (inl is)))) h =
-      let (((a, is_a), ((b, is_b), ((c, is_c), end))), are) =
-      ended_as version values next words (Number ∷ Number ∷ Bytes ∷ []) is.1 is.2 h in (
-        reply.Got is_a.0 is_b.0 is_c.0,
-        ((is_a.1, is_b.1, is_c.1), tells version),
-        cc (is.0, are, is_a.2, is_b.2, is_c.2),
-      )
-  reply_row word values next words (inr (inr (inr (inr (inl is))))) h =
-      let t = of_serials version words (rw (← is.1, ← is.2) h) in
-      (reply.Done t.0, (t.1, tells version), cc (is.0, t.2))
-  reply_row word values next words (inr (inr (inr (inr (inr (inl is)))))) h =
-      let t = of_descriptor version words (rw (← is.1, ← is.2) h) in
-      of_fault (word ∷ words) (t.0, t.1, cc (is.0, t.2))
-  reply_row word values next words (inr (inr (inr (inr (inr (inr (inl is))))))) h =
-      let t = of_invalid version words (rw (← is.1, ← is.2) h) in
-      of_fault (word ∷ words) (t.0, t.1, cc (is.0, t.2))
-  reply_row word values next words (inr (inr (inr (inr (inr (inr (inr (inl is)))))))) h =
-      let t = of_again version words (rw (← is.1, ← is.2) h) in
-      of_fault (word ∷ words) (t.0, t.1, cc (is.0, t.2))
-  reply_row word values next words (inr (inr (inr (inr (inr (inr (inr (inr (inl is))))))))) h =
-      let t = of_device version words (rw (← is.1, ← is.2) h) in
-      of_fault (word ∷ words) (t.0, t.1, cc (is.0, t.2))
-  reply_row word values next words (inr (inr (inr (inr (inr (inr (inr (inr (inr (inl is)))))))))) h =
-      let none = nothing version values next words is.1 is.2 h in
-      (reply.Fault fault.TooManyDescriptors, (tt, tells version), cc (is.0, none))
-  reply_row word values next words (inr (inr (inr (inr (inr (inr (inr (inr (inr (inr (inl is))))))))))) h =
-      (reply.Fault fault.AddressInUse, (tt, tells version), cc (is.0, nothing version values next words is.1 is.2 h))
-  reply_row word values next words (inr (inr (inr (inr (inr (inr (inr (inr (inr (inr (inr (inl is)))))))))))) h =
-      (reply.Fault fault.BadSize, (tt, tells version), cc (is.0, nothing version values next words is.1 is.2 h))
-  reply_row word values next words (inr (inr (inr (inr (inr (inr (inr (inr (inr (inr (inr (inr is)))))))))))) h =
-      absurd is
+-- after `EAGAIN`
+of_again : (version : Version) → (words : List (List ℕ)) → Spells version [] Again words
+    → IsReply version (codes "EAGAIN" ∷ words)
+of_again version = of_choice Again (AreAfter (codes "EAGAIN"))
+    (λ v. (λ end. wrong v fault.TooManyLinks refl) ▹ (λ end. wrong v fault.Full refl)
+    ▹ (λ end. wrong v fault.Empty refl) ▹ tt) tt version (λ end. absurd end) (λ word values next is. absurd is)
+
+-- after `EBADF`
+of_descriptor : (version : Version) → (words : List (List ℕ)) → Spells version [] BadDescriptor words
+    → IsReply version (codes "EBADF" ∷ words)
+of_descriptor version = of_choice BadDescriptor (AreAfter (codes "EBADF"))
+    (λ v. (λ end. wrong v fault.BadDescriptor refl) ▹ tt) tt version (λ end. absurd end)
+    (λ word values next is. absurd is)
+
+-- after `ENXIO`
+of_device : (version : Version) → (words : List (List ℕ)) → Spells version [] NoDevice words
+    → IsReply version (codes "ENXIO" ∷ words)
+of_device version = of_choice NoDevice (AreAfter (codes "ENXIO"))
+    (λ v. (λ end. wrong v fault.NoDriver refl) ▹ (λ end. wrong v fault.NoMinor refl) ▹ tt)
+    ((λ end. (reply.Fault fault.HungUp, (tt, tt), refl)) ▹ tt) version (λ end. absurd end)
+    (λ word values next is. absurd is)
 
 -- words that complete a reply from its start are those of a reply of that version
-pub of_reply : (version : Version) (words : List (List ℕ)) → Spells version [] Reply words → IsReply version words
-of_reply version [] h = absurd h
-of_reply V1 (word ∷ words) (values, next, inl is, h) = reply_row V1 word values next words is h
-of_reply V2 (word ∷ words) (values, next, inl (inl is), h) =
-    (reply.Eof, (tt, tt), cc (is.0, nothing V2 values next words is.1 is.2 h))
-of_reply V2 (word ∷ words) (values, next, inl (inr is), h) = reply_row V2 word values next words is h
-of_reply version (word ∷ words) (values, next, inr is, h) = absurd is
+pub of_reply : (version : Version) → (words : List (List ℕ)) → Spells version [] Reply words → IsReply version words
+of_reply version = of_choice Reply IsReply
+    (λ v. (λ ((a, is_a), ((b, is_b), end)).
+    (reply.Fd is_a.0 is_b.0, ((is_a.1, is_b.1), tells v), cc (is_a.2, is_b.2)))
+    ▹ (λ ((a, is_a), end). (reply.Id is_a.0, (is_a.1, tells v), cc is_a.2))
+    ▹ (λ ((a, is_a), end). (reply.Took is_a.0, (is_a.1, tells v), cc is_a.2))
+    ▹ (λ ((a, is_a), ((b, is_b), ((c, is_c), end))).
+    (reply.Got is_a.0 is_b.0 is_c.0, ((is_a.1, is_b.1, is_c.1), tells v), cc (is_a.2, is_b.2, is_c.2)))
+    ▹ (λ words h. let t = of_serials v words h in (reply.Done t.0, (t.1, tells v), cc t.2))
+    ▹ of_descriptor v ▹ of_invalid v ▹ of_again v ▹ of_device v
+    ▹ (λ end. wrong v fault.TooManyDescriptors refl) ▹ (λ end. wrong v fault.AddressInUse refl)
+    ▹ (λ end. wrong v fault.BadSize refl) ▹ tt)
+    ((λ end. (reply.Eof, (tt, tt), refl)) ▹ tt) version (λ end. absurd end) (λ word values next is. absurd is)

@@ -12,7 +12,8 @@ use Rattle.smx_words.specs.LineReading.{IsSpelled}
 use Rattle.smx_words.specs.Spellable.{FitsNumber, FitsProcess}
 use Rattle.smx_types.specs.declared.version.Version.{Version}
 use Rattle.smx_types.specs.declared.version.Version.TheVariants.{V1, V2}
-use Rattle.smx_explain.specs.Rows.{IsFixed, IsNoRow, IsRow, rows_of, rows_in, WordRow}
+use Rattle.smx_text.proofs.EachLemmas.{all_append}
+use Rattle.smx_explain.specs.Rows.{IsFixed, IsNoRow, IsRow, later_rows, rows, rows_of, rows_in, WordRow}
 use Rattle.smx_explain.specs.declared.kinds.Choice.{Choice}
 use Rattle.smx_explain.specs.declared.kinds.Choice.TheVariants.{Command, Equals}
 use Rattle.smx_explain.specs.declared.kinds.Value.{Value}
@@ -55,6 +56,22 @@ pub in_second : (ks ls : List WordRow) (word : List ℕ) (values : List Value) (
 in_second [] ls word values next is = is
 in_second (k ∷ ks) ls word values next is = inr (in_second ks ls word values next is)
 
+-- ---- all rows of a table
+
+-- what holds of each row of a table holds of a word with its values and its choice
+pub row_of : (P : WordRow → Type 0) (ks : List WordRow) → AllByRecursion P ks → (word : List ℕ) (values : List Value)
+    (next : Choice) → IsRow ks word values next → P (word, values, next)
+row_of P [] all word values next is = absurd is
+row_of P (k ∷ ks) all word values next (inl is) = rw (is.0, is.1, is.2) all.0
+row_of P (k ∷ ks) all word values next (inr is) = row_of P ks all.1 word values next is
+
+-- what holds of the rows of both versions, and of those that version 2 adds, holds of the rows of each version
+pub all_rows : (P : Version → WordRow → Type 0) (choice : Choice)
+    → ((v : Version) → AllByRecursion (P v) (rows choice)) → AllByRecursion (P V2) (later_rows choice)
+    → (version : Version) → AllByRecursion (P version) (rows_in version choice)
+all_rows P choice all later V1 = all V1
+all_rows P choice all later V2 = all_append (P V2) (later_rows choice) (rows choice) later (all V2)
+
 -- ---- values
 
 -- a number that is not one of a process is not spelled as one
@@ -70,13 +87,6 @@ no_process word n fits is large (p, small, same) =
 abbrev AllChoose : Choice → List WordRow → Type 0
 AllChoose next rows = AllByRecursion (λ row. row.2 ≡ next) rows
 
--- if all rows have the same choice, the row of any word has it
-chosen_by_all : (ks : List WordRow) (next : Choice) → AllChoose next ks → (word : List ℕ) (values : List Value)
-    (found : Choice) → IsRow ks word values found → found ≡ next
-chosen_by_all [] next all word values found is = absurd is
-chosen_by_all (k ∷ ks) next all word values found (inl is) = is.2 ∙ all.0
-chosen_by_all (k ∷ ks) next all word values found (inr more) = chosen_by_all ks next all.1 word values found more
-
 -- after each command of a version the equals sign is expected
 all_equals : (version : Version) → AllChoose Equals (rows_in version Command)
 all_equals V1 = search rules
@@ -85,4 +95,4 @@ all_equals V2 = search rules
 -- after each command comes an equals sign
 pub equals_behind : (version : Version) (word : List ℕ) (values : List Value) (next : Choice)
     → IsFixed version Command word values next → next ≡ Equals
-equals_behind version = chosen_by_all (rows_in version Command) Equals (all_equals version)
+equals_behind version = row_of (λ row. row.2 ≡ Equals) (rows_in version Command) (all_equals version)

@@ -6,13 +6,13 @@ use Rattle.smx_types.specs.declared.version.Version.{Version}
 use Rattle.smx_words.specs.Spellable.{FitsCommandIn}
 use Rattle.smx_words.specs.Spelling.{command_words}
 use Rattle.smx_explain.specs.Columns.{AreRequest}
-use Rattle.smx_explain.specs.Rows.{IsLoneCommand, IsOther, IsRow, rows, session_lines}
+use Rattle.smx_explain.specs.Rows.{IsLoneCommand, IsOther, IsRow, rows}
 use Rattle.smx_explain.specs.declared.kinds.Choice.{Choice}
 use Rattle.smx_explain.specs.declared.kinds.Choice.TheVariants.{SessionLine, SessionCommand, Switch, Equals, End}
 use Rattle.smx_explain.specs.declared.kinds.Value.{Value}
 use Rattle.smx_explain.proofs.CommandFormLemmas.{IsCommand, form, of_form}
 use Rattle.smx_explain.proofs.Spelling.{Spells}
-use Rattle.smx_explain.proofs.WalkLemmas.{ended, ended_as, from_row, plain, with_args}
+use Rattle.smx_explain.proofs.WalkLemmas.{◌▹◌, ended, from_row, of_choice, with_args}
 
 module _ (version : Version) where
   -- the words of a command complete a line from a choice that a command without a reply can make
@@ -31,10 +31,10 @@ module _ (version : Version) where
       )
 
   -- a first word of a command without a reply, and words that complete the line after it, are those of a command
-  pub of_lone : (word : List ℕ) (values : List Value) (next : Choice) (words : List (List ℕ))
-      → IsLoneCommand version word values next → Spells version values next words → IsCommand version (word ∷ words)
-  of_lone word values next words (fixed, then) h =
-      of_form version word values Equals words fixed (ended version values next words values refl then h)
+  pub of_lone : (word : List ℕ) (values : List Value) (next : Choice) → IsLoneCommand version word values next
+      → (words : List (List ℕ)) → Spells version values next words → IsCommand version (word ∷ words)
+  of_lone word values next (fixed, then) words h =
+      of_form version word values Equals words fixed (ended version values words (rw (← then) h))
 
   -- a word after which a line ends completes the line
   last : (choice : Choice) (word : List ℕ) → IsRow (rows choice) word [] End → Spells version [] choice (word ∷ [])
@@ -59,46 +59,25 @@ module _ (version : Version) where
     lone_spelled SessionCommand (λ word values lone. lone) command (fits, told),
   )
 
-  -- if the line ends after a word, nothing follows it
-  nothing : (values : List Value) (next : Choice) (words : List (List ℕ)) → values ≡ [] → next ≡ End
-      → Spells version values next words → words ≡ []
-  nothing values next words none then h = (ended_as version values next words [] none then h).1
-
   -- the word after `trace` is `on` or `off`
   of_switch : (words : List (List ℕ)) → Spells version [] Switch words
       → (words ≡ codes "on" ∷ []) ⊎ (words ≡ codes "off" ∷ [])
-  of_switch [] h = absurd h
-  of_switch (word ∷ words) (values, next, inl is, h) = from (plain version Switch refl word values next is) where
-    from : IsRow (rows Switch) word values next → (word ∷ words ≡ codes "on" ∷ []) ⊎ (word ∷ words ≡ codes "off" ∷ [])
-    from (inl is) = inl (cc (is.0, nothing values next words is.1 is.2 h))
-    from (inr (inl is)) = inr (cc (is.0, nothing values next words is.1 is.2 h))
-    from (inr (inr is)) = absurd is
-  of_switch (word ∷ words) (values, next, inr is, h) = absurd is
+  of_switch = of_choice Switch (λ v words. (words ≡ codes "on" ∷ []) ⊎ (words ≡ codes "off" ∷ []))
+      (λ v. (λ end. inl refl) ▹ (λ end. inr refl) ▹ tt) tt version (λ end. absurd end)
+      (λ word values next is. absurd is)
 
   -- words that complete the line after a process are those of a command
   of_command : (words : List (List ℕ)) → Spells version [] SessionCommand words → IsCommand version words
-  of_command [] h = absurd h
-  of_command (word ∷ words) (values, next, inl is, h) = absurd (plain version SessionCommand refl word values next is)
-  of_command (word ∷ words) (values, next, inr is, h) = of_lone word values next words is h
+  of_command = of_choice SessionCommand IsCommand (λ v. tt) tt version (λ end. absurd end) of_lone
 
-  -- a fixed first word, and words that complete the line after it, are those of a request
-  request_row : (word : List ℕ) (values : List Value) (next : Choice) (words : List (List ℕ))
-      → IsRow session_lines word values next → Spells version values next words → AreRequest version (word ∷ words)
-  request_row word values next words (inl is) h = inl (cc (is.0, nothing values next words is.1 is.2 h))
-  request_row word values next words (inr (inl is)) h =
-      elim (of_switch words (rw (← is.1, ← is.2) h)) [
-        | inl on ↦ inr (inl (cc (is.0, on)))
-        | inr off ↦ inr (inr (inl (cc (is.0, off))))
-      ]
-  request_row word values next words (inr (inr (inl is))) h =
-      inr (inr (inr (inl (cc (is.0, nothing values next words is.1 is.2 h)))))
-  request_row word values next words (inr (inr (inr is))) h = absurd is
-
-  -- words that complete a line from its start are those of a request
-  pub of_session_line : (words : List (List ℕ)) → Spells version [] SessionLine words → AreRequest version words
-  of_session_line [] h = absurd h
-  of_session_line (word ∷ words) (values, next, inl is, h) =
-      request_row word values next words (plain version SessionLine refl word values next is) h
-  of_session_line (word ∷ words) (values, next, inr ((process, small, is), none, then), h) =
-      let (c, fits, are) = of_command words (rw (← none, ← then) h) in
-      inr (inr (inr (inr ((process, c), ((small, fits.0), fits.1), cc (is, are)))))
+-- words that complete a line from its start are those of a request
+pub of_session_line : (version : Version) → (words : List (List ℕ)) → Spells version [] SessionLine words
+    → AreRequest version words
+of_session_line version = of_choice SessionLine AreRequest
+    (λ v. (λ end. inl refl)
+    ▹ (λ words h. elim (of_switch v words h)
+    [ inl on ↦ inr (inl (cc on)) | inr off ↦ inr (inr (inl (cc off))) ])
+    ▹ (λ end. inr (inr (inr (inl refl)))) ▹ tt) tt version (λ end. absurd end)
+    (λ word values next ((process, small, is), none, then) words h.
+    let (c, fits, are) = of_command version words (rw (← none, ← then) h) in
+    inr (inr (inr (inr ((process, c), ((small, fits.0), fits.1), cc (is, are))))))

@@ -1,5 +1,5 @@
 -- Words for some values, one by one.
-use Rattle.std.proofs.Common.{◌≡◌, ℕ, List, [], ◌∷◌, refl, ap, subst}
+use Rattle.std.proofs.Common.{◌≡◌, ℕ, List, [], ◌∷◌, refl, ap}
 use Rattle.smx_explain.specs.Rows.{IsValue}
 use Rattle.smx_explain.specs.declared.kinds.Value.{Value}
 use Rattle.smx_explain.proofs.Spelling.{Takes}
@@ -15,15 +15,10 @@ words_of [] ws = []
 words_of (value ∷ values) ws = ws.0.0 ∷ words_of values ws.1
 
 -- words for the values are a word for each
-each : (values : List Value) (args : List (List ℕ)) → Takes values args
+pub each : (values : List Value) (args : List (List ℕ)) → Takes values args
     → (ws : Words values) × (args ≡ words_of values ws)
 each [] [] takes = (tt, refl)
 each [] (arg ∷ args) takes = absurd takes
 each (value ∷ values) [] takes = absurd takes
 each (value ∷ values) (arg ∷ args) takes =
     let t = each values args takes.1 in (((arg, takes.0), t.0), ap (λ (ws : List (List ℕ)). arg ∷ ws) t.1)
-
--- words for values that are known to be these are a word for each of these
-pub given : (wanted : List Value) {values : List Value} (args : List (List ℕ)) → values ≡ wanted → Takes values args
-    → (ws : Words wanted) × (args ≡ words_of wanted ws)
-given wanted args same takes = each wanted args (subst (λ (vs : List Value). Takes vs args) same takes)

@@ -1,16 +1,18 @@
 -- How a line goes on through the expected values and then a choice.
-use Rattle.std.proofs.Common.{◌≡◌, ℕ, false, List, [], ◌∷◌, ◌++◌, refl, ap, subst, ◌∙◌, append-nil, inl, inr}
+use Rattle.std.proofs.Common.{◌≡◌, ℕ, false, List, [], ◌∷◌, ◌++◌, refl, ap, ◌∙◌, append-nil, inl, inr}
 use Rattle.smx_types.specs.declared.version.Version.{Version}
 use Rattle.smx_types.specs.declared.version.Version.TheVariants.{V1, V2}
 use Rattle.smx_words.specs.Spellable.{CanTell, FitsNumber}
 use Rattle.std.specs.Fmt.{decimal}
-use Rattle.smx_explain.specs.Rows.{IsFixed, IsRow, IsValue, WordRow, later_rows, rows, rows_in}
+use Rattle.smx_explain.specs.Rows.{IsOther, IsRow, IsValue, MayEnd, WordRow, later_rows, rows, rows_in}
+use Rattle.std.specs.List.{AllByRecursion}
 use Rattle.smx_explain.specs.declared.kinds.Choice.{Choice}
 use Rattle.smx_explain.specs.declared.kinds.Choice.TheVariants.{End}
 use Rattle.smx_explain.specs.declared.kinds.Value.{Value}
 use Rattle.smx_explain.specs.declared.kinds.Value.TheVariants.{Number}
 use Rattle.smx_explain.proofs.CompleteLemmas.{fixed_in}
-use Rattle.smx_explain.proofs.ShapeLemmas.{Words, given, words_of}
+use Rattle.smx_explain.proofs.RowLemmas.{all_rows, row_of}
+use Rattle.smx_explain.proofs.ShapeLemmas.{Words, each, words_of}
 use Rattle.smx_explain.proofs.Spelling.{Spells, Takes}
 
 -- each version can spell what has no hangup in it
@@ -76,23 +78,48 @@ module _ (version : Version) where
   no_more (word ∷ words) (values, next, inr is, h) = absurd is
 
   -- if the line ends after some values, its words are those of the values
-  pub ended : (values : List Value) (next : Choice) (words : List (List ℕ)) (wanted : List Value) → values ≡ wanted
-      → next ≡ End → Spells version values next words → Takes wanted words
-  ended values next words wanted same then h =
-      let t = cut wanted End words (rw (← same, ← then) h) in
+  pub ended : (values : List Value) (words : List (List ℕ)) → Spells version values End words → Takes values words
+  ended values words h =
+      let t = cut values End words h in
       let whole : words ≡ t.args = t.are ∙ ap (λ (rest : List (List ℕ)). t.args ++ rest) (no_more t.rest t.more)
       ∙ append-nil t.args in
       rw whole t.takes
 
-  -- if the line ends after some values, it has one word for each of them
-  pub ended_as : (values : List Value) (next : Choice) (words : List (List ℕ)) (wanted : List Value)
-      → values ≡ wanted → next ≡ End → Spells version values next words
-      → (ws : Words wanted) × (words ≡ words_of wanted ws)
-  ended_as values next words wanted same then h = given wanted words refl (ended values next words wanted same then h)
+-- ---- what words lead to
 
--- a fixed word of a choice to which version 2 adds nothing is one of the rows of version 1
-pub plain : (version : Version) (choice : Choice) → later_rows choice ≡ [] → (word : List ℕ) (values : List Value)
-    (next : Choice) → IsFixed version choice word values next → IsRow (rows choice) word values next
-plain V1 choice none word values next is = is
-plain V2 choice none word values next is =
-    subst (λ (ks : List WordRow). IsRow (ks ++ rows choice) word values next) none is
+infixr 5 ◌▹◌
+-- a proof for the first row of a table, and proofs for the others
+abbrev pub ◌▹◌ : {A B : Type 0} → A → B → A × B
+a ▹ b = (a, b)
+
+-- words that complete the line from these values and this choice have a property; if the line ends after the values,
+-- it is enough that a word for each value has it
+abbrev pub Lead : Version → List Value → Choice → (List (List ℕ) → Type 0) → Type 0
+Lead version values End P = (ws : Words values) → P (words_of values ws)
+Lead version values next P = (words : List (List ℕ)) → Spells version values next words → P words
+
+-- a row's word, and words that complete the line after it, have a property
+abbrev pub RowLeads : (Version → List (List ℕ) → Type 0) → Version → WordRow → Type 0
+RowLeads P version row = Lead version row.1 row.2 (λ words. P version (row.0 ∷ words))
+
+-- words that complete the line have the property
+led : (version : Version) (P : List (List ℕ) → Type 0) (values : List Value) (next : Choice) → Lead version values next P
+    → (words : List (List ℕ)) → Spells version values next words → P words
+led version P values End leads words h =
+    let (ws, are) = each values words (ended version values words h) in rw are (leads ws)
+led version P values next leads words h = leads words h
+
+-- words that complete the line from a choice have a property, if the rows of its tables lead to it, and each word of
+-- another kind, and the end of the line, if it may end there
+pub of_choice : (choice : Choice) (P : Version → List (List ℕ) → Type 0)
+    → ((v : Version) → AllByRecursion (RowLeads P v) (rows choice)) → AllByRecursion (RowLeads P V2) (later_rows choice)
+    → (version : Version) → (MayEnd choice → P version [])
+    → ((word : List ℕ) (values : List Value) (next : Choice) → IsOther version choice word values next
+    → (words : List (List ℕ)) → Spells version values next words → P version (word ∷ words))
+    → (words : List (List ℕ)) → Spells version [] choice words → P version words
+of_choice choice P all later version ends other [] h = ends h
+of_choice choice P all later version ends other (word ∷ words) (values, next, inl is, h) =
+    led version (λ ws. P version (word ∷ ws)) values next (row_of (RowLeads P version) (rows_in version choice)
+    (all_rows (RowLeads P) choice all later version) word values next is) words h
+of_choice choice P all later version ends other (word ∷ words) (values, next, inr is, h) =
+    other word values next is words h

@@ -118,116 +118,95 @@ pub below_each : (each : Bool) (drivers : List DriverSpec) (c : Configuration) (
     ++ entry_lines_from each drivers (after_from drivers c (before ++ e ∷ [])) more)
 below_each each drivers c [] e more = refl
 below_each each drivers c (d ∷ before) e more =
-    let next : Configuration = (step drivers c d.process d.command).0 in
-    ap (λ (ls : List TraceLine). trace.Plain (line.Entry d) ∷ ls)
-    (ap (λ (ls : List TraceLine). lines_below each drivers c next ++ ls) (below_each each drivers next before e more)
-    ∙ sym (append_assoc (lines_below each drivers c next) (entry_lines_from each drivers next before) _))
+    simp (below_each each drivers (step drivers c d.process d.command).0 before e more, append_assoc)
 
 -- ---- without the lines that are two spaces in
 
--- the plain lines of two parts
-plain_append : (xs ys : List TraceLine) → plain_lines (xs ++ ys) ≡ plain_lines xs ++ plain_lines ys
-plain_append xs ys = filter_map-append _ xs ys
+-- the lines of a transcript that are among these
+record HavePlain (xs : List TraceLine) (ls : List TranscriptLine) : Type 0 where
+  are : plain_lines xs ≡ ls
+
+-- lines with no plain line among them
+none : HavePlain [] []
+none = record { are = refl }
+
+-- one more plain line in front
+front : (l : TranscriptLine) {xs : List TraceLine} {ls : List TranscriptLine} → HavePlain xs ls
+    → HavePlain (trace.Plain l ∷ xs) (l ∷ ls)
+front l h = record { are = ap (λ (ls : List TranscriptLine). l ∷ ls) h.are }
+
+-- two parts
+both : {xs ys : List TraceLine} {a b : List TranscriptLine} → HavePlain xs a → HavePlain ys b
+    → HavePlain (xs ++ ys) (a ++ b)
+both {xs} {ys} h k = record { are = filter_map-append _ xs ys ∙ rw (h.are, k.are) }
+
+-- the plain lines of a group
+plain_group : {X Y : Type 0} (one : Y → TranscriptLine) (shown : X → Y) (xs : List X)
+    → HavePlain (map (λ x. trace.Plain (one (shown x))) xs) (map one (map shown xs))
+plain_group one shown [] = none
+plain_group one shown (x ∷ xs) = front (one (shown x)) (plain_group one shown xs)
 
 -- lines of a transcript are plain
 all_plain : {X : Type 0} (f : X → TranscriptLine) (xs : List X)
-    → plain_lines (map (λ x. trace.Plain (f x)) xs) ≡ map f xs
-all_plain f [] = refl
-all_plain f (x ∷ xs) = ap (λ (ls : List TranscriptLine). f x ∷ ls) (all_plain f xs)
+    → HavePlain (map (λ x. trace.Plain (f x)) xs) (map f xs)
+all_plain f [] = none
+all_plain f (x ∷ xs) = front (f x) (all_plain f xs)
 
 -- changes are not plain
-no_plain_change : (cs : List Change) → plain_lines (map trace.Changed cs) ≡ []
-no_plain_change [] = refl
-no_plain_change (c ∷ cs) = no_plain_change cs
+no_plain_change : (cs : List Change) → HavePlain (map trace.Changed cs) []
+no_plain_change [] = none
+no_plain_change (c ∷ cs) = record { are = (no_plain_change cs).are }
 
 -- waits are not plain
-no_plain_wait : (ws : List Wait) → plain_lines (map trace.Waits ws) ≡ []
-no_plain_wait [] = refl
-no_plain_wait (w ∷ ws) = no_plain_wait ws
+no_plain_wait : (ws : List Wait) → HavePlain (map trace.Waits ws) []
+no_plain_wait [] = none
+no_plain_wait (w ∷ ws) = record { are = (no_plain_wait ws).are }
 
 -- nothing below an entry is plain
 nothing_below : (each : Bool) (drivers : List DriverSpec) (c d : Configuration)
-    → plain_lines (lines_below each drivers c d) ≡ []
+    → HavePlain (lines_below each drivers c d) []
 nothing_below true drivers c d =
-    plain_append (map trace.Changed (changes (view drivers c) (view drivers d))) (map trace.Waits (waits drivers d))
-    ∙ rw (no_plain_change (changes (view drivers c) (view drivers d))) (no_plain_wait (waits drivers d))
-nothing_below false drivers c d = plain_append (map trace.Changed (changes (view drivers c) (view drivers d))) []
-    ∙ rw (no_plain_change (changes (view drivers c) (view drivers d))) refl
+    both (no_plain_change (changes (view drivers c) (view drivers d))) (no_plain_wait (waits drivers d))
+nothing_below false drivers c d = both (no_plain_change (changes (view drivers c) (view drivers d))) none
 
 -- the plain lines of entries
 plain_entries : (each : Bool) (drivers : List DriverSpec) (c : Configuration) (es : List Entry)
-    → plain_lines (entry_lines_from each drivers c es) ≡ map line.Entry es
-plain_entries each drivers c [] = refl
+    → HavePlain (entry_lines_from each drivers c es) (map line.Entry es)
+plain_entries each drivers c [] = none
 plain_entries each drivers c (e ∷ es) =
     let d : Configuration = (step drivers c e.process e.command).0 in
-    ap (λ (ls : List TranscriptLine). line.Entry e ∷ ls)
-    (plain_append (lines_below each drivers c d) (entry_lines_from each drivers d es)
-    ∙ rw (nothing_below each drivers c d) (plain_entries each drivers d es))
+    front (line.Entry e) (both (nothing_below each drivers c d) (plain_entries each drivers d es))
 
 -- the wait of a place is not plain
 no_plain_wait_line : (drivers : List DriverSpec) (c : Configuration) (h : QueuedMessage) (hs : List QueuedMessage)
-    → plain_lines (if list_any (is_at h.place) hs then [] else wait_line drivers c h.place) ≡ []
+    → HavePlain (if list_any (is_at h.place) hs then [] else wait_line drivers c h.place) []
 no_plain_wait_line drivers c h hs = by_any (list_any (is_at h.place) hs) where
-  by_wait : (o : Option Wait) → plain_lines (elim o [ None ↦ [] | Some w ↦ trace.Waits w ∷ [] ]) ≡ []
-  by_wait None = refl
-  by_wait (Some w) = refl
+  by_wait : (o : Option Wait) → HavePlain (elim o [ None ↦ [] | Some w ↦ trace.Waits w ∷ [] ]) []
+  by_wait None = none
+  by_wait (Some w) = record { are = refl }
 
-  by_any : (b : Bool) → plain_lines (if b then [] else wait_line drivers c h.place) ≡ []
-  by_any true = refl
+  by_any : (b : Bool) → HavePlain (if b then [] else wait_line drivers c h.place) []
+  by_any true = none
   by_any false = by_wait (wait_at drivers c h.place)
 
 -- the plain lines of queues
 plain_queues : (drivers : List DriverSpec) (c : Configuration) (hs : List QueuedMessage)
-    → plain_lines (queue_lines drivers c hs) ≡ map line.Msg (map (view_of_message drivers) hs)
-plain_queues drivers c [] = refl
+    → HavePlain (queue_lines drivers c hs) (map line.Msg (map (view_of_message drivers) hs))
+plain_queues drivers c [] = none
 plain_queues drivers c (h ∷ hs) =
-    ap (λ (ls : List TranscriptLine). line.Msg (view_of_message drivers h) ∷ ls)
-    (plain_append (if list_any (is_at h.place) hs then [] else wait_line drivers c h.place) (queue_lines drivers c hs)
-    ∙ rw (no_plain_wait_line drivers c h hs) (plain_queues drivers c hs))
-
--- the plain lines of a group
-plain_group : {X Y : Type 0} (one : Y → TranscriptLine) (shown : X → Y) (xs : List X)
-    → plain_lines (map (λ x. trace.Plain (one (shown x))) xs) ≡ map one (map shown xs)
-plain_group one shown [] = refl
-plain_group one shown (x ∷ xs) = ap (λ (ls : List TranscriptLine). one (shown x) ∷ ls) (plain_group one shown xs)
-
--- two parts whose plain lines are known
-both : (xs ys : List TraceLine) (a b : List TranscriptLine) → plain_lines xs ≡ a → plain_lines ys ≡ b
-    → plain_lines (xs ++ ys) ≡ a ++ b
-both xs ys a b h k = plain_append xs ys ∙ ap (λ (ls : List TranscriptLine). ls ++ plain_lines ys) h
-    ∙ ap (λ (ls : List TranscriptLine). a ++ ls) k
+    front (line.Msg (view_of_message drivers h)) (both (no_plain_wait_line drivers c h hs) (plain_queues drivers c hs))
 
 -- the plain lines of a configuration
 plain_config : (drivers : List DriverSpec) (c : Configuration)
-    → plain_lines (config_lines drivers c) ≡ line.Config ∷ view_body (view drivers c)
+    → HavePlain (config_lines drivers c) (line.Config ∷ view_body (view drivers c))
 plain_config drivers c =
-    let Fds : List TraceLine = map (λ d. trace.Plain (line.Fd (view_of_fd drivers d))) c.fds in
-    let Links : List TraceLine = map (λ l. trace.Plain (line.Link (view_of_link drivers l))) c.links in
-    let Binds : List TraceLine = map (λ b. trace.Plain (line.Bind (view_of_bind drivers b))) c.binds in
-    let Routes : List TraceLine = map (λ r. trace.Plain (line.Route (view_of_route drivers r))) c.routes in
-    let Queues : List TraceLine = queue_lines drivers c c.flow in
-    let Fulls : List TraceLine = map (λ p. trace.Plain (line.Full (view_of_full drivers p))) c.fulls in
-    let Hungs : List TraceLine = map (λ s. trace.Plain (line.Hung (view_of_hung drivers s))) c.hungs in
-    let v : ConfigView = view drivers c in
-    let s6 = both Fulls Hungs (map line.Full v.fulls) (map line.Hung v.hungs)
-    (plain_group line.Full (view_of_full drivers) c.fulls) (plain_group line.Hung (view_of_hung drivers) c.hungs) in
-    let s5 = both Queues (Fulls ++ Hungs) (map line.Msg v.msgs) (map line.Full v.fulls ++ map line.Hung v.hungs)
-    (plain_queues drivers c c.flow) s6 in
-    let s4 = both Routes (Queues ++ (Fulls ++ Hungs)) (map line.Route v.routes)
-    (map line.Msg v.msgs ++ (map line.Full v.fulls ++ map line.Hung v.hungs))
-    (plain_group line.Route (view_of_route drivers) c.routes) s5 in
-    let s3 = both Binds (Routes ++ (Queues ++ (Fulls ++ Hungs))) (map line.Bind v.binds)
-    (map line.Route v.routes ++ (map line.Msg v.msgs ++ (map line.Full v.fulls ++ map line.Hung v.hungs)))
-    (plain_group line.Bind (view_of_bind drivers) c.binds) s4 in
-    let s2 = both Links (Binds ++ (Routes ++ (Queues ++ (Fulls ++ Hungs)))) (map line.Link v.links)
-    (map line.Bind v.binds
-    ++ (map line.Route v.routes ++ (map line.Msg v.msgs ++ (map line.Full v.fulls ++ map line.Hung v.hungs))))
-    (plain_group line.Link (view_of_link drivers) c.links) s3 in
-    let s1 = both Fds (Links ++ (Binds ++ (Routes ++ (Queues ++ (Fulls ++ Hungs))))) (map line.Fd v.fds)
-    (map line.Link v.links ++ (map line.Bind v.binds ++ (map line.Route v.routes
-    ++ (map line.Msg v.msgs ++ (map line.Full v.fulls ++ map line.Hung v.hungs)))))
-    (plain_group line.Fd (view_of_fd drivers) c.fds) s2 in
-    ap (λ (ls : List TranscriptLine). line.Config ∷ line.Next c.next_id c.next_serial ∷ ls) s1
+    front line.Config (front (line.Next c.next_id c.next_serial)
+    (both (plain_group line.Fd (view_of_fd drivers) c.fds)
+    (both (plain_group line.Link (view_of_link drivers) c.links)
+    (both (plain_group line.Bind (view_of_bind drivers) c.binds)
+    (both (plain_group line.Route (view_of_route drivers) c.routes) (both (plain_queues drivers c c.flow)
+    (both (plain_group line.Full (view_of_full drivers) c.fulls)
+    (plain_group line.Hung (view_of_hung drivers) c.hungs))))))))
 
 -- without the lines that are two spaces in, a trace has the lines of the transcript of the replay
 pub transcript_lines : (each : Bool) (t r : Transcript) → IsReplayOf t r
@@ -235,19 +214,10 @@ pub transcript_lines : (each : Bool) (t r : Transcript) → IsReplayOf t r
 transcript_lines each t r h =
     let shown : view r.drivers (after r.drivers r.entries) ≡ r.view =
     ap (λ (ds : List DriverSpec). view ds (after ds r.entries)) h.drivers ∙ sym h.shown in
-    let Drivers : List TranscriptLine = map line.Driver r.drivers in
-    let Entries : List TranscriptLine = map line.Entry r.entries in
-    let Driving : List TraceLine = map (λ d. trace.Plain (line.Driver d)) r.drivers in
-    let Entering : List TraceLine = entry_lines_from each r.drivers empty r.entries in
-    let Config : List TraceLine = config_lines r.drivers (after r.drivers r.entries) in
-    let Last : List TraceLine = trace.Plain line.End ∷ [] in
-    both Driving (Entering ++ (Config ++ Last)) Drivers (Entries ++ ((line.Config ∷ view_body r.view) ++ line.End ∷ []))
-    (all_plain line.Driver r.drivers)
-    (both Entering (Config ++ Last) Entries ((line.Config ∷ view_body r.view) ++ line.End ∷ [])
-    (plain_entries each r.drivers empty r.entries)
-    (both Config Last (line.Config ∷ view_body r.view) (line.End ∷ [])
-    (plain_config r.drivers (after r.drivers r.entries)
-    ∙ ap (λ (v : ConfigView). line.Config ∷ view_body v) shown) refl))
-    ∙ ap (λ (ls : List TranscriptLine). Drivers ++ ls)
-    (sym (append_assoc Entries (line.Config ∷ view_body r.view) (line.End ∷ [])))
-    ∙ sym (append_assoc Drivers (Entries ++ line.Config ∷ view_body r.view) (line.End ∷ []))
+    (both (all_plain line.Driver r.drivers) (both (plain_entries each r.drivers empty r.entries)
+    (both (plain_config r.drivers (after r.drivers r.entries)) (front line.End none)))).are
+    ∙ ap (λ (v : ConfigView). map line.Driver r.drivers
+    ++ (map line.Entry r.entries ++ ((line.Config ∷ view_body v) ++ line.End ∷ []))) shown
+    ∙ ap (λ (ls : List TranscriptLine). map line.Driver r.drivers ++ ls)
+    (sym (append_assoc (map line.Entry r.entries) (line.Config ∷ view_body r.view) (line.End ∷ [])))
+    ∙ sym (append_assoc (map line.Driver r.drivers) (map line.Entry r.entries ++ line.Config ∷ view_body r.view) _)

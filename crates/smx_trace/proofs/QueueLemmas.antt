@@ -38,6 +38,7 @@ use Rattle.smx_tables.proofs.DriverNameLemmas.{found_by_name, number_of, some_dr
 use Rattle.smx_words.specs.Spelling.{side_word}
 use Rattle.smx_words.specs.Words.{LINE_FEED, SPACE, line_of}
 use Rattle.smx_text.specs.TranscriptLines as line
+use Rattle.smx_trace.proofs.ChangeLemmas.{after_two}
 use Rattle.smx_trace.specs.Queues.{AreQueued, IsLeft, begins_with_place, place_with, queues_left, wait_below}
 use Rattle.smx_trace.specs.Queues.{waits_left}
 use Rattle.smx_trace.specs.TraceWords.{reason_words, wait_text, waits_text, words_of_place}
@@ -204,31 +205,10 @@ some_words drivers reason.ForDevice x = refl
 some_words drivers reason.ForRead x = refl
 
 -- the words of a wait in a row
-rearranged : (o a n m s d w : List ℕ)
-    → ((((((o ++ a) ++ (n ++ 32 ∷ (m ++ 32 ∷ s))) ++ 32 ∷ []) ++ d) ++ 58 ∷ 32 ∷ []) ++ w) ++ 10 ∷ []
-    ≡ o ++ ((a ++ ((n ++ 32 ∷ (m ++ 32 ∷ (s ++ 32 ∷ ((d ++ 58 ∷ []) ++ 32 ∷ w)))) ++ 10 ∷ [])) ++ [])
-rearranged o a n m s d w =
-    let whole : ((((((o ++ a) ++ (n ++ 32 ∷ (m ++ 32 ∷ s))) ++ 32 ∷ []) ++ d) ++ 58 ∷ 32 ∷ []) ++ w) ++ 10 ∷ []
-    ≡ (o ++ a) ++ ((n ++ 32 ∷ (m ++ 32 ∷ s)) ++ 32 ∷ (d ++ 58 ∷ 32 ∷ (w ++ 10 ∷ []))) =
-    append_assoc _ w (10 ∷ []) ∙ append_assoc _ (58 ∷ 32 ∷ []) (w ++ 10 ∷ [])
-    ∙ append_assoc _ d (58 ∷ 32 ∷ (w ++ 10 ∷ [])) ∙ append_assoc _ (32 ∷ []) (d ++ 58 ∷ 32 ∷ (w ++ 10 ∷ []))
-    ∙ append_assoc (o ++ a) (n ++ 32 ∷ (m ++ 32 ∷ s)) (32 ∷ (d ++ 58 ∷ 32 ∷ (w ++ 10 ∷ []))) in
-    let tail : (d ++ 58 ∷ []) ++ (32 ∷ (w ++ 10 ∷ [])) ≡ d ++ 58 ∷ 32 ∷ (w ++ 10 ∷ []) =
-    append_assoc d (58 ∷ []) (32 ∷ (w ++ 10 ∷ [])) in
-    let X : List ℕ = d ++ 58 ∷ 32 ∷ (w ++ 10 ∷ []) in
-    let left : (n ++ 32 ∷ (m ++ 32 ∷ s)) ++ 32 ∷ X ≡ n ++ 32 ∷ (m ++ 32 ∷ (s ++ 32 ∷ X)) =
-    append_assoc n (32 ∷ (m ++ 32 ∷ s)) (32 ∷ X)
-    ∙ ap (λ (t : List ℕ). n ++ 32 ∷ t) (append_assoc m (32 ∷ s) (32 ∷ X)) in
-    let Y : List ℕ = (d ++ 58 ∷ []) ++ 32 ∷ w in
-    let right : (n ++ 32 ∷ (m ++ 32 ∷ (s ++ 32 ∷ Y))) ++ 10 ∷ [] ≡ n ++ 32 ∷ (m ++ 32 ∷ (s ++ 32 ∷ X)) =
-    append_assoc n (32 ∷ (m ++ 32 ∷ (s ++ 32 ∷ Y))) (10 ∷ [])
-    ∙ ap (λ (t : List ℕ). n ++ 32 ∷ t) (append_assoc m (32 ∷ (s ++ 32 ∷ Y)) (10 ∷ []))
-    ∙ ap (λ (t : List ℕ). n ++ 32 ∷ (m ++ 32 ∷ t)) (append_assoc s (32 ∷ Y) (10 ∷ []))
-    ∙ ap (λ (t : List ℕ). n ++ 32 ∷ (m ++ 32 ∷ (s ++ 32 ∷ t)))
-    (append_assoc (d ++ 58 ∷ []) (32 ∷ w) (10 ∷ []) ∙ tail) in
-    whole ∙ ap (λ (t : List ℕ). (o ++ a) ++ t) left ∙ append_assoc o a _
-    ∙ ap (λ (t : List ℕ). o ++ (a ++ t)) (sym right)
-    ∙ ap (λ (t : List ℕ). o ++ t) (sym (append-nil _))
+rearranged : (o a n m s d w space colon end : List ℕ)
+    → ((((((o ++ a) ++ (n ++ (space ++ (m ++ (space ++ s))))) ++ space) ++ d) ++ (colon ++ space)) ++ w) ++ end
+    ≡ o ++ ((a ++ ((n ++ (space ++ (m ++ (space ++ (s ++ (space ++ ((d ++ colon) ++ (space ++ w)))))))) ++ end)) ++ [])
+rearranged o a n m s d w space colon end = simp (append_assoc, append-nil)
 
 -- a wait is written, word by word
 pub wait_written : (drivers : List DriverSpec) (c : Configuration) (p : Place) (m : Message) (r : Reason)
@@ -240,25 +220,12 @@ wait_written drivers c p m r o0 o1 o2 o3 o4 o5 o6 o7 first is e1 e2 e3 e4 e5 e6 
     let Name : List ℕ = name_of drivers p.stream.driver in
     let Minor : List ℕ = decimal p.stream.minor in
     let Side : List ℕ = side_word p.side in
-    let Serial : List ℕ = decimal m.serial in
-    let Why : List ℕ = line_of (reason_words drivers r) in
-    let wait : Wait = record { place = p; serial = m.serial; reason = r } in
-    let text : wait_text drivers wait
-    ≡ codes "  waits " ++ ((Name ++ SPACE ∷ (Minor ++ SPACE ∷ (Side ++ SPACE ∷ ((Serial ++ codes ":") ++ SPACE ∷ Why))))
-    ++ LINE_FEED ∷ []) =
-    ap (λ (w : List ℕ). codes "  waits "
-    ++ ((Name ++ SPACE ∷ (Minor ++ SPACE ∷ (Side ++ SPACE ∷ w))) ++ LINE_FEED ∷ []))
-    (some_words drivers r (Serial ++ codes ":")) in
-    let Words : List ℕ = Name ++ SPACE ∷ (Minor ++ SPACE ∷ (Side ++ SPACE ∷ ((Serial ++ codes ":") ++ SPACE ∷ Why))) in
-    let apart : ((((((o0 ++ codes "  waits ") ++ (Name ++ SPACE ∷ (Minor ++ SPACE ∷ Side))) ++ codes " ") ++ Serial)
-    ++ codes ": ") ++ Why) ++ codes "\n"
-    ≡ o0 ++ ((codes "  waits " ++ (Words ++ LINE_FEED ∷ [])) ++ []) =
-    rearranged o0 (codes "  waits ") Name Minor Side Serial Why in
-    e7 ∙ ap (λ (t : List ℕ). t ++ codes "\n") (e6 ∙ ap (λ (t : List ℕ). t ++ Why) (e5
-    ∙ ap (λ (t : List ℕ). t ++ codes ": ") (e4 ∙ ap (λ (t : List ℕ). t ++ Serial) (e3
-    ∙ ap (λ (t : List ℕ). t ++ codes " ") (e2 ∙ ap (λ (t : List ℕ). t ++ line_of (words_of_place drivers p)) e1)))))
-    ∙ apart ∙ ap (λ (t : List ℕ). o0 ++ (t ++ [])) (sym text)
-    ∙ ap (λ (ls : List TraceLine). o0 ++ trace_lines_text drivers ls) (sym (wait_with drivers c p m r first is))
+    rw (e7, e6, e5, e4, e3, e2, e1) (rearranged o0 (codes "  waits ") Name Minor Side (decimal m.serial)
+    (line_of (reason_words drivers r)) (SPACE ∷ []) (codes ":") (LINE_FEED ∷ [])
+    ∙ ap (λ (w : List ℕ). o0 ++ ((codes "  waits "
+    ++ ((Name ++ SPACE ∷ (Minor ++ SPACE ∷ (Side ++ SPACE ∷ w))) ++ LINE_FEED ∷ [])) ++ []))
+    (sym (some_words drivers r (decimal m.serial ++ codes ":")))
+    ∙ ap (λ (ls : List TraceLine). o0 ++ trace_lines_text drivers ls) (sym (wait_with drivers c p m r first is)))
 
 -- ---- a line and its place
 
@@ -399,8 +366,6 @@ pub queues_step : (drivers : List DriverSpec) (c : Configuration) (h : QueuedMes
     → new ++ queues_left drivers c hs ≡ out ++ queues_left drivers c (h ∷ hs)
 queues_step drivers c h hs out mid new e f =
     let Line : List ℕ = trace_line_text drivers (trace.Plain (line.Msg (view_of_message drivers h))) in
-    let Below : List ℕ = trace_lines_text drivers (wait_below drivers c h hs) in
-    ap (λ (t : List ℕ). t ++ queues_left drivers c hs) (f ∙ ap (λ (t : List ℕ). t ++ Below) e)
-    ∙ append_assoc (out ++ Line) Below _ ∙ append_assoc out Line _
+    after_two out mid new (new ++ queues_left drivers c hs) Line _ (queues_left drivers c hs) e f refl
     ∙ ap (λ (t : List ℕ). out ++ (Line ++ t))
     (sym (flat_map-append (trace_line_text drivers) (wait_below drivers c h hs) (queue_lines drivers c hs)))

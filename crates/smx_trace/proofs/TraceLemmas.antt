@@ -1,9 +1,10 @@
 -- A trace that is being written.
-use Rattle.std.proofs.Common.{◌≡◌, ℕ, Bool, true, false, List, [], ◌∷◌, ◌++◌, map, refl, sym, ap, ◌∙◌, subst}
+use Rattle.std.proofs.Common.{◌≡◌, ℕ, Bool, true, false, List, [], ◌∷◌, ◌++◌, map, sym, ap, ◌∙◌, subst}
 use Rattle.std.proofs.Common.{append_assoc}
 use Rattle.std.specs.Prelude.{if◌then◌else◌, codes}
 use Rattle.std.proofs.lemmas.Grind.{flat_map-append}
 use Rattle.std.proofs.lemmas.List.{append-nil}
+use Rattle.std.proofs.lemmas.List.Folds.{flat_map-map}
 use Rattle.smx_types.specs.declared.command.Entry.{Entry}
 use Rattle.smx_types.specs.declared.driver.DriverSpec.{DriverSpec}
 use Rattle.smx_types.specs.declared.reply.Reply.{Reply}
@@ -34,20 +35,16 @@ use Rattle.smx_trace.specs.Traces.{IsTraceText, TraceLine, config_lines, entry_l
 use Rattle.smx_trace.specs.Traces.{lines_of_entry, queue_lines, trace_line_text, trace_lines_text}
 use Rattle.smx_trace.specs.Traces as trace
 use Rattle.smx_trace.specs.Tracing.{HasTraced, TracesEntry}
-use Rattle.smx_trace.proofs.ChangeLemmas.{pieces_of}
+use Rattle.smx_trace.proofs.ChangeLemmas.{after_two}
 use Rattle.smx_trace.proofs.ReplayLemmas.{led_from, more_from, replayed}
 
 -- one more entry, and the lines below it
 pub entries_push : (each : Bool) (drivers : List DriverSpec) (c : Configuration) (es : List Entry) (e : Entry)
     → entry_lines_from each drivers c (es ++ e ∷ [])
     ≡ entry_lines_from each drivers c es ++ lines_of_entry each drivers (after_from drivers c es) e
-entries_push each drivers c [] e = ap (λ (ls : List TraceLine). trace.Plain (line.Entry e) ∷ ls) (append-nil _)
+entries_push each drivers c [] e = simp append-nil
 entries_push each drivers c (d ∷ es) e =
-    let next : Configuration = (step drivers c d.process d.command).0 in
-    let Below : List TraceLine = lines_below each drivers c next in
-    ap (λ (ls : List TraceLine). trace.Plain (line.Entry d) ∷ ls)
-    (ap (λ (ls : List TraceLine). Below ++ ls) (entries_push each drivers next es e)
-    ∙ sym (append_assoc Below (entry_lines_from each drivers next es) _))
+    simp (entries_push each drivers (step drivers c d.process d.command).0 es e, append_assoc)
 
 -- the text of waits, where they are wanted
 abbrev pub waits_if : Bool → List DriverSpec → Configuration → List ℕ
@@ -57,15 +54,8 @@ waits_if each drivers d = if each then waits_text drivers (waits drivers d) else
 below_text : (each : Bool) (drivers : List DriverSpec) (c d : Configuration)
     → trace_lines_text drivers (lines_below each drivers c d)
     ≡ changes_text (changes (view drivers c) (view drivers d)) ++ waits_if each drivers d
-below_text each drivers c d =
-    flat_map-append (trace_line_text drivers) (map trace.Changed (changes (view drivers c) (view drivers d))) _
-    ∙ ap (λ (t : List ℕ). t ++ trace_lines_text drivers (if each then map trace.Waits (waits drivers d) else []))
-    (pieces_of (trace_line_text drivers) trace.Changed (changes (view drivers c) (view drivers d)))
-    ∙ ap (λ (t : List ℕ). changes_text (changes (view drivers c) (view drivers d)) ++ t) (by each) where
-      by : (b : Bool) → trace_lines_text drivers (if b then map trace.Waits (waits drivers d) else [])
-          ≡ waits_if b drivers d
-      by true = pieces_of (trace_line_text drivers) trace.Waits (waits drivers d)
-      by false = refl
+below_text true drivers c d = simp (flat_map-append, flat_map-map)
+below_text false drivers c d = simp (flat_map-append, flat_map-map)
 
 -- nothing is traced yet
 pub trace_begun : (each : Bool) (drivers : List DriverSpec) (opening : List ℕ) (m : Machine) → m.drivers ≡ drivers
@@ -87,26 +77,13 @@ entry_traced each e reply m n v w text t1 t2 t3 kept stepped is is' e1 e2 e3 =
     let d : Configuration = (step ds c e.process e.command).0 in
     let is_d : n.configuration ≡ d = sym (ap (λ (x : Configuration × Reply). x.0) stepped) in
     let is_reply : reply ≡ a.reply = sym (ap (λ (x : Configuration × Reply). x.1) stepped) in
-    let now : w ≡ view ds n.configuration =
-    is' ∙ ap (λ (x : List DriverSpec). view x n.configuration) kept in
     let Line : Reply → List ℕ = λ r. line_of (entry_words (record e { reply = r })) ++ LINE_FEED ∷ [] in
     record {
       drivers = kept;
       performed = is_d;
       written =
-          e3 ∙ ap (λ (t : List ℕ). t ++ waits_if each n.drivers n.configuration)
-          (e2 ∙ ap (λ (t : List ℕ). t ++ changes_text (changes v w)) e1)
-          ∙ ap (λ (x : List DriverSpec). ((text ++ Line reply) ++ changes_text (changes v w))
-          ++ waits_if each x n.configuration) kept
-          ∙ ap (λ (x : ConfigView). ((text ++ Line reply) ++ changes_text (changes x w))
-          ++ waits_if each ds n.configuration) is
-          ∙ ap (λ (x : ConfigView). ((text ++ Line reply) ++ changes_text (changes (view ds c) x))
-          ++ waits_if each ds n.configuration) now
-          ∙ append_assoc (text ++ Line reply) _ _ ∙ append_assoc text (Line reply) _
-          ∙ ap (λ (r : Reply). text ++ (Line r ++ (changes_text (changes (view ds c) (view ds n.configuration))
-          ++ waits_if each ds n.configuration))) is_reply
-          ∙ ap (λ (x : Configuration). text ++ (Line a.reply ++ (changes_text (changes (view ds c) (view ds x))
-          ++ waits_if each ds x))) is_d
+          after_two text t1 t2 t3 _ _ _ (e1 ∙ ap (λ (r : Reply). text ++ Line r) is_reply)
+          (rw (is, is', kept, is_d) at e2) (rw (kept, is_d) at e3)
           ∙ ap (λ (t : List ℕ). text ++ (Line a.reply ++ t)) (sym (below_text each ds c d));
     }
 
@@ -145,31 +122,13 @@ traced_more each drivers opening asked e m n text new h traced =
 -- lines of a trace that are written one after the other
 joined : (drivers : List DriverSpec) (xs ys : List TraceLine) (a b c : List ℕ) → b ≡ a ++ trace_lines_text drivers xs
     → c ≡ b ++ trace_lines_text drivers ys → c ≡ a ++ trace_lines_text drivers (xs ++ ys)
-joined drivers xs ys a b c e f = f ∙ ap (λ (t : List ℕ). t ++ trace_lines_text drivers ys) e ∙ append_assoc a _ _
-    ∙ ap (λ (t : List ℕ). a ++ t) (sym (flat_map-append (trace_line_text drivers) xs ys))
-
--- the lines of a group of a view
-plain_text : {X Y : Type 0} (drivers : List DriverSpec) (one : Y → TranscriptLine) (shown : X → Y) (xs : List X)
-    (ys : List Y) → ys ≡ map shown xs
-    → text_of (map (λ y. line_words (one y)) ys)
-    ≡ trace_lines_text drivers (map (λ x. trace.Plain (one (shown x))) xs)
-plain_text {X} {Y} drivers one shown xs ys is =
-    ap (λ (zs : List Y). text_of (map (λ y. line_words (one y)) zs)) is
-    ∙ pieces_of (λ ws. line_of ws ++ LINE_FEED ∷ []) (λ y. line_words (one y)) (map shown xs)
-    ∙ pieces_of (λ y. line_of (line_words (one y)) ++ LINE_FEED ∷ []) shown xs
-    ∙ sym (pieces_of (trace_line_text drivers) (λ x. trace.Plain (one (shown x))) xs)
+joined drivers xs ys a b c e f = simp (e, f, flat_map-append, append_assoc)
 
 -- a group of a view is written
 group : {X Y : Type 0} (drivers : List DriverSpec) (one : Y → TranscriptLine) (shown : X → Y) (xs : List X)
     (ys : List Y) (a b : List ℕ) → ys ≡ map shown xs → b ≡ a ++ text_of (map (λ y. line_words (one y)) ys)
     → b ≡ a ++ trace_lines_text drivers (map (λ x. trace.Plain (one (shown x))) xs)
-group drivers one shown xs ys a b is e = e ∙ ap (λ (t : List ℕ). a ++ t) (plain_text drivers one shown xs ys is)
-
--- what is written after two parts
-after_two : (a b0 b1 c x y z : List ℕ) → b0 ≡ a ++ x → b1 ≡ b0 ++ y → c ≡ b1 ++ z → c ≡ a ++ (x ++ (y ++ z))
-after_two a b0 b1 c x y z e f g =
-    g ∙ ap (λ (t : List ℕ). t ++ z) (f ∙ ap (λ (t : List ℕ). t ++ y) e) ∙ append_assoc (a ++ x) y z
-    ∙ append_assoc a x (y ++ z)
+group drivers one shown xs ys a b is e = simp (e, is, flat_map-map)
 
 -- a configuration is written, group by group
 pub configuration_written : (drivers : List DriverSpec) (c : Configuration) (v : ConfigView)
@@ -206,15 +165,13 @@ opening_is : (version : Version) (drivers : List DriverSpec) (opening : List ℕ
     → opening ≡ header (transcript_grammar version) ++ LINE_FEED
     ∷ trace_lines_text drivers (map (λ d. trace.Plain (line.Driver d)) drivers)
 opening_is version drivers opening b =
+    let lines : text_of (map line_words (map line.Driver drivers))
+    ≡ trace_lines_text drivers (map (λ d. trace.Plain (line.Driver d)) drivers) = simp flat_map-map in
     b.written
     ∙ ap (λ (ls : List TranscriptLine). (header (transcript_grammar version) ++ LINE_FEED ∷ [])
-    ++ text_of (map line_words ls))
-    (append-nil (map line.Driver drivers))
+    ++ text_of (map line_words ls)) (append-nil (map line.Driver drivers))
     ∙ append_assoc (header (transcript_grammar version)) (LINE_FEED ∷ []) _
-    ∙ ap (λ (t : List ℕ). header (transcript_grammar version) ++ LINE_FEED ∷ t)
-    (pieces_of (λ ws. line_of ws ++ LINE_FEED ∷ []) line_words (map line.Driver drivers)
-    ∙ pieces_of (λ l. line_of (line_words l) ++ LINE_FEED ∷ []) line.Driver drivers
-    ∙ sym (pieces_of (trace_line_text drivers) (λ d. trace.Plain (line.Driver d)) drivers))
+    ∙ ap (λ (t : List ℕ). header (transcript_grammar version) ++ LINE_FEED ∷ t) lines
 
 -- the lines that a trace has written, with those of its configuration and the last, make the text of a trace
 pub whole_trace : (each : Bool) (t : Transcript) (m : Machine) (shown : ConfigView)

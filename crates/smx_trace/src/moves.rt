@@ -61,17 +61,17 @@ fn write_if_gone(
 
 // Appends the lines of the messages that are gone. Fails only if out of memory.
 fn write_gone(
+    alloc: Global,
     out: &mut Vec<u8>,
     before: &[MessageLine],
-    index: &IndexMap<u32, usize>,
     after: &[MessageLine],
 ) -> Result<(), NoMemory>
-    requires { FindsBySerial (get nat_eq index.now) after.now after.now }
     ensures { OnOk result (out.new.items ≡ out.old.items
         ++ changes_text (map (λ m. change.Gone (change.Msg m)) (missing_from same_serial before.now after.now))) }
 {
+    let index = index_of(alloc, after)?;
     for line in before {
-        write_if_gone(out, line, index, after)?;
+        write_if_gone(out, line, &index, after)?;
     }
     Ok(())
 }
@@ -115,18 +115,18 @@ fn write_arrival(
 
 // Appends the lines of the messages that moved or are new. Fails only if out of memory.
 fn write_arrivals(
+    alloc: Global,
     out: &mut Vec<u8>,
     before: &[MessageLine],
-    index: &IndexMap<u32, usize>,
     after: &[MessageLine],
 ) -> Result<(), NoMemory>
-    requires index { FindsBySerial (get nat_eq index.now) before.now before.now }
-    requires apart { AreSerialsApart before.now }
+    requires { AreSerialsApart before.now }
     ensures { OnOk result (out.new.items ≡ out.old.items ++ changes_text
         (map (arrival_change before.now) (missing_from same_line after.now before.now))) }
 {
+    let index = index_of(alloc, before)?;
     for line in after {
-        write_arrival(out, before, index, line)?;
+        write_arrival(out, before, &index, line)?;
     }
     Ok(())
 }
@@ -142,8 +142,6 @@ pub fn write_moves(
     requires { AreSerialsApart before.now }
     ensures { OnOk result (out.new.items ≡ out.old.items ++ changes_text (message_changes before.now after.now)) }
 {
-    let were = index_of(alloc, before)?;
-    let are = index_of(alloc, after)?;
-    write_gone(out, before, &are, after)?;
-    write_arrivals(out, before, &were, after)
+    write_gone(alloc, out, before, after)?;
+    write_arrivals(alloc, out, before, after)
 }

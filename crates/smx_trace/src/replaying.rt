@@ -3,13 +3,15 @@
 ghost use Rattle.std.specs.Prelude.{◌∷◌, ◌++◌, [], List, IfOk, IfErr, OnOk};
 ghost use Rattle.smx_types.specs.declared.command.Entry.{Entry as AnyEntry};
 ghost use Rattle.smx_types.specs.declared.driver.DriverSpec.{DriverSpec as AnyDriver};
+ghost use Rattle.smx_types.specs.declared.view.ConfigView.{ConfigView as AnyView};
 ghost use Rattle.smx_config.specs.DriverFaults.{RefusesDrivers};
+ghost use Rattle.smx_text.specs.GrowingTranscripts.{transcript_with};
 ghost use Rattle.smx_trace.specs.Answers.{HasCome};
 ghost use Rattle.smx_trace.specs.Replays.{IsReplayText};
 
 use smx_config::{Config, ConfigFault};
 use smx_text::{add_entry_line, finish_transcript};
-use smx_types::{Entries, Entry, NoMemory, Transcript};
+use smx_types::{DriverSpec, Entries, Entry, NoMemory, Transcript, Version};
 use std::alloc::Global;
 
 /// Performs the commands of a transcript, each for its process, in order, starting with the empty configuration.
@@ -26,10 +28,25 @@ pub fn replay(alloc: Global, transcript: Transcript, room: Vec<u8>) -> Result<Ve
         entries,
         ..
     } = transcript;
-    let mut config = Config::new(alloc, drivers.as_slice())?;
+    replay_entries(alloc, version, drivers.as_slice(), entries, room)
+}
+
+// Replays these entries over these drivers, as `replay` does with those of a transcript.
+fn replay_entries(
+    alloc: Global,
+    version: Version,
+    drivers: &[DriverSpec],
+    entries: Entries,
+    room: Vec<u8>,
+) -> Result<Vec<u8>, ConfigFault>
+    ensures written { (shown : AnyView)
+        → IfOk result (λ text. IsReplayText (transcript_with version drivers.now entries shown) text.items) }
+    ensures refused { IfErr result (RefusesDrivers drivers.now) }
+{
+    let mut config = Config::new(alloc, drivers)?;
     let lines = perform_all(&mut config, entries, room)?;
     let view = config.into_view()?;
-    Ok(finish_transcript(lines, version, drivers.as_slice(), &view)?)
+    Ok(finish_transcript(lines, version, drivers, &view)?)
 }
 
 // Performs the commands of all entries. Returns the lines of the entries, each with its new reply. Fails only if it is
@@ -40,7 +57,7 @@ fn perform_all(config: &mut Config, entries: Entries, room: Vec<u8>) -> Result<V
 {
     let mut lines = room;
     lines.clear();
-    for entry in entries.into_vec() {
+    for entry in entries.as_slice() {
         perform_again(config, entry, &mut lines)?;
     }
     Ok(lines)
@@ -48,17 +65,12 @@ fn perform_all(config: &mut Config, entries: Entries, room: Vec<u8>) -> Result<V
 
 // Performs the command of an entry, and appends the line of the entry with its new reply. Fails only if it is out of
 // memory.
-fn perform_again(config: &mut Config, entry: Entry, lines: &mut Vec<u8>) -> Result<(), NoMemory>
+fn perform_again(config: &mut Config, entry: &Entry, lines: &mut Vec<u8>) -> Result<(), NoMemory>
     ensures { OnOk result ((drivers : List AnyDriver) (asked : List AnyEntry)
         → HasCome drivers asked config.old lines.old.items
-        → HasCome drivers (asked ++ entry ∷ []) config.new lines.new.items) }
+        → HasCome drivers (asked ++ entry.now ∷ []) config.new lines.new.items) }
 {
-    let Entry {
-        process,
-        command,
-        ..
-    } = entry;
-    let reply = config.step(process, &command)?;
-    add_entry_line(lines, process, &command, &reply)?;
+    let reply = config.step(entry.process, &entry.command)?;
+    add_entry_line(lines, entry.process, &entry.command, &reply)?;
     Ok(())
 }

@@ -2,8 +2,10 @@
 
 ghost use Rattle.std.specs.Prelude.{◌≡◌, ℕ, ◌++◌, [], List, IfOk, IfErr, OnOk, if◌then◌else◌};
 ghost use Rattle.smx_types.specs.declared.driver.DriverSpec.{DriverSpec as AnyDriver};
+ghost use Rattle.smx_types.specs.declared.view.ConfigView.{ConfigView as AnyView};
 ghost use Rattle.smx_model.specs.Waits.{waits};
 ghost use Rattle.smx_config.specs.DriverFaults.{RefusesDrivers};
+ghost use Rattle.smx_text.specs.GrowingTranscripts.{transcript_with};
 ghost use Rattle.smx_trace.specs.TraceWords.{waits_text};
 ghost use Rattle.smx_trace.specs.Traces.{IsTraceText};
 ghost use Rattle.smx_trace.specs.Tracing.{HasTraced, IsNow, TracesEntry};
@@ -14,7 +16,7 @@ use crate::pieces::put;
 use crate::queues::write_waits;
 use smx_config::{Config, ConfigFault};
 use smx_text::transcript_opening;
-use smx_types::{ConfigView, Entries, Entry, NoMemory, Transcript};
+use smx_types::{ConfigView, DriverSpec, Entries, Entry, NoMemory, Transcript, Version};
 use smx_words::write_entry;
 use std::alloc::Global;
 
@@ -39,8 +41,24 @@ pub fn trace(
         entries,
         ..
     } = transcript;
-    let mut config = Config::new(alloc, drivers.as_slice())?;
-    let mut text = transcript_opening(room, version, drivers.as_slice())?;
+    trace_entries(alloc, version, drivers.as_slice(), entries, each, room)
+}
+
+// Traces these entries over these drivers, as `trace` does with those of a transcript.
+fn trace_entries(
+    alloc: Global,
+    version: Version,
+    drivers: &[DriverSpec],
+    entries: Entries,
+    each: bool,
+    room: Vec<u8>,
+) -> Result<Vec<u8>, ConfigFault>
+    ensures written { (shown : AnyView)
+        → IfOk result (λ text. IsTraceText each (transcript_with version drivers.now entries shown) text.items) }
+    ensures refused { IfErr result (RefusesDrivers drivers.now) }
+{
+    let mut config = Config::new(alloc, drivers)?;
+    let mut text = transcript_opening(room, version, drivers)?;
     let view = trace_all(alloc, &mut config, entries, each, &mut text)?;
     write_configuration(&mut text, &config, &view)?;
     put(&mut text, b"end\n")?;
@@ -62,8 +80,8 @@ fn trace_all(
         → HasTraced each drivers opening entries config.new text.new.items) }
 {
     let mut view = config.show()?;
-    for entry in entries.into_vec() {
-        view = trace_entry(alloc, config, &entry, &view, each, text)?;
+    for entry in entries.as_slice() {
+        view = trace_entry(alloc, config, entry, &view, each, text)?;
     }
     Ok(view)
 }

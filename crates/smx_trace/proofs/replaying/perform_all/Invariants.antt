@@ -1,8 +1,8 @@
-use Rattle.std.specs.Prelude.{List, []}
+use Rattle.std.specs.Prelude.{List, [], take}
 use Rattle.smx_types.specs.declared.driver.DriverSpec.{DriverSpec}
 use Rattle.smx_trace.specs.Answers.{HasCome}
 use Rattle.smx_trace.proofs.replaying.perform_all.Given as goal
 
 abbrev pub invariant-loop-entry : goal.invariant-loop-entry
 invariant-loop-entry l = (drivers : List DriverSpec) → HasCome drivers [] l.fn.config []
-    → HasCome drivers l.yielded l.config l.lines.items
+    → HasCome drivers (take l.entry-index l.entry-items) l.config l.lines.items

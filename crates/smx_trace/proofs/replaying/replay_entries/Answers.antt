@@ -1,0 +1,18 @@
+use Rattle.std.proofs.Common.{rules, ◌≡◌, sym, subst, ◌∙◌}
+use Rattle.smx_model.specs.DriverList.{IsDriverList}
+use Rattle.smx_text.specs.GrowingTranscripts.{transcript_with}
+use Rattle.smx_trace.specs.Answers.{HasCome}
+use Rattle.smx_trace.proofs.ReplayLemmas.{begun, whole}
+use Rattle.smx_trace.proofs.replaying.replay_entries.Goals as goal
+
+pub returns-clause-written : goal.returns-clause-written
+returns-clause-written c = λ shown.
+    let t = transcript_with c.args.version c.args.drivers.now c.args.entries shown in
+    let config = c.in_ok-config.ensures in
+    let drivers : c.in_ok-config.config.drivers ≡ t.drivers = search rules in
+    let can : IsDriverList t.drivers = subst IsDriverList (sym config.drivers.0 ∙ drivers) config.drivers.1 in
+    let come : HasCome t.drivers t.entries c.perform_all.new.config c.in_ok-lines.lines.items =
+    c.in_ok-lines.ensures t.drivers (begun t.drivers c.in_ok-config.config drivers config.empty) in
+    let finish = c.in_ok-finish_transcript.ensures in
+    whole t c.perform_all.new.config c.in_ok-lines.lines.items _ c.in_ok-view.view can come c.in_ok-view.ensures
+    finish.written finish.spellable
