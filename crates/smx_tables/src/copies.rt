@@ -6,7 +6,7 @@ ghost use Rattle.smx_model.specs.DriverList.{IsDriverList};
 ghost use Rattle.smx_tables.specs.ModelOfLists.{configuration_of};
 ghost use Rattle.smx_tables.specs.KeptHolds.{KeepsHolds};
 
-use crate::lists::{Lists, Whole};
+use crate::lists::Lists;
 use smx_addresses::{Bindings, Routes};
 use smx_links::LinkTable;
 use smx_queues::FlowTable;
@@ -15,6 +15,7 @@ use smx_types::{DriverSpec, NoMemory};
 use std::alloc::Global;
 
 /// Copies the tables. The copy takes its memory from this allocator. Fails only if out of memory.
+#[tactic(auto, using(crate::proofs::KeptLemmas::held_again))]
 pub fn copy_lists(alloc: Global, lists: &Lists) -> Result<Lists, NoMemory>
     requires { KeepsHolds lists.now }
     ensures value { IfOk result (λ l. configuration_of l ≡ configuration_of lists.now) }
@@ -23,25 +24,12 @@ pub fn copy_lists(alloc: Global, lists: &Lists) -> Result<Lists, NoMemory>
     ensures queues { IfOk result (λ l. l.queues.drivers ≡ lists.now.queues.drivers) }
     ensures room { IfOk result KeepsHolds }
 {
-    let streams = Whole {
-        value: lists.streams.copy(alloc)?,
-    };
-    let links = Whole {
-        value: lists.links.copy(alloc)?,
-    };
-    let binds = Whole {
-        value: lists.binds.copy(alloc)?,
-    };
-    let routes = Whole {
-        value: lists.routes.copy(alloc)?,
-    };
-    let queues = lists.queues.copy(alloc)?;
     Ok(Lists {
-        streams: streams.into_inner(),
-        links: links.into_inner(),
-        queues,
-        binds: binds.into_inner(),
-        routes: routes.into_inner(),
+        streams: lists.streams.copy(alloc)?,
+        links: lists.links.copy(alloc)?,
+        queues: lists.queues.copy(alloc)?,
+        binds: lists.binds.copy(alloc)?,
+        routes: lists.routes.copy(alloc)?,
         next_serial: lists.next_serial,
     })
 }
@@ -70,17 +58,10 @@ pub fn empty_lists(alloc: Global, drivers: &[DriverSpec]) -> Result<Lists, NoMem
     ensures room { IfOk result KeepsHolds }
 {
     let minors = minors_of_each(alloc, drivers)?;
-    let streams = Whole {
-        value: Streams::new(alloc, &minors)?,
-    };
-    let links = Whole {
-        value: LinkTable::new(alloc, drivers.len())?,
-    };
-    let queues = FlowTable::new(alloc, drivers)?;
     Ok(Lists {
-        streams: streams.into_inner(),
-        links: links.into_inner(),
-        queues,
+        streams: Streams::new(alloc, &minors)?,
+        links: LinkTable::new(alloc, drivers.len())?,
+        queues: FlowTable::new(alloc, drivers)?,
         binds: Bindings::new(alloc),
         routes: Routes::new(alloc),
         next_serial: 1,

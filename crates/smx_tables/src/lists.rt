@@ -19,41 +19,18 @@ pub struct Lists {
     pub next_serial: u32,
 }
 
-// A value of many parts. A function that owns it drops it with one call at each of its returns, instead of one call for
-// each part.
-pub(crate) struct Whole<T> {
-    pub(crate) value: T,
-}
-
-impl<T: Drop> Drop for Whole<T> {
-    fn drop(self) {
-        let Whole { value: _value } = self;
-    }
-}
-
-impl<T> Whole<T> {
-    pub(crate) fn into_inner(self) -> T
-        ensures { result ≡ self.value }
-    {
-        let Whole { value } = self;
-        value
-    }
-}
-
 impl Drop for Lists {
-    // Written by hand, so that a function that owns the tables drops them with one call at each of its returns.
+    // Written by hand, so that a function that owns the tables drops them with one call at each of its returns, instead
+    // of one call for each field of each table.
     fn drop(self) {
         let Lists {
-            streams,
-            links,
-            binds,
-            routes,
+            streams: _streams,
+            links: _links,
+            binds: _binds,
+            routes: _routes,
             queues: _queues,
             next_serial: _next_serial,
         } = self;
-        let _tables = Whole {
-            value: (streams, links, binds, routes),
-        };
     }
 }
 
@@ -63,16 +40,13 @@ impl Lists {
         ensures { result ≡ self.queues }
     {
         let Lists {
-            streams,
-            links,
-            binds,
-            routes,
+            streams: _streams,
+            links: _links,
+            binds: _binds,
+            routes: _routes,
             queues,
             next_serial: _next_serial,
         } = self;
-        let _tables = Whole {
-            value: (streams, links, binds, routes),
-        };
         queues
     }
 }
