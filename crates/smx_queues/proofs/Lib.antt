@@ -2,17 +2,12 @@ pub mod CloneLemmas
 pub mod ChainLemmas
 pub mod FollowLemmas
 pub mod StoreLemmas
-pub mod SlotLemmas
-pub mod SoundLemmas
-pub mod SeenMessageLemmas
-pub mod SeenPlaceLemmas
 pub mod WalkLemmas
 pub mod QueueTableLemmas
 pub mod PlaceLemmas
 pub mod NumberLemmas
 pub mod PlacesOfLemmas
 pub mod ItemLemmas
-pub mod FindLemmas
 pub mod FlowLemmas
 pub mod FlowCallLemmas
 pub mod SpecLemmas
