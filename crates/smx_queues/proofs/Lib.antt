@@ -12,5 +12,4 @@ pub mod FlowLemmas
 pub mod FlowCallLemmas
 pub mod SpecLemmas
 pub mod BitLemmas
-pub mod RingNodeLemmas
 pub mod RingLemmas

@@ -202,8 +202,8 @@ same_but s s' (c ∷ chains) (suc p) now each = rw (each 0 (omega arith) (λ e. 
 -- the store has this number of nodes that are in no chain, and contracts see its chains as these slots
 pub record IsNow (own : ℕ → ℕ × ℕ) (s : Slab Node) (chains : List Chain) (loose : ℕ)
     (view : List (Option Queue)) : Type 0 where
-    pub store : IsStore own s chains loose
-    pub is : map (slot_of s) chains ≡ view
+  pub store : IsStore own s chains loose
+  pub is : map (slot_of s) chains ≡ view
 
 -- if the chain of place p is replaced, and no node of another place changes, contracts see its messages there
 pub changed : (own own' : ℕ → ℕ × ℕ) (s s' : Slab Node) (chains : List Chain) (loose loose' p : ℕ) (after : Chain)
