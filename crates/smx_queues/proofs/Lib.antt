@@ -5,11 +5,9 @@ pub mod StoreLemmas
 pub mod WalkLemmas
 pub mod QueueTableLemmas
 pub mod PlaceLemmas
-pub mod NumberLemmas
 pub mod PlacesOfLemmas
 pub mod ItemLemmas
 pub mod FlowLemmas
 pub mod FlowCallLemmas
-pub mod SpecLemmas
 pub mod BitLemmas
 pub mod RingLemmas
