@@ -1,269 +1,335 @@
 -- The places of some drivers, and the number of each.
-use Rattle.std.proofs.Common.{◌≡◌, ℕ, zero, suc, ◌+◌, ◌-◌, ◌*◌, ◌<◌, ◌≤◌, true, false, List, [], ◌∷◌, length}
-use Rattle.std.proofs.Common.{Option, Some, None, get_or, refl, sym, ap, ◌∙◌, subst, arith, inl, inr}
+use Rattle.std.proofs.Common.{◌≡◌, ℕ, zero, suc, ◌+◌, ◌-◌, ◌*◌, ◌<◌, ◌≤◌, true, false, List, [], ◌∷◌, ◌++◌}
+use Rattle.std.proofs.Common.{length, drop, Option, Some, get_or, refl, sym, ap, ◌∙◌, arith, inl, inr, append_assoc}
+use Rattle.std.proofs.Common.{add-one, append-nil, length-append}
 use Rattle.std.specs.Prelude.{slice_get}
-use Rattle.std.specs.List.{All, list_any}
-use Rattle.std.proofs.lemmas.Bool.{cases_Bool, cases_lt, false≢true}
-use Rattle.std.proofs.lemmas.List.Elements.{All-head, All-tail}
+use Rattle.std.specs.List.{list_any}
+use Rattle.std.specs.Option.{option_map_or}
+use Rattle.std.proofs.lemmas.Bool.{cases_lt, cases_order, false≢true, false_from_ne_true, lt-ltb}
+use Rattle.std.proofs.lemmas.Bool.Decides.{nat_tests}
+use Rattle.std.proofs.lemmas.List.{drop_all, drop_more}
+use Rattle.std.proofs.lemmas.List.Folds.{list_any_none}
 use Rattle.std.proofs.lemmas.Option.{same_Some, slice_get-get_or, slice_get_within}
 use Rattle.smx_types.specs.declared.driver.DriverSpec.{DriverSpec}
 use Rattle.smx_types.specs.declared.stream.Place.{Place}
+use Rattle.smx_types.specs.declared.stream.Side.{Side}
 use Rattle.smx_types.specs.declared.stream.Side.TheVariants as side
 use Rattle.smx_model.specs.Configuration.{place_before, same_place, side_number}
 use Rattle.smx_model.specs.DriverList.{minors_of}
 use Rattle.smx_model.specs.KnownStreams.{IsKnown}
-use Rattle.smx_model.specs.Ordered.{ComesBefore, IsRising}
+use Rattle.smx_model.specs.Ordered.{IsRising}
+use Rattle.smx_model.proofs.EachLemmas.{later_pairs}
 use Rattle.smx_queues.specs.PlaceLists.{ArePlaces, driver_row, number_in, places_from, places_of, rows_from, rows_of}
 use Rattle.smx_queues.specs.PlaceLists.{sides_of}
 use Rattle.smx_queues.specs.declared.places.DriverRow.{DriverRow}
-use Rattle.smx_queues.proofs.NumberLemmas.{AllBefore, IsBelow, before_more, before_sides, get_left, get_right}
-use Rattle.smx_queues.proofs.NumberLemmas.{left_only}
-use Rattle.smx_queues.proofs.NumberLemmas.{rising_more, sides_at, sides_below, sides_length, sides_rise}
-use Rattle.smx_queues.proofs.PlaceLemmas.{first_before, not_after, one_number, place_at, where_is}
+use Rattle.smx_queues.proofs.PlaceLemmas.{lower_driver, not_after, place_at, place_is}
 
--- ---- the places rise
+-- ---- elements of two lists
 
--- a place of a lower driver comes before all of these
-before_from : (p : Place) (n : ℕ) (drivers : List DriverSpec) → p.stream.driver < n
-    → ComesBefore place_before p (places_from n drivers)
-before_from p n [] lt = tt
-before_from p n (d ∷ drivers) lt = before_more p (sides_of n d.minors) (places_from (suc n) drivers)
-    (before_sides p n d.minors lt) (before_from p (suc n) drivers (omega arith))
+-- the element at index k of an appended list is at index k past the end of the first list
+pub get_right : {X : Type 0} (xs ys : List X) (n k : ℕ) → n ≡ length xs + k → slice_get (xs ++ ys) n ≡ slice_get ys k
+get_right [] ys n k e = ap (slice_get ys) (omega arith)
+get_right (x ∷ xs) ys zero k e = absurd (omega arith)
+get_right (x ∷ xs) ys (suc n) k e = get_right xs ys n k (omega arith)
 
--- and so do several
-all_before_from : (places : List Place) (n : ℕ) (drivers : List DriverSpec) → All (IsBelow n) places
-    → AllBefore places (places_from n drivers)
-all_before_from [] n drivers h = tt
-all_before_from (p ∷ places) n drivers h = (
-  before_from p n drivers (All-head (IsBelow n) p places h),
-  all_before_from places n drivers (All-tail (IsBelow n) p places h),
-)
+-- within the first of two lists, the joined list has the same element at each index
+pub left_only : {X : Type 0} (xs ys : List X) (i : ℕ) → i < length xs → slice_get (xs ++ ys) i ≡ slice_get xs i
+left_only [] ys i lt = absurd (omega arith)
+left_only (x ∷ xs) ys zero lt = refl
+left_only (x ∷ xs) ys (suc i) lt = left_only xs ys i (omega arith)
 
--- the places of drivers rise, from any number on
-from_rise : (n : ℕ) (drivers : List DriverSpec) → IsRising place_before (places_from n drivers)
-from_rise n [] = tt
-from_rise n (d ∷ drivers) = rising_more (sides_of n d.minors) (places_from (suc n) drivers) (sides_rise n d.minors)
-    (from_rise (suc n) drivers) (all_before_from (sides_of n d.minors) (suc n) drivers
-    (sides_below n d.minors (suc n) (omega arith)))
+-- an element of a list is at the same index if another list is appended
+pub get_left : {X : Type 0} (xs ys : List X) (i : ℕ) (x : X) → slice_get xs i ≡ Some x → slice_get (xs ++ ys) i ≡ Some x
+get_left xs ys i x at = left_only xs ys i (slice_get_within xs i x at) ∙ at
 
--- the places of drivers rise
-pub places_rise : (drivers : List DriverSpec) → IsRising place_before (places_of drivers)
-places_rise drivers = from_rise 0 drivers
+-- ---- both sides of some minors
 
--- ---- numbers of places
+-- both sides of `n` minors are twice as many places
+pub sides_length : (driver n : ℕ) → length (sides_of driver n) ≡ 2 * n
+sides_length driver zero = refl
+sides_length driver (suc n) = length-append (sides_of driver n)
+    (place_at driver n side.Write ∷ place_at driver n side.Read ∷ []) ∙ omega (arith, sides_length driver n)
 
--- a place has one number
-pub same_number : (drivers : List DriverSpec) (i j : ℕ) (p : Place) → slice_get (places_of drivers) i ≡ Some p
-    → slice_get (places_of drivers) j ≡ Some p → i ≡ j
-same_number drivers i j p a b = one_number (places_of drivers) i j p (places_rise drivers) a b
+-- of the two sides of a minor, the write side is the first and the read side the second
+last_two : (driver n : ℕ) (s : Side)
+    → slice_get (place_at driver n side.Write ∷ place_at driver n side.Read ∷ []) (side_number s)
+    ≡ Some (place_at driver n s)
+last_two driver n side.Write = refl
+last_two driver n side.Read = refl
 
--- of two numbers in a list that rises the lower one is that of the place that comes first
-lower_in : (places : List Place) (i j : ℕ) (p q : Place) → IsRising place_before places → i < j
-    → slice_get places i ≡ Some p → slice_get places j ≡ Some q → place_before p q ≡ true
-lower_in [] i j p q rise lt a b = absurd cc
-lower_in (x ∷ places) i zero p q rise lt a b = absurd (omega arith)
-lower_in (x ∷ places) zero (suc j) p q rise lt a b =
-    subst (λ (y : Place). place_before y q ≡ true) (same_Some x p a) (first_before x q places j rise.0 b)
-lower_in (x ∷ places) (suc i) (suc j) p q rise lt a b = lower_in places i j p q rise.1 (omega arith) a b
+-- the index of a side is twice its minor plus the number of the side
+pub sides_at : (driver n m : ℕ) (s : Side) → m < n
+    → slice_get (sides_of driver n) (2 * m + side_number s) ≡ Some (place_at driver m s)
+sides_at driver zero m s lt = absurd (omega arith)
+sides_at driver (suc n) m s lt = elim (cases_lt m n) [
+  | inl less ↦ get_left (sides_of driver n) (place_at driver n side.Write ∷ place_at driver n side.Read ∷ [])
+      (2 * m + side_number s) (place_at driver m s) (sides_at driver n m s less)
+  | inr more ↦
+      let e : m ≡ n = omega arith in
+      rw e (get_right (sides_of driver n) (place_at driver n side.Write ∷ place_at driver n side.Read ∷ [])
+      (2 * n + side_number s) (side_number s) (omega (arith, sides_length driver n)) ∙ last_two driver n s)
+]
 
--- the place of a lower number comes first
-pub lower_before : (drivers : List DriverSpec) (i j : ℕ) (p q : Place) → i < j
-    → slice_get (places_of drivers) i ≡ Some p → slice_get (places_of drivers) j ≡ Some q → place_before p q ≡ true
-lower_before drivers i j p q lt a b = lower_in (places_of drivers) i j p q (places_rise drivers) lt a b
-
--- a place that comes before another has a lower number
-pub before_lower : (drivers : List DriverSpec) (i j : ℕ) (p q : Place) → slice_get (places_of drivers) i ≡ Some p
-    → slice_get (places_of drivers) j ≡ Some q → place_before p q ≡ true → i < j
-before_lower drivers i j p q a b before = elim (cases_lt i j) [
-  | inl lt ↦ lt
-  | inr le ↦ elim (cases_lt j i) [
-    | inl more ↦ absurd (false≢true (sym (not_after q p (lower_before drivers j i q p more b a)) ∙ before))
-    | inr same ↦ absurd (not_itself (omega arith))
-  ]
-] where
-  not_itself : i ≡ j → ⊥
-  not_itself e =
-      let is : p ≡ q = same_Some p q (sym a ∙ (ap (slice_get (places_of drivers)) e ∙ b)) in
-      let here : place_before q q ≡ true = subst (λ (x : Place). place_before x q ≡ true) is before in
-      false≢true (sym (not_after q q here) ∙ here)
-
--- ---- the row of a driver
-
--- if no row has the number, there is no such driver
-no_row : (first : ℕ) (drivers : List DriverSpec) (k : ℕ) → slice_get (rows_from first drivers) k ≡ None
-    → length drivers ≤ k
-no_row first [] k none = omega arith
-no_row first (d ∷ drivers) zero none = absurd cc
-no_row first (d ∷ drivers) (suc k) none = omega (arith, no_row (first + 2 * d.minors) drivers k none)
-
--- a row says how many minors its driver has
-row_minors : (first : ℕ) (drivers : List DriverSpec) (k : ℕ) (row : DriverRow)
-    → slice_get (rows_from first drivers) k ≡ Some row → row.minors ≡ minors_of drivers k
-row_minors first [] k row at = absurd cc
-row_minors first (d ∷ drivers) zero row at =
-    ap (λ (r : DriverRow). r.minors) (sym (same_Some (driver_row first d.minors) row at))
-row_minors first (d ∷ drivers) (suc k) row at = row_minors (first + 2 * d.minors) drivers k row at
-
--- the place is as far from the first one as its number is from that one's
-pub record IsNumbered (first n : ℕ) (drivers : List DriverSpec) (number : ℕ) (p : Place) : Type 0 where
-  pub index : ℕ
-  pub number_is : number ≡ first + index
-  pub stands : slice_get (places_from n drivers) index ≡ Some p
-
--- it is, if the row of its driver has its minor and gives the number
-row_number : (first n : ℕ) (drivers : List DriverSpec) (p : Place) (k : ℕ) (row : DriverRow)
-    → slice_get (rows_from first drivers) k ≡ Some row → p.stream.driver ≡ n + k → p.stream.minor < row.minors
-    → IsNumbered first n drivers (number_in row p) p
-row_number first n [] p k row at is lt = absurd cc
-row_number first n (d ∷ drivers) p zero row at is lt =
-    let row_is : driver_row first d.minors ≡ row = same_Some (driver_row first d.minors) row at in
-    let below : p.stream.minor < d.minors = subst (λ (r : DriverRow). p.stream.minor < r.minors) (sym row_is) lt in
-    let driver_is : n ≡ p.stream.driver = omega arith in
-    subst (λ (r : DriverRow). IsNumbered first n (d ∷ drivers) (number_in r p) p) row_is (record {
-      index = 2 * p.stream.minor + side_number p.side;
-      number_is = omega arith;
-      stands = get_left (sides_of n d.minors) (places_from (suc n) drivers) (2 * p.stream.minor + side_number p.side) p
-          (sides_at n d.minors p.stream.minor p.side below
-          ∙ ap (λ (x : ℕ). Some (place_at x p.stream.minor p.side)) driver_is);
-    })
-row_number first n (d ∷ drivers) p (suc k) row at is lt =
-    let rest = row_number (first + 2 * d.minors) (suc n) drivers p k row at (omega arith) lt in
-    record {
-      index = length (sides_of n d.minors) + rest.index;
-      number_is = omega (arith, rest.number_is, sides_length n d.minors);
-      stands = get_right (sides_of n d.minors) (places_from (suc n) drivers)
-          (length (sides_of n d.minors) + rest.index) rest.index refl ∙ rest.stands;
-    }
-
--- the number that is found by the row of a driver is that of the place
-pub number_is : (drivers : List DriverSpec) (rows : List DriverRow) (places : List Place) (p : Place) (row : DriverRow)
-    → ArePlaces drivers rows places → Some row ≡ slice_get rows p.stream.driver → p.stream.minor < row.minors
-    → slice_get (places_of drivers) (number_in row p) ≡ Some p
-number_is drivers rows places p row h at lt =
-    let here : slice_get (rows_of drivers) p.stream.driver ≡ Some row = ap (λ (rs : List DriverRow).
-    slice_get rs p.stream.driver) (sym h.rows_are) ∙ sym at in
-    let found = row_number 0 0 drivers p p.stream.driver row here (omega arith) lt in
-    let e : found.index ≡ number_in row p = omega (arith, found.number_is) in
-    subst (λ (i : ℕ). slice_get (places_of drivers) i ≡ Some p) e found.stands
-
--- and it is one of the places
-pub number_within : (drivers : List DriverSpec) (rows : List DriverRow) (places : List Place) (p : Place)
-    (row : DriverRow) → ArePlaces drivers rows places → Some row ≡ slice_get rows p.stream.driver
-    → p.stream.minor < row.minors → number_in row p < length places
-number_within drivers rows places p row h at lt =
-    let below = slice_get_within (places_of drivers)
-    (number_in row p) p (number_is drivers rows places p row h at lt) in
-    omega (arith, below, ap length h.places_are)
-
--- ---- places that drivers have
-
--- either side of a stream that drivers have has a number
-pub known_number : (drivers : List DriverSpec) (p : Place) → IsKnown drivers p.stream
-    → (i : ℕ) × (slice_get (places_of drivers) i ≡ Some p)
-known_number drivers p known = by (slice_get (rows_of drivers) p.stream.driver) refl where
-  by : (o : Option DriverRow) → slice_get (rows_of drivers) p.stream.driver ≡ o
-      → (i : ℕ) × (slice_get (places_of drivers) i ≡ Some p)
-  by None e = absurd (omega (arith, no_row 0 drivers p.stream.driver e, known.0))
-  by (Some row) e =
-      let lt : p.stream.minor < row.minors = omega (arith, known.1, row_minors 0 drivers p.stream.driver row e) in
-      let found = row_number 0 0 drivers p p.stream.driver row e (omega arith) lt in (found.index, found.stands)
-
--- a side of one of some minors of a driver
-pub record IsSide (driver n : ℕ) (p : Place) : Type 0 where
-  pub driver_is : p.stream.driver ≡ driver
-  pub minor_below : p.stream.minor < n
-
--- each of the sides of some minors is one
-side_is : (driver n i : ℕ) (p : Place) → slice_get (sides_of driver n) i ≡ Some p → IsSide driver n p
-side_is driver zero i p at = absurd cc
-side_is driver (suc n) i p at = elim (cases_lt i (length (sides_of driver n))) [
+-- each place in that list is one of these, at this index
+sides_are : (driver n i : ℕ) (p : Place) → slice_get (sides_of driver n) i ≡ Some p
+    → (p.stream.driver ≡ driver) × ((p.stream.minor < n) × (i ≡ 2 * p.stream.minor + side_number p.side))
+sides_are driver zero i p at = absurd cc
+sides_are driver (suc n) i p at = elim (cases_lt i (length (sides_of driver n))) [
   | inl before ↦
-      let s = side_is driver n i p (sym (left_only (sides_of driver n)
+      let s = sides_are driver n i p (sym (left_only (sides_of driver n)
       (place_at driver n side.Write ∷ place_at driver n side.Read ∷ []) i before) ∙ at) in
-      record { driver_is = s.driver_is; minor_below = omega (arith, s.minor_below) }
+      (s.0, (omega (arith, s.1.0), s.1.1))
   | inr past ↦
       let k : ℕ = i - length (sides_of driver n) in
-      last k (sym (get_right (sides_of driver n) (place_at driver n side.Write ∷ place_at driver n side.Read ∷ []) i k
-      (omega (arith, past))) ∙ at)
+      last k (omega (arith, past, sides_length driver n)) (sym (get_right (sides_of driver n)
+      (place_at driver n side.Write ∷ place_at driver n side.Read ∷ []) i k (omega (arith, past))) ∙ at)
 ] where
-  is_last : (q : Place) → q ≡ p → q.stream.driver ≡ driver → q.stream.minor ≡ n → IsSide driver (suc n) p
-  is_last q e d m = record {
-    driver_is = ap (λ (x : Place). x.stream.driver) (sym e) ∙ d;
-    minor_below =
-        let k : p.stream.minor ≡ n = ap (λ (x : Place). x.stream.minor) (sym e) ∙ m in omega (arith, k);
-  }
+  last : (k : ℕ) → i ≡ 2 * n + k
+      → slice_get (place_at driver n side.Write ∷ place_at driver n side.Read ∷ []) k ≡ Some p
+      → (p.stream.driver ≡ driver) × ((p.stream.minor < suc n) × (i ≡ 2 * p.stream.minor + side_number p.side))
+  last zero is e = rw (← same_Some (place_at driver n side.Write) p e) (refl, (omega arith, is))
+  last (suc zero) is e = rw (← same_Some (place_at driver n side.Read) p e) (refl, (omega arith, is))
+  last (suc (suc k)) is e = absurd cc
 
-  last : (k : ℕ) → slice_get (place_at driver n side.Write ∷ place_at driver n side.Read ∷ []) k ≡ Some p
-      → IsSide driver (suc n) p
-  last zero e = is_last (place_at driver n side.Write) (same_Some (place_at driver n side.Write) p e) refl refl
-  last (suc zero) e = is_last (place_at driver n side.Read) (same_Some (place_at driver n side.Read) p e) refl refl
-  last (suc (suc k)) e = absurd cc
+-- ---- the rows of drivers
 
--- each of the places of some drivers is a side of a stream that they have
-from_known : (n : ℕ) (drivers : List DriverSpec) (i : ℕ) (p : Place) → slice_get (places_from n drivers) i ≡ Some p
-    → (k : ℕ) × ((p.stream.driver ≡ n + k) × (k < length drivers) × (p.stream.minor < minors_of drivers k))
-from_known n [] i p at = absurd cc
-from_known n (d ∷ drivers) i p at = elim (cases_lt i (length (sides_of n d.minors))) [
+-- there is a row for each driver
+rows_length : (first : ℕ) (drivers : List DriverSpec) → length (rows_from first drivers) ≡ length drivers
+rows_length first [] = refl
+rows_length first (d ∷ drivers) = omega (arith, rows_length (first + 2 * d.minors) drivers)
+
+-- the row of a driver has its minors
+row_there : (first : ℕ) (drivers : List DriverSpec) (k : ℕ) → k < length drivers
+    → (row : DriverRow) × ((slice_get (rows_from first drivers) k ≡ Some row) × (row.minors ≡ minors_of drivers k))
+row_there first [] k lt = absurd (omega arith)
+row_there first (d ∷ drivers) zero lt = (driver_row first d.minors, (refl, refl))
+row_there first (d ∷ drivers) (suc k) lt = row_there (first + 2 * d.minors) drivers k (omega arith)
+
+-- the row of a later driver begins after all numbers of an earlier one
+rows_apart : (first : ℕ) (drivers : List DriverSpec) (j k : ℕ) (row later : DriverRow)
+    → slice_get (rows_from first drivers) j ≡ Some row → slice_get (rows_from first drivers) k ≡ Some later → j < k
+    → row.first + 2 * row.minors ≤ later.first
+rows_apart first [] j k row later a b lt = absurd cc
+rows_apart first (d ∷ drivers) j zero row later a b lt = absurd (omega arith)
+rows_apart first (d ∷ drivers) zero (suc k) row later a b lt =
+    rw (← same_Some (driver_row first d.minors) row a) (starts (first + 2 * d.minors) drivers k b)
+  where
+    starts : (first : ℕ) (drivers : List DriverSpec) (k : ℕ) → slice_get (rows_from first drivers) k ≡ Some later
+        → first ≤ later.first
+    starts first [] k b = absurd cc
+    starts first (d ∷ drivers) zero b = rw (← same_Some (driver_row first d.minors) later b) (omega arith)
+    starts first (d ∷ drivers) (suc k) b = omega (arith, starts (first + 2 * d.minors) drivers k b)
+rows_apart first (d ∷ drivers) (suc j) (suc k) row later a b lt =
+    rows_apart (first + 2 * d.minors) drivers j k row later a b (omega arith)
+
+-- ---- the number of a place
+
+-- the row of the place's driver gives this number, which is an index after the number of the first place
+record IsNumbered (first n : ℕ) (drivers : List DriverSpec) (i : ℕ) (p : Place) : Type 0 where
+  k : ℕ
+  row : DriverRow
+  driver_is : p.stream.driver ≡ n + k
+  at : slice_get (rows_from first drivers) k ≡ Some row
+  minor_below : p.stream.minor < row.minors
+  number : first + i ≡ number_in row p
+
+-- the row of its driver gives the index of each place
+numbered_from : (first n : ℕ) (drivers : List DriverSpec) (i : ℕ) (p : Place)
+    → slice_get (places_from n drivers) i ≡ Some p → IsNumbered first n drivers i p
+numbered_from first n [] i p at = absurd cc
+numbered_from first n (d ∷ drivers) i p at = elim (cases_lt i (length (sides_of n d.minors))) [
   | inl before ↦
-      let s = side_is n d.minors i p
+      let s = sides_are n d.minors i p
       (sym (left_only (sides_of n d.minors) (places_from (suc n) drivers) i before) ∙ at) in
-      (0, (omega (arith, s.driver_is), omega arith, s.minor_below))
+      record {
+        k = 0;
+        row = driver_row first d.minors;
+        driver_is = omega (arith, s.0);
+        at = refl;
+        minor_below = s.1.0;
+        number = omega (arith, s.1.1);
+      }
   | inr past ↦
       let j : ℕ = i - length (sides_of n d.minors) in
-      let rest = from_known (suc n) drivers j p (sym (get_right (sides_of n d.minors) (places_from (suc n) drivers) i j
-      (omega (arith, past))) ∙ at) in
-      (suc rest.0, (omega (arith, rest.1.0), omega (arith, rest.1.1), rest.1.2))
+      let r = numbered_from (first + 2 * d.minors) (suc n) drivers j p (sym (get_right (sides_of n d.minors)
+      (places_from (suc n) drivers) i j (omega (arith, past))) ∙ at) in
+      record {
+        k = suc r.k;
+        row = r.row;
+        driver_is = omega (arith, r.driver_is);
+        at = r.at;
+        minor_below = r.minor_below;
+        number = omega (arith, r.number, past, sides_length n d.minors);
+      }
 ]
 
--- a place that has a number is a side of a stream that the drivers have
-pub number_known : (drivers : List DriverSpec) (i : ℕ) (p : Place) → slice_get (places_of drivers) i ≡ Some p
-    → IsKnown drivers p.stream
-number_known drivers i p at =
-    let f = from_known 0 drivers i p at in
-    let e : f.0 ≡ p.stream.driver = omega (arith, f.1.0) in (
-      subst (λ (k : ℕ). k < length drivers) e f.1.1,
-      subst (λ (k : ℕ). p.stream.minor < minors_of drivers k) e f.1.2,
+-- each number that a row gives is the index of its place
+number_from : (first n : ℕ) (drivers : List DriverSpec) (p : Place) (k : ℕ) (row : DriverRow)
+    → slice_get (rows_from first drivers) k ≡ Some row → p.stream.driver ≡ n + k → p.stream.minor < row.minors
+    → (i : ℕ) × ((first + i ≡ number_in row p) × (slice_get (places_from n drivers) i ≡ Some p))
+number_from first n [] p k row at is lt = absurd cc
+number_from first n (d ∷ drivers) p zero row at is lt =
+    let row_is : driver_row first d.minors ≡ row = same_Some (driver_row first d.minors) row at in
+    let below : p.stream.minor < d.minors = rw (← row_is) at lt in
+    let driver_is : n ≡ p.stream.driver = omega arith in
+    rw (← row_is) (
+      2 * p.stream.minor + side_number p.side,
+      (
+        omega arith,
+        get_left (sides_of n d.minors) (places_from (suc n) drivers) (2 * p.stream.minor + side_number p.side) p
+            (sides_at n d.minors p.stream.minor p.side below
+            ∙ ap (λ (x : ℕ). Some (place_at x p.stream.minor p.side)) driver_is),
+      ),
+    )
+number_from first n (d ∷ drivers) p (suc k) row at is lt =
+    let r = number_from (first + 2 * d.minors) (suc n) drivers p k row at (omega arith) lt in (
+      length (sides_of n d.minors) + r.0,
+      (
+        omega (arith, r.1.0, sides_length n d.minors),
+        get_right (sides_of n d.minors) (places_from (suc n) drivers) (length (sides_of n d.minors) + r.0) r.0 refl
+            ∙ r.1.1,
+      ),
     )
 
--- the place of a number is a place of one of the drivers
-pub driver_at : (drivers : List DriverSpec) (i : ℕ) (d : Place) → i < length (places_of drivers)
-    → (get_or (places_of drivers) i d).stream.driver < length drivers
-driver_at drivers i d lt = (number_known drivers i _ (slice_get-get_or (places_of drivers) i d lt)).0
+module _ (drivers : List DriverSpec) where
+  -- the number that is found by the row of a driver is that of the place
+  pub number_is : (p : Place) (row : DriverRow) → Some row ≡ slice_get (rows_of drivers) p.stream.driver
+      → p.stream.minor < row.minors → slice_get (places_of drivers) (number_in row p) ≡ Some p
+  number_is p row at lt =
+      let r = number_from 0 0 drivers p p.stream.driver row (sym at) (omega arith) lt in
+      let e : r.0 ≡ number_in row p = omega (arith, r.1.0) in rw (← e) r.1.1
 
--- the place of a stream that the drivers don't have has no number
-unknown_absent : (drivers : List DriverSpec) (p : Place) → (IsKnown drivers p.stream → ⊥)
-    → list_any (same_place p) (places_of drivers) ≡ false
-unknown_absent drivers p unknown = elim (cases_Bool (list_any (same_place p) (places_of drivers))) [
-  | inl t ↦ let at = where_is p (places_of drivers) t in absurd (unknown (number_known drivers at.0 p at.1))
-  | inr f ↦ f
-]
+  -- so it is one of the numbers of all places
+  pub number_within : (p : Place) (row : DriverRow) → Some row ≡ slice_get (rows_of drivers) p.stream.driver
+      → p.stream.minor < row.minors → number_in row p < length (places_of drivers)
+  number_within p row at lt = slice_get_within (places_of drivers) (number_in row p) p (number_is p row at lt)
 
--- if no row has the number of its driver, the drivers don't have the stream
-pub no_row_unknown : (drivers : List DriverSpec) (rows : List DriverRow) (places : List Place) (p : Place)
-    → ArePlaces drivers rows places → None ≡ slice_get rows p.stream.driver → IsKnown drivers p.stream → ⊥
-no_row_unknown drivers rows places p h none known =
-    let past = no_row 0 drivers p.stream.driver (ap (λ (rs : List DriverRow). slice_get rs p.stream.driver)
-    (sym h.rows_are) ∙ sym none) in
-    omega (arith, past, known.0)
+  -- a place that has a number is a side of a stream that the drivers have
+  pub number_known : (i : ℕ) (p : Place) → slice_get (places_of drivers) i ≡ Some p → IsKnown drivers p.stream
+  number_known i p at =
+      let r = numbered_from 0 0 drivers i p at in
+      let below : r.k < length drivers =
+      omega (arith, slice_get_within (rows_of drivers) r.k r.row r.at, rows_length 0 drivers) in
+      let t = row_there 0 drivers r.k below in
+      let same : t.0 ≡ r.row = same_Some t.0 r.row (sym t.1.0 ∙ r.at) in
+      let e : r.k ≡ p.stream.driver = omega (arith, r.driver_is) in
+      rw (← e) (below, omega (arith, r.minor_below, t.1.1, ap (λ (x : DriverRow). x.minors) same))
 
--- if the row of its driver has too few minors, the drivers don't have the stream
-pub past_row_unknown : (drivers : List DriverSpec) (rows : List DriverRow) (places : List Place) (p : Place)
-    (row : DriverRow) → ArePlaces drivers rows places → Some row ≡ slice_get rows p.stream.driver
-    → row.minors ≤ p.stream.minor → IsKnown drivers p.stream → ⊥
-past_row_unknown drivers rows places p row h at past known =
-    let minors = row_minors 0 drivers p.stream.driver row (ap (λ (rs : List DriverRow). slice_get rs p.stream.driver)
-    (sym h.rows_are) ∙ sym at) in
-    omega (arith, past, known.1, minors)
+  -- either side of a stream that drivers have has a number
+  pub known_number : (p : Place) → IsKnown drivers p.stream → (i : ℕ) × (slice_get (places_of drivers) i ≡ Some p)
+  known_number p known =
+      let t = row_there 0 drivers p.stream.driver known.0 in
+      (_, number_is p t.0 (sym t.1.0) (omega (arith, known.1, t.1.1)))
 
--- the drivers don't have such a place
-pub no_row_absent : (drivers : List DriverSpec) (rows : List DriverRow) (places : List Place) (p : Place)
-    → ArePlaces drivers rows places → None ≡ slice_get rows p.stream.driver
-    → list_any (same_place p) (places_of drivers) ≡ false
-no_row_absent drivers rows places p h none =
-    unknown_absent drivers p (no_row_unknown drivers rows places p h none)
+  -- the place of a number is a place of one of the drivers
+  pub driver_at : (i : ℕ) (d : Place) → i < length (places_of drivers)
+      → (get_or (places_of drivers) i d).stream.driver < length drivers
+  driver_at i d lt = (number_known i _ (slice_get-get_or (places_of drivers) i d lt)).0
 
-pub past_row_absent : (drivers : List DriverSpec) (rows : List DriverRow) (places : List Place) (p : Place)
-    (row : DriverRow) → ArePlaces drivers rows places → Some row ≡ slice_get rows p.stream.driver
-    → row.minors ≤ p.stream.minor → list_any (same_place p) (places_of drivers) ≡ false
-past_row_absent drivers rows places p row h at past =
-    unknown_absent drivers p (past_row_unknown drivers rows places p row h at past)
+  -- if the row of its driver isn't there, or has too few minors, the drivers don't have the stream
+  pub row_unknown : (p : Place) (o : Option DriverRow) → o ≡ slice_get (rows_of drivers) p.stream.driver
+      → ((row : DriverRow) → o ≡ Some row → row.minors ≤ p.stream.minor) → IsKnown drivers p.stream → ⊥
+  row_unknown p o is few known =
+      let t = row_there 0 drivers p.stream.driver known.0 in
+      omega (arith, known.1, t.1.1, few t.0 (is ∙ t.1.0))
+
+  -- the place of a stream that the drivers don't have has no number
+  pub unknown_absent : (p : Place) → (IsKnown drivers p.stream → ⊥)
+      → list_any (same_place p) (places_of drivers) ≡ false
+  unknown_absent p unknown = list_any_none (same_place p) (places_of drivers) (λ k d lt.
+      false_from_ne_true _ (λ t. unknown (number_known k p (slice_get-get_or (places_of drivers) k d lt
+      ∙ ap (λ (x : Place). Some x) (sym (place_is p _ t))))))
+
+  -- a place has one number
+  pub same_number : (i j : ℕ) (p : Place) → slice_get (places_of drivers) i ≡ Some p
+      → slice_get (places_of drivers) j ≡ Some p → i ≡ j
+  same_number i j p a b =
+      let r = numbered_from 0 0 drivers i p a in
+      let t = numbered_from 0 0 drivers j p b in
+      let k : r.k ≡ t.k = omega (arith, r.driver_is, t.driver_is) in
+      let row : r.row ≡ t.row = same_Some r.row t.row (sym r.at ∙ (ap (slice_get (rows_of drivers)) k ∙ t.at)) in
+      omega (arith, r.number, t.number, ap (λ (x : DriverRow). x.first) row)
+
+  -- the place of a lower number comes first
+  pub lower_before : (i j : ℕ) (p q : Place) → i < j → slice_get (places_of drivers) i ≡ Some p
+      → slice_get (places_of drivers) j ≡ Some q → place_before p q ≡ true
+  lower_before i j p q lt a b =
+      let r = numbered_from 0 0 drivers i p a in
+      let t = numbered_from 0 0 drivers j q b in
+      elim (cases_order r.k t.k) [
+        | inl same ↦
+            let row : r.row ≡ t.row =
+            same_Some r.row t.row (sym r.at ∙ (ap (slice_get (rows_of drivers)) same ∙ t.at)) in
+            in_driver p q (omega (arith, r.driver_is, t.driver_is, same))
+            (omega (arith, lt, r.number, t.number, ap (λ (x : DriverRow). x.first) row))
+        | inr (inl less) ↦ lower_driver p q (lt-ltb _ _ (omega (arith, r.driver_is, t.driver_is, less)))
+        | inr (inr more) ↦
+            let apart = rows_apart 0 drivers t.k r.k t.row r.row t.at r.at more in
+            absurd (omega (arith, lt, apart, r.number, t.number, t.minor_below, side_bound q.side))
+      ]
+    where
+      side_bound : (s : Side) → side_number s < 2
+      side_bound side.Write = omega arith
+      side_bound side.Read = omega arith
+
+      in_driver : (p q : Place) → p.stream.driver ≡ q.stream.driver
+          → 2 * p.stream.minor + side_number p.side < 2 * q.stream.minor + side_number q.side → place_before p q ≡ true
+      in_driver p q same less = grind (arith, nat_tests, side_bound p.side, side_bound q.side)
+
+  -- a place that comes before another has a lower number
+  pub before_lower : (i j : ℕ) (p q : Place) → slice_get (places_of drivers) i ≡ Some p
+      → slice_get (places_of drivers) j ≡ Some q → place_before p q ≡ true → i < j
+  before_lower i j p q a b before = elim (cases_order i j) [
+    | inl same ↦
+        let is : p ≡ q = same_Some p q (sym a ∙ (ap (slice_get (places_of drivers)) same ∙ b)) in
+        let here : place_before q q ≡ true = rw is at before in
+        absurd (false≢true (sym (not_after q q here) ∙ here))
+    | inr (inl lt) ↦ lt
+    | inr (inr more) ↦ absurd (false≢true (sym (not_after q p (lower_before j i q p more b a)) ∙ before))
+  ]
+
+  -- the places of drivers rise
+  pub places_rise : IsRising place_before (places_of drivers)
+  places_rise = later_pairs (λ x y. place_before x y ≡ true) (places_of drivers) (λ i j d lt below.
+      lower_before i j _ _ lt (slice_get-get_or (places_of drivers) i d (omega (arith, lt, below)))
+      (slice_get-get_or (places_of drivers) j d below))
+
+-- ---- one driver after the other
+
+-- with those of the drivers from number `i` on, these are the rows and the places of all drivers
+pub record AreSoFar (drivers : List DriverSpec) (rows : List DriverRow) (places : List Place) (i : ℕ) : Type 0 where
+  pub rows_left : rows ++ rows_from (length places) (drop i drivers) ≡ rows_of drivers
+  pub places_left : places ++ places_from i (drop i drivers) ≡ places_of drivers
+
+-- this holds again after the row and the places of the next driver were added
+pub next_driver : (drivers : List DriverSpec) (i : ℕ) (rows : List DriverRow) (places : List Place) (m : ℕ)
+    → i < length drivers → m ≡ minors_of drivers i → AreSoFar drivers rows places i
+    → AreSoFar drivers (rows ++ driver_row (length places) m ∷ []) (places ++ sides_of i m) (i + 1)
+next_driver [] i rows places m lt is h = absurd (omega arith)
+next_driver (first ∷ others) i rows places m lt is h =
+    let drivers : List DriverSpec = first ∷ others in
+    let d : DriverSpec = get_or drivers i first in
+    let minors : d.minors ≡ m = ap (λ (o : Option DriverSpec). option_map_or (λ x. x.minors) o 0)
+    (sym (slice_get-get_or drivers i first lt)) ∙ sym is in
+    let parts : drop i drivers ≡ d ∷ drop (i + 1) drivers = drop_more drivers i first lt in
+    let long : length (places ++ sides_of i m) ≡ length places + 2 * m =
+    length-append places (sides_of i m) ∙ ap (λ (n : ℕ). length places + n) (sides_length i m) in
+    record {
+      rows_left = append_assoc rows (driver_row (length places) m ∷ []) _
+          ∙ rw (long, ← minors) (sym (ap (λ (ds : List DriverSpec). rows ++ rows_from (length places) ds) parts))
+          ∙ h.rows_left;
+      places_left = append_assoc places (sides_of i m) _
+          ∙ ap (λ (k : ℕ). places ++ (sides_of i m ++ places_from k (drop (i + 1) drivers))) (add-one i)
+          ∙ rw (← minors) (sym (ap (λ (ds : List DriverSpec). places ++ places_from i ds) parts))
+          ∙ h.places_left;
+    }
+
+-- after the last driver, these are all rows and places
+pub all_drivers : (drivers : List DriverSpec) (i : ℕ) (rows : List DriverRow) (places : List Place) → length drivers ≤ i
+    → AreSoFar drivers rows places i → ArePlaces drivers rows places
+all_drivers drivers i rows places past h =
+    let none : drop i drivers ≡ [] = drop_all i drivers past in
+    record {
+      rows_are = sym (append-nil rows) ∙ rw none at h.rows_left;
+      places_are = sym (append-nil places) ∙ rw none at h.places_left;
+    }

@@ -1,20 +1,22 @@
 -- Queues by number, when one of them changes.
 use Rattle.std.proofs.Common.{◌≡◌, ℕ, zero, suc, ◌+◌, ◌<◌, ◌≤◌, nat_lt, not, Bool, true, false, List, [], ◌∷◌, ◌++◌}
-use Rattle.std.proofs.Common.{length, drop, get_or, set, cond, position, Option, Some, None, refl, sym, ap, ◌∙◌, arith}
+use Rattle.std.proofs.Common.{length, drop, set, map, inl, inr, cond, position, Option, Some, None, refl}
+use Rattle.std.proofs.Common.{sym, ap, ◌∙◌, arith}
 use Rattle.std.specs.List.{slice_get, position_or_len}
 use Rattle.std.proofs.lemmas.Bool.Decides.{nat_tests}
-use Rattle.std.proofs.lemmas.List.Sums.{prefix_len_passes}
+use Rattle.std.proofs.lemmas.List.Sums.{fails_before_first, position_or_len_is}
 use Rattle.std.proofs.lemmas.List.Quantifiers.{position-Some}
 use Rattle.std.proofs.lemmas.List.{get_or-set_same, set-set, length-drop}
-use Rattle.std.proofs.lemmas.Bool.{not-false, not-true}
+use Rattle.std.proofs.lemmas.Bool.{cases_Bool, not-true}
 use Rattle.std.specs.Prelude.{◌&&◌}
+use Rattle.slab.specs.Slab.{Slab}
 use Rattle.smx_types.specs.declared.message.Message.{Message}
 use Rattle.smx_model.specs.Queues.{bytes_of}
 use Rattle.smx_queues.specs.declared.chain.Chain.{Chain}
 use Rattle.smx_queues.specs.QueueTable.{Queue, QueueTable, IsPlace, queue_at, least_vacant, with_place, without_front}
 use Rattle.smx_queues.specs.QueueTable.{without_messages}
-use Rattle.smx_queues.specs.Chains.{no_chain}
-use Rattle.smx_queues.proofs.SlotLemmas.{slot, slots}
+use Rattle.smx_queues.specs.declared.node.Node.{Node}
+use Rattle.smx_queues.specs.Chains.{chain_at, no_chain, slot_of}
 
 -- the number of a place is below the length of the list
 pub place_below : (queues : List (Option Queue)) (p : ℕ) → IsPlace queues p → p < length queues
@@ -83,70 +85,52 @@ clearing_goes_on old mid new p m below c taken gone room =
       spare = omega (arith, room, c.spare, some, length-drop 1 c.messages);
     }
 
--- the number p is the lowest without a place, and setting a queue there adds a place
-pub record IsVacant (chains : List Chain) (queues : List Queue) (p : ℕ) : Type 0 where
-  pub least : p ≡ least_vacant (slots chains queues)
-  pub added : (q : Queue) → set (slots chains queues) p (Some q) ≡ with_place (slots chains queues) q
+-- setting a queue at the lowest number without a place adds a place
+pub placed_at : (view : List (Option Queue)) (p : ℕ) (q : Queue) → p ≡ least_vacant view → p < length view
+    → set view p (Some q) ≡ with_place view q
+placed_at [] p q e lt = absurd (omega (arith, lt))
+placed_at (None ∷ view) p q e lt = rw e refl
+placed_at (Some x ∷ view) p q e lt = rw e (ap (λ (rest : List (Option Queue)). Some x ∷ rest)
+    (placed_at view (least_vacant view) q refl (omega (arith, e, lt))))
 
--- the number of a chain without a place, if all lower ones have places, is the lowest without a queue
-pub vacant_at : (chains : List Chain) (queues : List Queue) (p : ℕ) → length queues ≡ length chains → p < length chains
-    → (get_or chains p no_chain).there ≡ false → ((k : ℕ) → k < p → (get_or chains k no_chain).there ≡ true)
-    → IsVacant chains queues p
-vacant_at [] queues p many below gone others = absurd (omega (arith, below))
-vacant_at (chain ∷ chains) [] p many below gone others = absurd (omega (arith, many))
-vacant_at (chain ∷ chains) (q ∷ queues) zero many below gone others =
-    let here : slot chain q ≡ None = rw gone refl in
-    record {
-      least = rw here refl;
-      added = λ new. rw here refl;
-    }
-vacant_at (chain ∷ chains) (q ∷ queues) (suc p) many below gone others =
-    let r = vacant_at chains queues p (omega (arith, many)) (omega (arith, below)) gone
-    (λ k less. others (suc k) (omega (arith, less))) in
-    let here : slot chain q ≡ Some q = let t : chain.there ≡ true = others 0 (omega arith) in rw t refl in
-    record {
-      least = rw here (ap suc r.least);
-      added = λ new. rw here (ap (λ rest. Some q ∷ rest) (r.added new));
-    }
-
--- the next number is the lowest without a place, and appending a queue adds a place
-pub record IsFull (chains : List Chain) (queues : List Queue) : Type 0 where
-  pub least : length chains ≡ least_vacant (slots chains queues)
-  pub added : (q : Queue) → slots chains queues ++ Some q ∷ [] ≡ with_place (slots chains queues) q
-
--- if each chain has a place, the next number is the lowest without a queue
-pub none_vacant : (chains : List Chain) (queues : List Queue) → length queues ≡ length chains
-    → ((k : ℕ) → k < length chains → (get_or chains k no_chain).there ≡ true) → IsFull chains queues
-none_vacant [] queues many there = record { least = refl; added = λ q. refl }
-none_vacant (chain ∷ chains) [] many there = absurd (omega (arith, many))
-none_vacant (chain ∷ chains) (q ∷ queues) many there =
-    let r = none_vacant chains queues (omega (arith, many)) (λ k less. there (suc k) (omega (arith, less))) in
-    let here : slot chain q ≡ Some q = let t : chain.there ≡ true = there 0 (omega arith) in rw t refl in
-    record {
-      least = rw here (ap suc r.least);
-      added = λ new. rw here (ap (λ rest. Some q ∷ rest) (r.added new));
-    }
+-- if each number has a place, appending a queue adds a place
+pub placed_last : (view : List (Option Queue)) (q : Queue) → length view ≡ least_vacant view
+    → view ++ Some q ∷ [] ≡ with_place view q
+placed_last [] q e = refl
+placed_last (None ∷ view) q e = absurd (omega (arith, e))
+placed_last (Some x ∷ view) q e =
+    ap (λ (rest : List (Option Queue)). Some x ∷ rest) (placed_last view q (omega (arith, e)))
 
 -- the chain has no place
 abbrev pub goes : Chain → Bool
 goes chain = not chain.there
 
--- if a search finds the first chain without a place, its number is the lowest without a queue
-pub vacant_found : (chains : List Chain) (queues : List Queue) (p : ℕ) → length queues ≡ length chains
-    → Some p ≡ position goes chains → (p < length chains) × ((get_or chains p no_chain).there ≡ false)
-    × IsVacant chains queues p
-vacant_found chains queues p many found =
-    let f = position-Some goes chains p no_chain (sym found) in
-    let gone = not-true _ f.1 in
-    (f.0, gone, vacant_at chains queues p many f.0 gone (λ k less. not-false _ (f.2 k less)))
+-- the lowest number without a place is that of the first chain without a place
+least_is : (s : Slab Node) (chains : List Chain) → least_vacant (map (slot_of s) chains) ≡ position_or_len goes chains
+least_is s [] = refl
+least_is s (chain ∷ chains) = elim (cases_Bool chain.there) [
+  | inl t ↦ rw t (omega (arith, least_is s chains))
+  | inr f ↦ rw f refl
+]
 
--- if a search finds no chain without a place, the next number is the lowest without a queue
-pub vacant_not_found : (chains : List Chain) (queues : List Queue) → length queues ≡ length chains
-    → None ≡ position goes chains → IsFull chains queues
-vacant_not_found chains queues many none =
-    none_vacant chains queues many
-    (λ k less. not-false _ (not-true _ (prefix_len_passes (λ (c : Chain). not (goes c)) chains k no_chain
-    (omega (arith, less, far (nat_lt (position_or_len goes chains) (length chains)) refl none)))))
+-- if a search finds the first chain without a place, its number is the lowest without a place
+pub vacant_found : (s : Slab Node) (chains : List Chain) (p : ℕ) → Some p ≡ position goes chains
+    → (p < length chains) × ((chain_at chains p).there ≡ false) × (p ≡ least_vacant (map (slot_of s) chains))
+vacant_found s chains p found =
+    let f = position-Some goes chains p no_chain (sym found) in (
+      f.0,
+      not-true _ f.1,
+      sym (least_is s chains ∙ position_or_len_is goes chains p no_chain (omega (arith, f.0)) f.2 (λ _. f.1)),
+    )
+
+-- if a search finds no chain without a place, the next number is the lowest without a place
+pub vacant_not_found : (s : Slab Node) (chains : List Chain) → None ≡ position goes chains
+    → length chains ≡ least_vacant (map (slot_of s) chains)
+vacant_not_found s chains none =
+    sym (least_is s chains ∙ position_or_len_is goes chains (length chains) no_chain (omega arith)
+    (λ k less. fails_before_first goes chains k no_chain
+    (omega (arith, less, far (nat_lt (position_or_len goes chains) (length chains)) refl none)))
+    (λ lt. absurd (omega arith)))
   where
     far : (b : Bool) → nat_lt (position_or_len goes chains) (length chains) ≡ b
         → None ≡ cond b (Some (position_or_len goes chains)) None → length chains ≤ position_or_len goes chains

@@ -1,389 +1,323 @@
--- Rings after a number is put into one or taken out.
-use Rattle.std.proofs.Common.{◌≡◌, ◌≢◌, ℕ, suc, ◌+◌, ◌-◌, ◌<◌, List, length, set, get_or, refl, sym, ap, ◌∙◌}
-use Rattle.std.proofs.Common.{subst, arith, inl, inr, cond, eqb, [], ◌∷◌, ◌++◌, add-one, replicate}
-use Rattle.std.specs.Prelude.{◌^◌, ◌==◌, not, count_by, false}
-use Rattle.std.proofs.lemmas.Bool.{cases_eq, cases_lt, eq-eqb, ne_eqb}
-use Rattle.std.proofs.lemmas.List.{get_or-set_other, get_or-set_same, get_or_append_left, get_or_default, get_or_past}
-use Rattle.std.proofs.lemmas.List.{get_or_push, length-append}
-use Rattle.std.proofs.lemmas.List.{get_or-replicate, length-replicate, length-set}
+-- Rings after two nodes swapped the nodes after them.
+use Rattle.std.proofs.Common.{◌≡◌, ◌≢◌, ℕ, zero, suc, ◌+◌, ◌-◌, ◌*◌, ◌<◌, ◌≤◌, List, length, set, get_or, refl, sym}
+use Rattle.std.proofs.Common.{ap, ◌∙◌, subst, arith, inl, inr, cond, eqb, false, [], ◌∷◌, ◌++◌, replicate}
+use Rattle.std.specs.Prelude.{◌^◌, ◌==◌, ◌⊎◌, not, count_by}
+use Rattle.std.specs.List.{range_with_len, swap}
+use Rattle.std.proofs.lemmas.Bool.{cases_eq, cases_lt, eq-eqb, le-ltb, lt-ltb, ne_eqb}
+use Rattle.std.proofs.lemmas.List.{get_or-set_other, get_or-set_same, get_or_default, get_or_past, length-set}
+use Rattle.std.proofs.lemmas.List.{get_or-replicate, length-replicate, set-set}
+use Rattle.std.proofs.lemmas.List.FromFn.{get_or-range_with_len, length-range_with_len}
+use Rattle.std.proofs.lemmas.List.Edits.{Swapped, length-swap, swapped_from_swap}
 use Rattle.std.proofs.lemmas.List.Sums.{sum_by-set}
-use Rattle.smx_queues.specs.Rings.{AreRings, IsBehind, at, linked, unlinked}
-use Rattle.smx_queues.proofs.RingNodeLemmas.{linked_p, linked_h, linked_other, unlinked_p, unlinked_a, unlinked_other}
-use Rattle.smx_queues.proofs.RingNodeLemmas.{link_leads, unlink_leads, one_ring, suc_zero, ring_of, alone_back}
-use Rattle.smx_queues.proofs.RingNodeLemmas.{next_differs, previous_differs}
+use Rattle.smx_queues.specs.Rings.{AreRings, LeadsBack, RingTable, at, ring_at}
 
--- ---- a number is put into a ring
+-- ---- lists that lead back to one another
 
--- the ranks, with new ranks for two nodes
-abbrev ranks : (ℕ → ℕ) → ℕ → ℕ → ℕ → ℕ
-ranks rank p h i = cond (eqb i p) (rank h) (cond (eqb i h) (suc (rank h)) (rank i))
+-- a node comes after only one node
+pub only_one : (many : ℕ) (xs ys : List ℕ) (i j : ℕ) → LeadsBack many xs ys → i < many → j < many → at xs i ≡ at xs j
+    → i ≡ j
+only_one many xs ys i j leads lt_i lt_j e = sym (leads i lt_i).1 ∙ (ap (at ys) e ∙ (leads j lt_j).1)
 
-rank_p : (rank : ℕ → ℕ) (p h : ℕ) → ranks rank p h p ≡ rank h
-rank_p rank p h = rw (eq-eqb p p refl) refl
+-- if two nodes swap the nodes after them, and these swap the nodes before them, each node still leads to one that leads
+-- back
+swap_leads : (many : ℕ) (xs ys xs' ys' : List ℕ) (a b : ℕ) → LeadsBack many xs ys → a < many → b < many
+    → Swapped (at xs) (at xs') a b → Swapped (at ys) (at ys') (at xs a) (at xs b) → LeadsBack many xs' ys'
+swap_leads many xs ys xs' ys' a b leads lt_a lt_b s t i lt = elim (cases_eq i a) [
+  | inl is ↦ rw (is, s.0) ((leads b lt_b).0, t.1 ∙ (leads a lt_a).1)
+  | inr not_a ↦ elim (cases_eq i b) [
+    | inl is ↦ rw (is, s.1) ((leads a lt_a).0, t.0 ∙ (leads b lt_b).1)
+    | inr not_b ↦ rw (s.2 i not_a not_b) (
+      (leads i lt).0,
+      t.2 (at xs i) (λ e. not_a (only_one many xs ys i a leads lt lt_a e))
+          (λ e. not_b (only_one many xs ys i b leads lt lt_b e)) ∙ (leads i lt).1,
+    )
+  ]
+]
 
-rank_h : (rank : ℕ → ℕ) (p h : ℕ) → h ≢ p → ranks rank p h h ≡ suc (rank h)
-rank_h rank p h differ = rw (ne_eqb h p differ, eq-eqb h h refl) refl
+-- ---- the ring of a node
 
-rank_other : (rank : ℕ → ℕ) (p h i : ℕ) → i ≢ p → i ≢ h → ranks rank p h i ≡ rank i
-rank_other rank p h i not_p not_h = rw (ne_eqb i p not_p, ne_eqb i h not_h) refl
+-- a number is in the ring of its owner
+pub ring_number : (count : ℕ) (owners : List ℕ) (i : ℕ) → i < count → ring_at count owners i ≡ at owners i
+ring_number count owners i lt = rw (lt-ltb i count lt) refl
 
--- if a number that was in no ring is put after the beginning of a ring, the rings are linked
-pub inserted : (count : ℕ) (owners next previous : List ℕ) (p q : ℕ) → AreRings count owners next previous → p < count
-    → q < count → at owners p ≡ 0
-    → AreRings count (set owners p (suc q)) (linked next p (at next (count + q)) (count + q))
-    (linked previous p (count + q) (at next (count + q)))
-inserted count owners next previous p q h lt_p lt_q none = record {
+-- a node after the numbers is the beginning of a ring, and is in it
+pub ring_past : (count : ℕ) (owners : List ℕ) (i : ℕ) → count ≤ i → ring_at count owners i ≡ suc (i - count)
+ring_past count owners i past = rw (le-ltb i count past) refl
+
+-- a change of one owner keeps the rings of the other nodes
+ring_other : (count : ℕ) (owners : List ℕ) (p v i : ℕ) → i ≢ p
+    → ring_at count (set owners p v) i ≡ ring_at count owners i
+ring_other count owners p v i ne = rw (get_or-set_other owners p i v 0 ne) refl
+
+-- the ring that begins at a node
+ring_head : (count : ℕ) (owners : List ℕ) (q : ℕ) → ring_at count owners (count + q) ≡ suc q
+ring_head count owners q = ring_past count owners (count + q) (omega arith) ∙ ap suc (omega arith)
+
+module _ (count : ℕ) (owners next previous : List ℕ) (h : AreRings count owners next previous) where
+  -- after a node of the ring of q comes the beginning of the ring, or a number in it
+  pub comes : (i q : ℕ) → i < count + count → ring_at count owners i ≡ suc q
+      → (at next i ≡ count + q) ⊎ ((at next i < count) × (ring_at count owners (at next i) ≡ suc q))
+  comes i q lt own =
+      let same = h.same i lt ∙ own in
+      elim (cases_lt (at next i) count) [
+        | inl less ↦ inr (less, same)
+        | inr past ↦ inl (omega (arith, past, ring_past count owners (at next i) past, same))
+      ]
+
+  -- if the beginning of a ring leads to itself, no number is in the ring
+  pub none_in : (q : ℕ) → q < count → at next (count + q) ≡ count + q → (p : ℕ) → p < count → at owners p ≡ suc q → ⊥
+  none_in q lt empty p below own =
+      by (suc (h.rank p)) p (omega arith) below (ring_number count owners p below ∙ own) where
+        by : (n p : ℕ) → h.rank p < n → p < count → ring_at count owners p ≡ suc q → ⊥
+        by zero p less below own = omega arith
+        by (suc n) p less below own = elim (comes p q (omega arith) own) [
+          | inl head ↦
+              let e : p ≡ count + q = only_one (count + count) next previous p (count + q) h.forth (omega arith)
+              (omega arith) (head ∙ sym empty) in
+              omega (arith, below, e)
+          | inr later ↦
+              let fall = h.falls p (omega arith) later.0 (λ e. omega (arith, e, own)) in
+              by n (at next p) (omega (arith, less, fall)) later.0 later.1
+        ]
+
+  -- if the beginning of a ring leads to another node, that is a number in the ring
+  pub first_in : (q : ℕ) → q < count → at next (count + q) ≢ count + q
+      → (at next (count + q) < count) × (at owners (at next (count + q)) ≡ suc q)
+  first_in q lt some = elim (comes (count + q) q (omega arith) (ring_head count owners q)) [
+    | inl head ↦ absurd (some head)
+    | inr first ↦ (first.0, sym (ring_number count owners _ first.0) ∙ first.1)
+  ]
+
+-- ---- two nodes swap the nodes after them
+
+-- what has to hold of the two nodes if number p gets another owner, and swaps with node y
+record CanSwap (count : ℕ) (owners next previous : List ℕ) (h : AreRings count owners next previous) (p v y : ℕ)
+    (rank : ℕ → ℕ) : Type 0 where
+  below : p < count
+  within : y < count + count
+  others : (i : ℕ) → i < count + count → i ≢ p → i ≢ y → at next i ≢ p
+  same_p : ring_at count (set owners p v) (at next y) ≡ v
+  same_y : ring_at count (set owners p v) (at next p) ≡ ring_at count (set owners p v) y
+  alone_p : v ≡ 0 → at next y ≡ p
+  alone_y : y < count → at owners y ≡ 0 → y ≢ p → at next p ≡ y
+  falls_p : at next y < count → v ≢ 0 → rank (at next y) < rank p
+  falls_y : at next p < count → y ≢ p → ring_at count owners y ≢ 0 → rank (at next p) < rank y
+  falls : (i j : ℕ) → i ≢ p → j ≢ p → h.rank i < h.rank j → rank i < rank j
+
+-- then the rings are linked
+swapped : (count : ℕ) (owners next previous : List ℕ) (h : AreRings count owners next previous) (p v y : ℕ)
+    (rank : ℕ → ℕ) → CanSwap count owners next previous h p v y rank
+    → AreRings count (set owners p v) (swap next p y) (swap previous (at next p) (at next y))
+swapped count owners next previous h p v y rank k = record {
   small = h.small;
-  many = length-set owners p (suc q) ∙ h.many;
-  many_next = length-set (set next p f) head p ∙ (length-set next p f ∙ h.many_next);
-  many_previous = length-set (set previous p head) f p ∙ (length-set previous p head ∙ h.many_previous);
-  forth = link_leads (count + count) next previous p f head h.many_next h.many_previous below lt_f lt_h not_h not_f refl
-      before h.forth;
-  back = link_leads (count + count) previous next p head f h.many_previous h.many_next below lt_h lt_f not_f not_h
-      (h.forth head lt_h).1 (h.alone p lt_p none) h.back;
-  begins = λ r lt. own_other (count + r) (λ e. omega (arith, e, lt_p)) ∙ h.begins r lt;
-  alone = λ i lt free.
-      let apart : i ≢ p = λ e. suc_zero q (sym (own_p i e) ∙ free) in
-      linked_other next p f head i apart (λ e. omega (arith, e, lt))
-      ∙ h.alone i lt (sym (own_other i apart) ∙ free);
-  rank = rank_now;
-  behind = λ i r lt own. elim (cases_eq i p) [
-    | inl is ↦ in_ring (at owners_now i) i r (own_p i is) own (behind_p i is)
-    | inr apart ↦ elim (cases_eq i head) [
-      | inl is ↦ in_ring (at owners i) i r (ap (at owners) is ∙ h.begins q lt_q) (sym (own_other i apart) ∙ own)
-          (behind_head i is)
-      | inr other ↦
-          let old = h.behind i r lt (sym (own_other i apart) ∙ own) in
-          (old.0, behind_other i r apart other old.1)
+  many = length-set owners p v ∙ h.many;
+  many_next = length-swap next p y ∙ h.many_next;
+  many_previous = length-swap previous (at next p) (at next y) ∙ h.many_previous;
+  forth = swap_leads (count + count) next previous _ _ p y h.forth lt k.within s t;
+  back = swap_leads (count + count) previous next _ _ (at next p) (at next y) h.back (h.forth p lt).0
+      (h.forth y k.within).0 t (rw ((h.forth p lt).1, (h.forth y k.within).1) s);
+  alone = λ i below free. elim (cases_eq i p) [
+    | inl is ↦ rw (is, s.0) (k.alone_p (sym here ∙ rw is at free))
+    | inr not_p ↦
+        let was = sym (get_or-set_other owners p i v 0 not_p) ∙ free in
+        elim (cases_eq i y) [
+          | inl is ↦ rw (is, s.1) (k.alone_y (rw is at below) (rw is at was) (rw is at not_p))
+          | inr not_y ↦ s.2 i not_p not_y ∙ h.alone i below was
+        ]
+  ];
+  same = λ i lt_i. elim (cases_eq i p) [
+    | inl is ↦ rw (is, s.0) (k.same_p ∙ sym owned)
+    | inr not_p ↦ elim (cases_eq i y) [
+      | inl is ↦ rw (is, s.1) k.same_y
+      | inr not_y ↦ rw (s.2 i not_p not_y) (ring_other count owners p v (at next i) (k.others i lt_i not_p not_y)
+          ∙ (h.same i lt_i ∙ sym (ring_other count owners p v i not_p)))
     ]
   ];
-} where
-  head : ℕ
-  head = count + q
-
-  f : ℕ
-  f = at next head
-
-  owners_now : List ℕ
-  owners_now = set owners p (suc q)
-
-  next_now : List ℕ
-  next_now = linked next p f head
-
-  rank_now : ℕ → ℕ
-  rank_now = ranks h.rank p head
-
-  below : p < count + count
-  below = omega arith
-
-  lt_h : head < count + count
-  lt_h = omega arith
-
-  lt_f : f < count + count
-  lt_f = (h.forth head lt_h).0
-
-  not_h : p ≢ head
-  not_h = λ e. omega (arith, e, lt_p)
-
-  before : at previous p ≡ p
-  before = alone_back count owners next previous p h lt_p none
-
-  not_f : p ≢ f
-  not_f = λ e. not_h (sym before ∙ (ap (at previous) e ∙ (h.forth head lt_h).1))
-
-  own_p : (i : ℕ) → i ≡ p → at owners_now i ≡ suc q
-  own_p i is = ap (at owners_now) is ∙ get_or-set_same owners p (suc q) 0 (omega (arith, h.many, lt_p))
-
-  own_other : (i : ℕ) → i ≢ p → at owners_now i ≡ at owners i
-  own_other i apart = get_or-set_other owners p i (suc q) 0 apart
-
-  not_p : (j n : ℕ) → at owners j ≡ suc n → j ≢ p
-  not_p j n own = λ e. suc_zero n (sym own ∙ (ap (at owners) e ∙ none))
-
-  in_ring : (n i r : ℕ) → n ≡ suc q → n ≡ suc r → IsBehind count owners_now rank_now q i (at next_now i)
-      → (r < count) × IsBehind count owners_now rank_now r i (at next_now i)
-  in_ring n i r own now is =
-      subst (λ (x : ℕ). (x < count) × IsBehind count owners_now rank_now x i (at next_now i)) (one_ring n q r own now)
-      (lt_q, is)
-
-  behind_p : (i : ℕ) → i ≡ p → IsBehind count owners_now rank_now q i (at next_now i)
-  behind_p i is =
-      let e : at next_now i ≡ f = ap (at next_now) is ∙ linked_p next p f head (omega (arith, h.many_next, below)) not_h
-      in elim (h.behind head q lt_h (h.begins q lt_q)).1 [
-        | inl begins ↦ inl (e ∙ begins)
-        | inr first ↦ inr (subst (λ (x : ℕ). (x < count) × (at owners_now x ≡ suc q) × (rank_now x < rank_now i))
-            (sym e) (
-              first.0,
-              own_other f (λ x. not_f (sym x)) ∙ first.1,
-              subst (λ (x : ℕ). rank_now f < x) (sym (ap rank_now is ∙ rank_p h.rank p head))
-                  (subst (λ (x : ℕ). x < h.rank head) (sym (rank_other h.rank p head f (λ x. not_f (sym x))
-                  (λ x. omega (arith, x, first.0)))) first.2),
-            ))
-      ]
-
-  behind_head : (i : ℕ) → i ≡ head → IsBehind count owners_now rank_now q i (at next_now i)
-  behind_head i is =
-      let e : at next_now i ≡ p = ap (at next_now) is ∙ linked_h next p f head (omega (arith, h.many_next, lt_h)) in
-      inr (subst (λ (x : ℕ). (x < count) × (at owners_now x ≡ suc q) × (rank_now x < rank_now i)) (sym e) (
-        lt_p,
-        own_p p refl,
-        omega (arith, rank_p h.rank p head, ap rank_now is, rank_h h.rank p head (λ x. not_h (sym x))),
-      ))
-
-  behind_other : (i r : ℕ) → i ≢ p → i ≢ head → IsBehind count owners h.rank r i (at next i)
-      → IsBehind count owners_now rank_now r i (at next_now i)
-  behind_other i r apart other old =
-      let e : at next_now i ≡ at next i = linked_other next p f head i apart other in
-      elim old [
-        | inl begins ↦ inl (e ∙ begins)
-        | inr later ↦ inr (subst (λ (x : ℕ). (x < count) × (at owners_now x ≡ suc r) × (rank_now x < rank_now i))
-            (sym e) (
-              later.0,
-              own_other (at next i) (not_p (at next i) r later.1) ∙ later.1,
-              omega (
-                arith,
-                later.2,
-                rank_other h.rank p head i apart other,
-                rank_other h.rank p head (at next i) (not_p (at next i) r later.1)
-                    (λ x. omega (arith, x, later.0)),
-              ),
-            ))
-      ]
-
--- the same, if the node after the beginning was read first
-pub inserted_now : (count : ℕ) (owners next previous : List ℕ) (p q head f : ℕ) (owners2 next2 previous2 : List ℕ)
-    → AreRings count owners next previous → p < count → q < count → at owners p ≡ 0 → head ≡ count + q
-    → f ≡ get_or next head f → owners2 ≡ set owners p (q + 1) → next2 ≡ linked next p f head
-    → previous2 ≡ linked previous p head f → AreRings count owners2 next2 previous2
-inserted_now count owners next previous p q head f owners2 next2 previous2 h lt_p lt_q none begin read is is_next
-    is_previous =
-    let at_begin : f ≡ at next (count + q) = read
-    ∙ (get_or_default next head f 0 (omega (arith, begin, h.many_next, lt_q)) ∙ ap (at next) begin) in
-    let same : owners2 ≡ set owners p (suc q) = is ∙ ap (set owners p) (add-one q) in
-    let same_next : next2 ≡ linked next p (at next (count + q)) (count + q) = is_next
-    ∙ (ap (λ (x : ℕ). linked next p x head) at_begin ∙ ap (linked next p (at next (count + q))) begin) in
-    let same_previous : previous2 ≡ linked previous p (count + q) (at next (count + q)) = is_previous
-    ∙ (ap (λ (x : ℕ). linked previous p x f) begin ∙ ap (linked previous p (count + q)) at_begin) in
-    subst (λ (xs : List ℕ). AreRings count xs next2 previous2) (sym same)
-    (subst (λ (xs : List ℕ). AreRings count (set owners p (suc q)) xs previous2) (sym same_next)
-    (subst (λ (xs : List ℕ). AreRings count (set owners p (suc q)) (linked next p (at next (count + q)) (count + q)) xs)
-    (sym same_previous) (inserted count owners next previous p q h lt_p lt_q none)))
-
--- ---- a number is taken out of its ring
-
--- if a number is taken out of its ring, the rings are linked
-pub removed : (count : ℕ) (owners next previous : List ℕ) (p q : ℕ) → AreRings count owners next previous → p < count
-    → at owners p ≡ suc q
-    → AreRings count (set owners p 0) (unlinked next (at previous p) (at next p) p)
-    (unlinked previous (at next p) (at previous p) p)
-removed count owners next previous p q h lt_p own_q = record {
-  small = h.small;
-  many = length-set owners p 0 ∙ h.many;
-  many_next = length-set (set next a b) p p ∙ (length-set next a b ∙ h.many_next);
-  many_previous = length-set (set previous b a) p p ∙ (length-set previous b a ∙ h.many_previous);
-  forth = unlink_leads (count + count) next previous p a b h.many_next h.many_previous below lt_a lt_b not_a not_b to_p
-      refl refl h.forth;
-  back = unlink_leads (count + count) previous next p b a h.many_previous h.many_next below lt_b lt_a not_b not_a
-      (h.forth p below).1 refl refl h.back;
-  begins = λ r lt. own_other (count + r) (λ e. omega (arith, e, lt_p)) ∙ h.begins r lt;
-  alone = λ i lt free. elim (cases_eq i p) [
-    | inl is ↦ ap (at next_now) is ∙ (unlinked_p next a b p (omega (arith, h.many_next, below)) ∙ sym is)
-    | inr apart ↦
-        let self = h.alone i lt (sym (own_other i apart) ∙ free) in
-        unlinked_other next a b p i (λ e. apart (sym self ∙ (ap (at next) e ∙ to_p))) apart ∙ self
-  ];
-  rank = h.rank;
-  behind = λ i r lt own. elim (cases_eq i p) [
-    | inl is ↦ absurd (suc_zero r (sym own ∙ own_p i is))
-    | inr apart ↦
-        let old = h.behind i r lt (sym (own_other i apart) ∙ own) in (
-          old.0,
-          elim (cases_eq i a) [
-            | inl is ↦ behind_a i r is (subst (λ (x : ℕ). IsBehind count owners h.rank r i x)
-                (ap (at next) is ∙ to_p) old.1)
-            | inr other ↦ behind_other i r lt apart other old.1
-          ],
-        )
-  ];
-} where
-  a : ℕ
-  a = at previous p
-
-  b : ℕ
-  b = at next p
-
-  owners_now : List ℕ
-  owners_now = set owners p 0
-
-  next_now : List ℕ
-  next_now = unlinked next a b p
-
-  below : p < count + count
-  below = omega arith
-
-  lt_a : a < count + count
-  lt_a = (h.back p below).0
-
-  lt_b : b < count + count
-  lt_b = (h.forth p below).0
-
-  not_a : p ≢ a
-  not_a = previous_differs count owners next previous p q h lt_p own_q
-
-  not_b : p ≢ b
-  not_b = next_differs count owners next previous p q h lt_p own_q
-
-  to_p : at next a ≡ p
-  to_p = (h.back p below).1
-
-  own_p : (i : ℕ) → i ≡ p → at owners_now i ≡ 0
-  own_p i is = ap (at owners_now) is ∙ get_or-set_same owners p 0 0 (omega (arith, h.many, lt_p))
-
-  own_other : (i : ℕ) → i ≢ p → at owners_now i ≡ at owners i
-  own_other i apart = get_or-set_other owners p i 0 0 apart
-
-  not_begin : (r : ℕ) → p ≡ count + r → ⊥
-  not_begin r e = omega (arith, e, lt_p)
-
-  behind_a : (i r : ℕ) → i ≡ a → IsBehind count owners h.rank r i p
-      → IsBehind count owners_now h.rank r i (at next_now i)
-  behind_a i r is old =
-      let e : at next_now i ≡ b = ap (at next_now) is
-      ∙ unlinked_a next a b p (omega (arith, h.many_next, lt_a)) (λ x. not_a (sym x)) in
-      elim old [
-        | inl begins ↦ absurd (not_begin r begins)
-        | inr here ↦ elim (h.behind p r below here.1).1 [
-          | inl begins ↦ inl (e ∙ begins)
-          | inr later ↦ inr (subst (λ (x : ℕ). (x < count) × (at owners_now x ≡ suc r) × (h.rank x < h.rank i))
-              (sym e) (later.0, own_other b (λ x. not_b (sym x)) ∙ later.1, omega (arith, later.2, here.2)))
+  rank = rank;
+  falls = λ i lt_i less some. elim (cases_eq i p) [
+    | inl is ↦ rw (is, s.0) (k.falls_p (rw (is, s.0) at less)
+        (λ e. some (ap (ring_at count (set owners p v)) is ∙ (owned ∙ e))))
+    | inr not_p ↦
+        let was : ring_at count owners i ≢ 0 = λ e. some (ring_other count owners p v i not_p ∙ e) in
+        elim (cases_eq i y) [
+          | inl is ↦ rw (is, s.1) (k.falls_y (rw (is, s.1) at less) (rw is at not_p) (rw is at was))
+          | inr not_y ↦ rw (s.2 i not_p not_y) (k.falls (at next i) i (k.others i lt_i not_p not_y) not_p
+              (h.falls i lt_i (rw (s.2 i not_p not_y) at less) was))
         ]
-      ]
+  ];
+} where
+  lt : p < count + count
+  lt = omega (arith, k.below)
 
-  behind_other : (i r : ℕ) → i < count + count → i ≢ p → i ≢ a → IsBehind count owners h.rank r i (at next i)
-      → IsBehind count owners_now h.rank r i (at next_now i)
-  behind_other i r lt apart other old =
-      let e : at next_now i ≡ at next i = unlinked_other next a b p i other apart in
-      let not_p : at next i ≢ p = λ x. other (sym (h.forth i lt).1 ∙ ap (at previous) x) in
-      elim old [
-        | inl begins ↦ inl (e ∙ begins)
-        | inr later ↦ inr (subst (λ (x : ℕ). (x < count) × (at owners_now x ≡ suc r) × (h.rank x < h.rank i))
-            (sym e) (later.0, own_other (at next i) not_p ∙ later.1, later.2))
-      ]
+  s : Swapped (at next) (at (swap next p y)) p y
+  s = swapped_from_swap next _ p y 0 (omega (arith, h.many_next, lt)) (omega (arith, h.many_next, k.within)) refl
 
--- the same, if its neighbours were read first
-pub removed_now : (count : ℕ) (owners next previous : List ℕ) (p a b : ℕ) (owners2 next2 previous2 : List ℕ)
-    → AreRings count owners next previous → p < count → at owners p ≢ 0 → a ≡ get_or previous p a
-    → b ≡ get_or next p b → owners2 ≡ set owners p 0 → next2 ≡ unlinked next a b p
-    → previous2 ≡ unlinked previous b a p → AreRings count owners2 next2 previous2
-removed_now count owners next previous p a b owners2 next2 previous2 h lt_p some before behind is is_next is_previous =
-    let q = ring_of (at owners p) some in
-    let at_a : a ≡ at previous p = before ∙ get_or_default previous p a 0 (omega (arith, h.many_previous, lt_p)) in
-    let at_b : b ≡ at next p = behind ∙ get_or_default next p b 0 (omega (arith, h.many_next, lt_p)) in
-    let same_next : next2 ≡ unlinked next (at previous p) (at next p) p = is_next
-    ∙ (ap (λ (x : ℕ). unlinked next x b p) at_a ∙ ap (λ (x : ℕ). unlinked next (at previous p) x p) at_b) in
-    let same_previous : previous2 ≡ unlinked previous (at next p) (at previous p) p = is_previous
-    ∙ (ap (λ (x : ℕ). unlinked previous x a p) at_b ∙ ap (λ (x : ℕ). unlinked previous (at next p) x p) at_a) in
-    subst (λ (xs : List ℕ). AreRings count xs next2 previous2) (sym is)
-    (subst (λ (xs : List ℕ). AreRings count (set owners p 0) xs previous2) (sym same_next)
-    (subst (λ (xs : List ℕ). AreRings count (set owners p 0) (unlinked next (at previous p) (at next p) p) xs)
-    (sym same_previous) (removed count owners next previous p q.0 h lt_p q.1)))
+  t : Swapped (at previous) (at (swap previous (at next p) (at next y))) (at next p) (at next y)
+  t = swapped_from_swap previous _ (at next p) (at next y) 0 (omega (arith, h.many_previous, (h.forth p lt).0))
+      (omega (arith, h.many_previous, (h.forth y k.within).0)) refl
 
--- ---- at first
+  here : at (set owners p v) p ≡ v
+  here = get_or-set_same owners p v 0 (omega (arith, h.many, k.below))
+
+  owned : ring_at count (set owners p v) p ≡ v
+  owned = ring_number count (set owners p v) p k.below ∙ here
+
+-- if a number that was in no ring swaps with the beginning of a ring, the rings are linked
+pub inserted : (count : ℕ) (owners next previous : List ℕ) → AreRings count owners next previous → (p q : ℕ) → p < count
+    → q < count → at owners p ≡ 0
+    → AreRings count (set owners p (suc q)) (swap next p (count + q)) (swap previous p (at next (count + q)))
+inserted count owners next previous h p q lt_p lt_q none =
+    rw self at (swapped count owners next previous h p (suc q) head rank (record {
+      below = lt_p;
+      within = omega arith;
+      others = λ i lt not_p _ e. not_p (one i p lt (omega arith) (e ∙ sym self));
+      same_p = other f not_f ∙ (h.same head (omega arith) ∙ ring_head count owners q);
+      same_y = ap (ring_at count (set owners p (suc q))) self
+          ∙ (ring_number count _ p lt_p ∙ (get_or-set_same owners p (suc q) 0 (omega (arith, h.many, lt_p))
+          ∙ sym (other head not_head ∙ ring_head count owners q)));
+      alone_p = λ e. absurd (omega (arith, e));
+      alone_y = λ lt. absurd (omega (arith, lt));
+      falls_p = λ less _.
+          let fall = h.falls head (omega arith) less some in rw (rank_p, rank_other f not_f) (omega (arith, fall));
+      falls_y = λ _ _ _. rw (self, rank_p, rank_other head not_head) (omega arith);
+      falls = λ i j not_i not_j less. rw (rank_other i not_i, rank_other j not_j) (omega (arith, less));
+    }))
+  where
+    head : ℕ
+    head = count + q
+
+    f : ℕ
+    f = at next head
+
+    rank : ℕ → ℕ
+    rank i = cond (eqb i p) (2 * h.rank head) (2 * h.rank i + 1)
+
+    rank_p : rank p ≡ 2 * h.rank head
+    rank_p = rw (eq-eqb p p refl) refl
+
+    rank_other : (i : ℕ) → i ≢ p → rank i ≡ 2 * h.rank i + 1
+    rank_other i ne = rw (ne_eqb i p ne) refl
+
+    self : at next p ≡ p
+    self = h.alone p lt_p none
+
+    one : (i j : ℕ) → i < count + count → j < count + count → at next i ≡ at next j → i ≡ j
+    one i j lt_i lt_j e = only_one (count + count) next previous i j h.forth lt_i lt_j e
+
+    not_head : head ≢ p
+    not_head e = omega (arith, e, lt_p)
+
+    not_f : f ≢ p
+    not_f e = not_head (one head p (omega arith) (omega arith) (e ∙ sym self))
+
+    other : (i : ℕ) → i ≢ p → ring_at count (set owners p (suc q)) i ≡ ring_at count owners i
+    other i ne = ring_other count owners p (suc q) i ne
+
+    some : ring_at count owners head ≢ 0
+    some e = omega (arith, e, ring_head count owners q)
+
+-- if a number of a ring swaps with the node before it, the rings are linked without the number
+pub removed : (count : ℕ) (owners next previous : List ℕ) → AreRings count owners next previous → (p : ℕ) → p < count
+    → at owners p ≢ 0
+    → AreRings count (set owners p 0) (swap next p (at previous p)) (swap previous (at next p) p)
+removed count owners next previous h p lt_p some =
+    rw to_p at (swapped count owners next previous h p 0 a h.rank (record {
+      below = lt_p;
+      within = lt_a;
+      others = λ i lt _ not_a e. not_a (one i a lt lt_a (e ∙ sym to_p));
+      same_p = ap (ring_at count (set owners p 0)) to_p
+          ∙ (ring_number count _ p lt_p ∙ get_or-set_same owners p 0 0 (omega (arith, h.many, lt_p)));
+      same_y = other b not_b ∙ (h.same p (omega arith) ∙ (same_a ∙ sym (other a not_a)));
+      alone_p = λ _. to_p;
+      alone_y = λ lt free _. absurd (not_a (sym (h.alone a lt free) ∙ to_p));
+      falls_p = λ _ e. absurd (e refl);
+      falls_y = λ less _ own.
+          let first = h.falls a lt_a (rw to_p lt_p) own in
+          let second = h.falls p (omega arith) less owned in
+          omega (arith, first, second, ap h.rank to_p);
+      falls = λ i j _ _ less. less;
+    }))
+  where
+    a : ℕ
+    a = at previous p
+
+    b : ℕ
+    b = at next p
+
+    lt_a : a < count + count
+    lt_a = (h.back p (omega arith)).0
+
+    to_p : at next a ≡ p
+    to_p = (h.back p (omega arith)).1
+
+    one : (i j : ℕ) → i < count + count → j < count + count → at next i ≡ at next j → i ≡ j
+    one i j lt_i lt_j e = only_one (count + count) next previous i j h.forth lt_i lt_j e
+
+    owned : ring_at count owners p ≢ 0
+    owned e = some (sym (ring_number count owners p lt_p) ∙ e)
+
+    not_b : b ≢ p
+    not_b e = let fall = h.falls p (omega arith) (rw e lt_p) owned in omega (arith, fall, ap h.rank e)
+
+    not_a : a ≢ p
+    not_a e = not_b (ap (at next) (sym e) ∙ to_p)
+
+    same_a : ring_at count owners p ≡ ring_at count owners a
+    same_a = ap (ring_at count owners) (sym to_p) ∙ h.same a lt_a
+
+    other : (i : ℕ) → i ≢ p → ring_at count (set owners p 0) i ≡ ring_at count owners i
+    other i ne = ring_other count owners p 0 i ne
+
+-- ---- what calls need
+
+-- one more number at the end of a range
+pub range_more : (a n m : ℕ) → m ≡ a + n → range_with_len a n ++ m ∷ [] ≡ range_with_len a (suc n)
+range_more a zero m e = ap (λ (k : ℕ). k ∷ []) (omega (arith, e))
+range_more a (suc n) m e = ap (λ (ks : List ℕ). a ∷ ks) (range_more (a + 1) n m (omega (arith, e)))
 
 -- `count` numbers in no ring, and as many empty rings, are linked rings
-pub at_first : (count : ℕ) (owners next previous : List ℕ) → count < 2 ^ 63 → length owners ≡ count + count
-    → length next ≡ count + count → previous ≡ next → ((i : ℕ) → i < count → at owners i ≡ 0)
-    → ((q : ℕ) → q < count → at owners (count + q) ≡ suc q) → ((i : ℕ) → i < count + count → at next i ≡ i)
-    → AreRings count owners next previous
-at_first count owners next previous small many many_next same none begins each = record {
+pub at_first : (count : ℕ) → count < 2 ^ 63
+    → AreRings count (replicate count 0) (range_with_len 0 (2 * count)) (range_with_len 0 (2 * count))
+at_first count small = record {
   small = small;
-  many = many;
-  many_next = many_next;
-  many_previous = ap (λ (xs : List ℕ). length xs) same ∙ many_next;
-  forth = λ i lt. (subst (λ (x : ℕ). x < count + count) (sym (each i lt)) lt, twice i lt);
-  back = λ i lt. (
-    subst (λ (x : ℕ). x < count + count) (sym (it i lt)) lt,
-    ap (at next) (it i lt) ∙ each i lt,
-  );
-  begins = begins;
+  many = length-replicate count 0;
+  many_next = length-range_with_len 0 (2 * count) ∙ omega arith;
+  many_previous = length-range_with_len 0 (2 * count) ∙ omega arith;
+  forth = back;
+  back = back;
   alone = λ i lt free. each i (omega arith);
+  same = λ i lt. ap (ring_at count (replicate count 0)) (each i lt);
   rank = λ i. 0;
-  behind = λ i q lt own. elim (cases_lt i count) [
-    | inl low ↦ absurd (suc_zero q (sym own ∙ none i low))
-    | inr high ↦
-        let e : suc (i - count) ≡ suc q = sym (begins (i - count) (omega (arith, lt, high)))
-        ∙ (ap (at owners) (omega (arith, high)) ∙ own) in
-        (omega (arith, e, lt, high), inl (each i lt ∙ omega (arith, e, high)))
-  ];
+  falls = λ i lt less some. absurd (some (
+      let low : i < count = rw (each i lt) at less in
+      ring_number count (replicate count 0) i low ∙ get_or-replicate count i 0 0 low
+      ));
 } where
-  it : (i : ℕ) → i < count + count → at previous i ≡ i
-  it i lt = ap (λ (xs : List ℕ). at xs i) same ∙ each i lt
+  each : (i : ℕ) → i < count + count → at (range_with_len 0 (2 * count)) i ≡ i
+  each i lt = get_or-range_with_len 0 (2 * count) i 0 (omega (arith, lt)) ∙ omega arith
 
-  twice : (i : ℕ) → i < count + count → at previous (at next i) ≡ i
-  twice i lt = ap (at previous) (each i lt) ∙ it i lt
+  back : LeadsBack (count + count) (range_with_len 0 (2 * count)) (range_with_len 0 (2 * count))
+  back i lt = rw (each i lt) (lt, each i lt)
 
--- if the next number is added at the end, each number is still at its own index
-pub one_pushed : (old new : List ℕ) (n : ℕ) → new ≡ old ++ n ∷ [] → length old ≡ n
-    → ((k : ℕ) → k < n → at old k ≡ k)
-    → record { count : length new ≡ n + 1; each : (k : ℕ) → k < n + 1 → at new k ≡ k }
-one_pushed old new n is many each = record {
-  count = ap (λ (xs : List ℕ). length xs) is ∙ (length-append old (n ∷ []) ∙ ap (λ (k : ℕ). k + 1) many);
-  each = λ k lt. ap (λ (xs : List ℕ). at xs k) is ∙ elim (cases_lt k n) [
-    | inl less ↦ get_or_append_left old (n ∷ []) 0 k (omega (arith, less, many)) ∙ each k less
-    | inr more ↦
-        let e : k ≡ n = omega (arith, lt, more) in
-        ap (at (old ++ n ∷ [])) e ∙ (get_or_push old n 0 n many ∙ sym e)
-  ];
-}
+-- the value that was read at a node is the one there
+pub read_at : (xs : List ℕ) (i x : ℕ) → i < length xs → x ≡ get_or xs i x → x ≡ at xs i
+read_at xs i x below read = read ∙ get_or_default xs i x 0 below
 
--- in `n` zeros no number is in a ring
-pub none_owned : (n : ℕ) (owners : List ℕ) → owners ≡ replicate n 0
-    → record {
-      count : length owners ≡ n + 0;
-      none : (i : ℕ) → i < n → at owners i ≡ 0;
-      begins : (r : ℕ) → r < 0 → at owners (n + r) ≡ suc r;
-    }
-none_owned n owners zeros = record {
-  count = ap (λ (xs : List ℕ). length xs) zeros ∙ (length-replicate n 0 ∙ omega arith);
-  none = λ i lt. ap (λ (xs : List ℕ). at xs i) zeros ∙ get_or-replicate n i 0 0 lt;
-  begins = λ r lt. absurd (not_less r lt);
-} where
-  not_less : (r : ℕ) → r < 0 → ⊥
-  not_less r lt = omega arith
+-- if the ring of a number is set twice, the second ring counts
+pub entered : (old mid new : RingTable) (p n : ℕ) → mid ≡ record old { owners = set old.owners p 0 }
+    → new ≡ record mid { owners = set mid.owners p n } → new ≡ record old { owners = set old.owners p n }
+entered old mid new p n first second = second
+    ∙ subst (λ (m : RingTable). record m { owners = set m.owners p n } ≡ record old { owners = set old.owners p n })
+    (sym first) (ap (λ (xs : List ℕ). record old { owners = xs }) (set-set old.owners p 0 n))
 
--- one more ring begins at its own node
-pub one_begins : (n q : ℕ) (old new : List ℕ) → new ≡ old ++ (q + 1) ∷ [] → length old ≡ n + q
-    → ((i : ℕ) → i < n → at old i ≡ 0) → ((r : ℕ) → r < q → at old (n + r) ≡ suc r)
-    → record {
-      count : length new ≡ n + (q + 1);
-      none : (i : ℕ) → i < n → at new i ≡ 0;
-      begins : (r : ℕ) → r < q + 1 → at new (n + r) ≡ suc r;
-    }
-one_begins n q old new is many none begins = record {
-  count = ap (λ (xs : List ℕ). length xs) is ∙ omega (arith, length-append old ((q + 1) ∷ []), many);
-  none = λ i lt. ap (λ (xs : List ℕ). at xs i) is
-      ∙ (get_or_append_left old ((q + 1) ∷ []) 0 i (omega (arith, lt, many)) ∙ none i lt);
-  begins = λ r lt. ap (λ (xs : List ℕ). at xs (n + r)) is ∙ elim (cases_lt r q) [
-    | inl less ↦ get_or_append_left old ((q + 1) ∷ []) 0 (n + r) (omega (arith, less, many)) ∙ begins r less
-    | inr more ↦
-        let e : r ≡ q = omega (arith, lt, more) in
-        get_or_push old (q + 1) 0 (n + r) (omega (arith, e, many)) ∙ (add-one q ∙ ap suc (sym e))
-  ];
-}
-
--- ---- fewer numbers are in rings
-
--- a number that is in a ring counts as one
-counts_one : (n q : ℕ) → n ≡ suc q → cond {A = ℕ} (not (n == 0)) 1 0 ≡ 1
-counts_one n q e = let some : (n == 0) ≡ false = ne_eqb n 0 (λ z. omega (arith, e, z)) in rw some refl
-
--- if a number leaves its ring, fewer nodes are in rings
+-- if a number leaves its ring, fewer numbers are in rings
 pub fewer_in : (owners : List ℕ) (p q : ℕ) → at owners p ≡ suc q
     → count_by (λ n. not (n == 0)) (set owners p 0) < count_by (λ n. not (n == 0)) owners
 fewer_in owners p q its = elim (cases_lt p (length owners)) [
   | inl below ↦
       let both = sum_by-set (λ (n : ℕ). cond (not (n == 0)) 1 0) owners p 0 0 below in
-      let one : cond {A = ℕ} (not (at owners p == 0)) 1 0 ≡ 1 = counts_one (at owners p) q its in
+      let some : (at owners p == 0) ≡ false = ne_eqb (at owners p) 0 (λ z. omega (arith, its, z)) in
+      let one : cond {A = ℕ} (not (at owners p == 0)) 1 0 ≡ 1 = rw some refl in
       omega (arith, both, one)
-  | inr past ↦ absurd (suc_zero q (sym its ∙ get_or_past owners p 0 past))
+  | inr past ↦ absurd (omega (arith, its, get_or_past owners p 0 past))
 ]

@@ -1,348 +1,500 @@
--- The properties that each change of the store and of a chain keeps.
-use Rattle.std.proofs.Common.{◌≡◌, ◌≢◌, ℕ, suc, ◌+◌, ◌<◌, ◌≤◌, ◌-◌, ◌^◌, true, false, nat_eq, nat_lt}
-use Rattle.std.proofs.Common.{◌&&◌, List, [], ◌∷◌, ◌++◌, length, get_or, set, Option, Some, None, is_some}
-use Rattle.std.proofs.Common.{count_by, refl, sym, ap, subst, ◌∙◌, inl, inr, arith, add-zero}
-use Rattle.std.specs.List.{All}
+-- The store and the chains of all places, as contracts see them, when one chain changes.
+use Rattle.std.proofs.Common.{◌≡◌, ◌≢◌, ℕ, Bool, zero, suc, ◌+◌, ◌<◌, ◌≤◌, ◌-◌, ◌^◌, true, false, nat_lt}
+use Rattle.std.proofs.Common.{List, [], ◌∷◌, ◌++◌, length, map, get_or, set, Option, Some, None, is_some}
+use Rattle.std.proofs.Common.{count_by, refl, sym, ap, ◌∙◌, inl, inr, arith}
+use Rattle.std.specs.List.{All, sum_by}
+use Rattle.std.specs.Prelude.{if◌then◌else◌}
 use Rattle.std.proofs.lemmas.Bool.{cases_eq, cases_lt, cases_Bool}
 use Rattle.std.proofs.lemmas.Bool.Decides.{nat_tests}
-use Rattle.std.proofs.lemmas.List.{get_or-set_same, get_or-set_other, get_or_append_left, get_or_push, length-set}
-use Rattle.std.proofs.lemmas.List.{length-append}
-use Rattle.std.proofs.lemmas.List.Elements.{All-nil, All-push, All-tail}
+use Rattle.std.proofs.lemmas.List.{get_or-map, get_or-set_same, get_or-set_other, get_or_append_left, get_or_push}
+use Rattle.std.proofs.lemmas.List.{get_or_default, get_or_past, set_past, length-append, length-map, length-set}
+use Rattle.std.proofs.lemmas.List.{map-append, map-set}
+use Rattle.std.proofs.lemmas.List.Elements.{All-head, All-nil, All-push, All-tail}
 use Rattle.std.proofs.lemmas.List.Sums.{sum_by-set, sum_by_push, sum_by-append, sum_by-cons}
-use Rattle.slab.specs.Slab.{Slab, get, slab_len, Updates}
+use Rattle.slab.specs.Slab.{Slab, get, slab_len, ContainsKey}
 use Rattle.smx_types.specs.declared.message.Message.{Message}
 use Rattle.smx_model.specs.Queues.{bytes_of}
 use Rattle.smx_queues.specs.declared.node.Node.{Node}
 use Rattle.smx_queues.specs.declared.chain.Chain.{Chain}
-use Rattle.smx_queues.specs.QueueTable.{Queue, with_arrival}
-use Rattle.smx_queues.specs.Chains.{HasBytesThatFit, IsChain, IsQueue, IsStore, chain_with_last, chain_without_first}
-use Rattle.smx_queues.specs.Chains.{no_chain, no_queue, with_follower}
-use Rattle.smx_queues.proofs.ChainLemmas.{owned, owned-same, owned-other, frame, last_owner, chain_more}
-use Rattle.smx_queues.proofs.FollowLemmas.{node_from, follows_none, follower_updates, follower_kept, follower_counted}
+use Rattle.smx_queues.specs.QueueTable.{IsPlace, Queue, queue_at, with_arrival, without_front}
+use Rattle.smx_queues.specs.Chains.{HasBytesThatFit, HasMessages, IsChain, IsQueue, IsSound, IsStore, chain_at}
+use Rattle.smx_queues.specs.Chains.{chain_with_last, chain_without_first, no_chain, slot_of, walk, with_follower}
+use Rattle.smx_queues.specs.Slots.{message_total, messages_in}
+use Rattle.smx_queues.proofs.ChainLemmas.{chain_more, first_with_is, frame, keys_differ, last_owner, owned, owned-other}
+use Rattle.smx_queues.proofs.ChainLemmas.{owned-same, walk_chain}
+use Rattle.smx_queues.proofs.FollowLemmas.{followed, node_from}
 
 -- the number of bytes of a message
 abbrev pub size : Message → ℕ
 size m = length m.bytes
 
--- the queue with these messages left
-abbrev pub left_with : Queue → List Message → Queue
-left_with q rest = record q { messages = rest; full = q.full && nat_lt q.low (bytes_of rest) }
+-- the queue of a chain with these messages
+abbrev pub as_queue : Chain → List Message → Queue
+as_queue chain ms = record { messages = ms; full = chain.full; high = chain.high; low = chain.low }
+
+-- its slot
+abbrev pub as_slot : Chain → List Message → Option Queue
+as_slot chain ms = if chain.there then Some (as_queue chain ms) else None
+
+-- the slot of a place that exists has its queue
+slot_there : (chain : Chain) (ms : List Message) → chain.there ≡ true → as_slot chain ms ≡ Some (as_queue chain ms)
+slot_there chain ms there = rw there refl
+
+-- without its first node, a chain makes its queue without the front
+front_gone : (chain : Chain) (m : Message) (rest : List Message) (next : ℕ) → chain.bytes - size m ≡ bytes_of rest
+    → as_queue (chain_without_first chain next (size m)) rest ≡ without_front (as_queue chain (m ∷ rest))
+front_gone chain m rest next left = rw left refl
+
+-- with one more node after its last one, a chain makes its queue after the arrival
+one_arrived : (chain : Chain) (m : Message) (ms : List Message) (key : ℕ)
+    → chain.bytes + size m ≡ bytes_of (ms ++ m ∷ [])
+    → as_queue (chain_with_last chain key (size m)) (ms ++ m ∷ []) ≡ with_arrival (as_queue chain ms) m
+one_arrived chain m ms key more = rw more refl
+
+-- ---- the messages of one chain
+
+-- a chain without nodes has no messages
+pub has_none : (chain : Chain) → chain.count ≡ 0 → chain.bytes ≡ 0 → chain.high ≤ 4096 → chain.low < chain.high
+    → HasMessages chain []
+has_none chain count bytes high low = record {
+  count = count;
+  bytes = bytes;
+  have_bytes = All-nil HasBytesThatFit;
+  open_below_high = λ _. omega (arith, low, bytes);
+  high_bounded = high;
+  low_below = low;
+  none_if_gone = λ _. refl;
+}
+
+-- without its first node, a chain has the later messages
+has_fewer : (chain : Chain) (m : Message) (rest : List Message) (next : ℕ) → HasMessages chain (m ∷ rest)
+    → HasMessages (chain_without_first chain next (size m)) rest
+has_fewer chain m rest next h =
+    let left : chain.bytes - size m ≡ bytes_of rest = omega (arith, h.bytes, sum_by-cons size m rest) in
+    record {
+      count = omega (arith, h.count);
+      bytes = left;
+      have_bytes = All-tail HasBytesThatFit m rest h.have_bytes;
+      open_below_high = λ e. elim (cases_Bool chain.full) [
+        | inl marked ↦ let n : nat_lt chain.low (chain.bytes - size m) ≡ false = rw marked at e in
+            grind (arith, nat_tests, h.low_below, n)
+        | inr clear ↦ omega (arith, h.open_below_high clear)
+      ];
+      high_bounded = h.high_bounded;
+      low_below = h.low_below;
+      none_if_gone = λ gone. absurd (let e = h.none_if_gone gone in cc);
+    }
+
+-- with one more node after its last one, a chain has its message too
+has_more : (chain : Chain) (ms : List Message) (key : ℕ) (m : Message) → HasMessages chain ms → chain.there ≡ true
+    → 0 < size m → size m < 2 ^ 63 → HasMessages (chain_with_last chain key (size m)) (ms ++ m ∷ [])
+has_more chain ms key m h there some few = record {
+  count = omega (arith, h.count, length-append ms (m ∷ []));
+  bytes = omega (arith, h.bytes, sum_by-append size ms (m ∷ []), sum_by-cons size m []);
+  have_bytes = All-push HasBytesThatFit ms m h.have_bytes (some, few);
+  open_below_high = λ e. grind (arith, nat_tests);
+  high_bounded = h.high_bounded;
+  low_below = h.low_below;
+  none_if_gone = λ gone. absurd (let e = sym there ∙ gone in cc);
+}
+
+-- there are at most as many messages as bytes
+few_messages : (ms : List Message) → All HasBytesThatFit ms → length ms ≤ bytes_of ms
+few_messages [] h = omega arith
+few_messages (m ∷ ms) h =
+    let have = All-head HasBytesThatFit m ms h in
+    omega (arith, have.0, few_messages ms (All-tail HasBytesThatFit m ms h), sum_by-cons size m ms)
+
+-- the chain of a place that is not full has fewer than 4,096 nodes
+pub open_count : (chain : Chain) (ms : List Message) → HasMessages chain ms → chain.full ≡ false → chain.count < 4096
+open_count chain ms h clear =
+    omega (arith, h.count, few_messages ms h.have_bytes, h.open_below_high clear, h.high_bounded, h.bytes)
+
+-- ---- one chain
+
+-- a walk along a chain meets its messages
+pub walked : (own : ℕ → ℕ × ℕ) (s : Slab Node) (p : ℕ) (chain : Chain) (l : IsQueue own s p chain)
+    → walk s chain.count chain.first ≡ l.messages
+walked own s p chain l =
+    ap (λ (n : ℕ). walk s n chain.first) l.has.count
+    ∙ walk_chain own s p l.rank chain.first l.messages chain.last l.nodes
 
 -- a change that affects no node of a place keeps its queue
-pub queue_kept : (own own' : ℕ → ℕ × ℕ) (s s' : Slab Node) (p : ℕ) (chain : Chain) (q : Queue)
-    → ((x : ℕ) (node : Node) → get s x ≡ Some node → (own x).0 ≡ p → (get s' x ≡ get s x) × (own' x ≡ own x))
-    → IsQueue own s p chain q → IsQueue own' s' p chain q
-queue_kept own own' s s' p chain q kept l =
-    record {
-      rank = l.rank;
-      nodes = frame own own' s s' p l.rank _ _ _ (λ x node found of _. kept x node found of) l.nodes;
-      count = l.count;
-      bytes = l.bytes;
-      full = l.full;
-      high = l.high;
-      low = l.low;
-      have_bytes = l.have_bytes;
-      open_below_high = l.open_below_high;
-      high_bounded = l.high_bounded;
-      low_below = l.low_below;
-      none_if_gone = l.none_if_gone;
-    }
+abbrev queue_kept : (own own' : ℕ → ℕ × ℕ) (s s' : Slab Node) (p : ℕ) (chain : Chain)
+    → ((x r : ℕ) (node : Node) → get s x ≡ Some node → own x ≡ (p, r) → (get s' x ≡ get s x) × (own' x ≡ own x))
+    → IsQueue own s p chain → IsQueue own' s' p chain
+queue_kept own own' s s' p chain kept l = record {
+  messages = l.messages;
+  rank = l.rank;
+  nodes = frame own own' s s' p l.rank chain.first l.messages chain.last (λ x r node found of _. kept x r node found of)
+      l.nodes;
+  has = l.has;
+}
 
--- after inserting a node that is in no chain yet, each chain still makes its queue, and one node is in no chain
-pub store_insert : (own : ℕ → ℕ × ℕ) (s s' : Slab Node) (chains : List Chain) (queues : List Queue) (key : ℕ)
-    (node : Node) → IsStore own s chains queues 0 → get s key ≡ None → Updates s s' key (Some node)
-    → slab_len s' ≡ slab_len s + 1 → IsStore (owned own key (length chains, 0)) s' chains queues 1
-store_insert own s s' chains queues key node st vacant new len =
-    record {
-      as_many = st.as_many;
-      each = λ p h. queue_kept own _ s s' p _ _ (λ x there found of.
-          let other : x ≢ key = λ e. let v = ap (get s) e in absurd (cc) in
-          (new.others x other, owned-other own key _ x other)) (st.each p h);
-      counted = omega (arith, st.counted);
-    }
-
--- after removing the one node that is in no chain, each chain still makes its queue, and each node is in a chain
-pub store_remove : (own : ℕ → ℕ × ℕ) (s s' : Slab Node) (chains : List Chain) (queues : List Queue) (key : ℕ)
-    → IsStore own s chains queues 1 → (own key).0 ≡ length chains → Updates s s' key None → slab_len s' + 1 ≡ slab_len s
-    → IsStore own s' chains queues 0
-store_remove own s s' chains queues key st apart new len =
-    record {
-      as_many = st.as_many;
-      each = λ p h. queue_kept own _ s s' p _ _ (λ x there found of.
-          let other : x ≢ key = λ e. let v = ap (λ y. (own y).0) e in absurd (omega (arith, v)) in
-          (new.others x other, refl)) (st.each p h);
-      counted = omega (arith, st.counted);
-    }
-
--- if a chain makes its queue, and so does each other chain, all chains do after this one and its queue are set
-each_set : (own : ℕ → ℕ × ℕ) (s : Slab Node) (chains : List Chain) (queues : List Queue) (p : ℕ) (chain : Chain)
-    (q : Queue) → p < length chains → length queues ≡ length chains → IsQueue own s p chain q
-    → ((i : ℕ) → i < length chains → i ≢ p → IsQueue own s i (get_or chains i no_chain) (get_or queues i no_queue))
-    → (i : ℕ) → i < length (set chains p chain)
-    → IsQueue own s i (get_or (set chains p chain) i no_chain) (get_or (set queues p q) i no_queue)
-each_set own s chains queues p chain q within many new others i below =
-    elim (cases_eq i p) [
-      | inl same ↦ rw (
-        same,
-        get_or-set_same chains p chain no_chain within,
-        get_or-set_same queues p q no_queue (omega (arith, many)),
-      ) new
-      | inr differs ↦ rw (
-        get_or-set_other chains p i chain no_chain differs,
-        get_or-set_other queues p i q no_queue differs,
-      ) (others i (omega (arith, length-set chains p chain)) differs)
-    ]
-
--- after the first node leaves its chain, but stays in the store, the chain makes its queue without the first message
-pub detached_queue : (own own' : ℕ → ℕ × ℕ) (s : Slab Node) (p : ℕ) (chain : Chain) (q : Queue) (m : Message)
-    (rest : List Message) → q.messages ≡ m ∷ rest → IsQueue own s p chain q
-    → ((x : ℕ) → x ≢ chain.first → own' x ≡ own x)
-    → (next : ℕ) × (get s chain.first ≡ Some (record { message = m; next = next })) × ((own chain.first).0 ≡ p)
-    × IsQueue own' s p (chain_without_first chain next (size m)) (left_with q rest)
-detached_queue own own' s p chain q m rest are l kept =
-    by rest are (rw are at l.nodes) (rw are at l.have_bytes)
+-- the last node of a chain with nodes is in the store, and belongs to the place
+pub last_there : (own : ℕ → ℕ × ℕ) (s : Slab Node) (p : ℕ) (chain : Chain) (l : IsQueue own s p chain)
+    → 0 < chain.count → (node : Node) × ((get s chain.last ≡ Some node) × ((r : ℕ) × (own chain.last ≡ (p, r))))
+last_there own s p chain l some = by l.messages l.nodes l.has.count
   where
-    bytes_less : (rest : List Message) → q.messages ≡ m ∷ rest → chain.bytes - size m ≡ bytes_of rest
-    bytes_less rest are = omega (arith, l.bytes, ap bytes_of are, sum_by-cons size m rest)
+    by : (ms : List Message) → IsChain own s p l.rank chain.first ms chain.last → chain.count ≡ length ms
+        → (node : Node) × ((get s chain.last ≡ Some node) × ((r : ℕ) × (own chain.last ≡ (p, r))))
+    by [] c count = absurd (omega (arith, count))
+    by (m ∷ rest) c count =
+        let t = last_owner own s p l.rank chain.first m rest chain.last c in (t.1.0, (t.1.1, (_, t.0)))
 
-    queue_with : (rest : List Message) (next : ℕ) → q.messages ≡ m ∷ rest → (rank : ℕ)
-        → IsChain own' s p rank next rest chain.last → All HasBytesThatFit rest
-        → IsQueue own' s p (chain_without_first chain next (size m)) (left_with q rest)
-    queue_with rest next are rank nodes have =
-        record {
-          rank = rank;
-          nodes = nodes;
-          count = omega (arith, l.count, ap (λ (ms : List Message). length ms) are);
-          bytes = bytes_less rest are;
-          full = cc (l.full, l.low, bytes_less rest are);
-          high = l.high;
-          low = l.low;
-          have_bytes = have;
-          open_below_high = opened rest are;
-          high_bounded = l.high_bounded;
-          low_below = l.low_below;
-          none_if_gone = λ gone. absurd (let e = sym are ∙ l.none_if_gone gone in cc);
+-- a chain with nodes has a first node
+pub first_there : (own : ℕ → ℕ × ℕ) (s : Slab Node) (p : ℕ) (chain : Chain) (l : IsQueue own s p chain)
+    → 0 < chain.count → ContainsKey s chain.first
+first_there own s p chain l some = by l.messages l.nodes l.has.count
+  where
+    by : (ms : List Message) → IsChain own s p l.rank chain.first ms chain.last → chain.count ≡ length ms
+        → ContainsKey s chain.first
+    by [] c count = absurd (omega (arith, count))
+    by (m ∷ rest) c count = rw c.1 refl
+
+-- the first node has the first message of the queue, and the chain goes on from the next node
+pub record IsFirst (own : ℕ → ℕ × ℕ) (s : Slab Node) (p : ℕ) (chain : Chain) (l : IsQueue own s p chain)
+    (node : Node) : Type 0 where
+  pub rest : List Message
+  pub was : l.messages ≡ node.message ∷ rest
+  pub owner : own chain.first ≡ (p, l.rank)
+  pub nodes : IsChain own s p (suc l.rank) node.next rest chain.last
+  pub within : size node.message ≤ chain.bytes
+  pub some : 0 < size node.message
+  pub few : size node.message < 2 ^ 63
+
+-- if a chain has nodes, this is so
+pub first_of : (own : ℕ → ℕ × ℕ) (s : Slab Node) (p : ℕ) (chain : Chain) (l : IsQueue own s p chain) (node : Node)
+    → 0 < chain.count → get s chain.first ≡ Some node → IsFirst own s p chain l node
+first_of own s p chain l node some found = by l.messages refl l.nodes l.has
+  where
+    by : (ms : List Message) → l.messages ≡ ms → IsChain own s p l.rank chain.first ms chain.last
+        → HasMessages chain ms → IsFirst own s p chain l node
+    by [] are c h = absurd (omega (arith, h.count))
+    by (m ∷ rest) are c h =
+        let same : node ≡ node_from m c.0 = cc (found, c.1) in
+        let have = All-head HasBytesThatFit m rest h.have_bytes in
+        rw same (record {
+          rest = rest;
+          was = are;
+          owner = c.2;
+          nodes = c.4;
+          within = omega (arith, h.bytes, sum_by-cons size m rest);
+          some = have.0;
+          few = have.1;
+        })
+
+-- ---- all chains
+
+-- if all slots but one are those of another store, all are after this one is set
+same_but : (s s' : Slab Node) (chains : List Chain) (p : ℕ) (now : Option Queue)
+    → ((i : ℕ) → i < length chains → i ≢ p → slot_of s' (chain_at chains i) ≡ slot_of s (chain_at chains i))
+    → set (map (slot_of s') chains) p now ≡ set (map (slot_of s) chains) p now
+same_but s s' [] p now each = refl
+same_but s s' (c ∷ chains) zero now each = ap (λ (os : List (Option Queue)). now ∷ os)
+    (sym (set_past _ (length chains) now (omega (arith, length-map chains (slot_of s'))))
+    ∙ same_but s s' chains (length chains) now (λ i lt _. each (suc i) (omega (arith, lt)) (λ e. omega (arith, e)))
+    ∙ set_past _ (length chains) now (omega (arith, length-map chains (slot_of s))))
+same_but s s' (c ∷ chains) (suc p) now each = rw (each 0 (omega arith) (λ e. omega (arith, e)))
+    (ap (λ (os : List (Option Queue)). slot_of s c ∷ os)
+    (same_but s s' chains p now (λ i lt ne. each (suc i) (omega (arith, lt)) (λ e. ne (omega (arith, e))))))
+
+-- the store has this number of nodes that are in no chain, and contracts see its chains as these slots
+pub record IsNow (own : ℕ → ℕ × ℕ) (s : Slab Node) (chains : List Chain) (loose : ℕ)
+    (view : List (Option Queue)) : Type 0 where
+  pub store : IsStore own s chains loose
+  pub is : map (slot_of s) chains ≡ view
+
+-- if the chain of place p is replaced, and no node of another place changes, contracts see its messages there
+pub changed : (own own' : ℕ → ℕ × ℕ) (s s' : Slab Node) (chains : List Chain) (loose loose' p : ℕ) (after : Chain)
+    → IsStore own s chains loose → p < length chains
+    → ((x i r : ℕ) (node : Node) → get s x ≡ Some node → own x ≡ (i, r) → i < length chains → i ≢ p
+    → (get s' x ≡ get s x) × (own' x ≡ own x))
+    → (l : IsQueue own' s' p after)
+    → slab_len s' + (chain_at chains p).count + loose ≡ slab_len s + after.count + loose'
+    → IsNow own' s' (set chains p after) loose' (set (map (slot_of s) chains) p (as_slot after l.messages))
+changed own own' s s' chains loose loose' p after st below kept l len = record {
+  store = record {
+    each = λ i lt. elim (cases_eq i p) [
+      | inl e ↦ rw (e, get_or-set_same chains p after no_chain below) l
+      | inr ne ↦ rw (get_or-set_other chains p i after no_chain ne)
+          (other i (omega (arith, length-set chains p after)) ne)
+    ];
+    counted = omega (arith, st.counted, len, sum_by-set (λ (chain : Chain). chain.count) chains p after no_chain below);
+  };
+  is = map-set (slot_of s') chains p after
+      ∙ (ap (λ (o : Option Queue). set (map (slot_of s') chains) p o) (ap (as_slot after) (walked own' s' p after l))
+      ∙ same_but s s' chains p (as_slot after l.messages) (λ i lt ne. ap (as_slot (chain_at chains i))
+      (walked own' s' i (chain_at chains i) (other i lt ne)
+      ∙ sym (walked own s i (chain_at chains i) (st.each i lt)))));
+} where
+  other : (i : ℕ) → i < length chains → i ≢ p → IsQueue own' s' i (chain_at chains i)
+  other i lt ne = queue_kept own own' s s' i (chain_at chains i)
+      (λ x r node found of. kept x i r node found of lt ne) (st.each i lt)
+
+-- the chains are sound, and contracts see them as these slots
+pub record IsSeen (s : Slab Node) (chains : List Chain) (view : List (Option Queue)) : Type 0 where
+  pub sound : IsSound s chains
+  pub is : map (slot_of s) chains ≡ view
+
+-- this is so where no node is in no chain
+pub seen_now : {own : ℕ → ℕ × ℕ} {s : Slab Node} {chains : List Chain} {view : List (Option Queue)}
+    → IsNow own s chains 0 view → IsSeen s chains view
+seen_now {own} n = record { sound = record { own = own; store = n.store }; is = n.is }
+
+-- two reads at a place's number give the same chain
+pub read_twice : (chains : List Chain) (p : ℕ) (x y : Chain) → p < length chains → x ≡ get_or chains p x
+    → y ≡ get_or chains p y → y ≡ x
+read_twice chains p x y below first second = second ∙ (get_or_default chains p y x below ∙ sym first)
+
+-- the chain that was read at a place's number exists there, and makes the queue that contracts see
+pub record IsAt (own : ℕ → ℕ × ℕ) (s : Slab Node) (chains : List Chain) (p : ℕ) (chain : Chain) : Type 0 where
+  pub below : p < length chains
+  pub there : chain.there ≡ true
+  pub read : chain ≡ chain_at chains p
+  pub queue : IsQueue own s p chain
+  pub seen : queue_at (map (slot_of s) chains) p ≡ as_queue chain queue.messages
+
+-- this is so at the number of each place that contracts see
+pub place_at : (own : ℕ → ℕ × ℕ) (s : Slab Node) (chains : List Chain) (loose : ℕ) (st : IsStore own s chains loose)
+    (p : ℕ) → IsPlace (map (slot_of s) chains) p → (chain : Chain) → chain ≡ get_or chains p chain
+    → IsAt own s chains p chain
+place_at own s chains loose st p there chain read = elim (cases_lt p (length chains)) [
+  | inl below ↦
+      let e : chain ≡ chain_at chains p = read ∙ get_or_default chains p chain no_chain below in
+      let l : IsQueue own s p chain = rw e (st.each p below) in
+      let slot : get_or (map (slot_of s) chains) p None ≡ slot_of s chain =
+      get_or-map (slot_of s) chains p no_chain None below ∙ ap (slot_of s) (sym e) in
+      elim (cases_Bool chain.there) [
+        | inl t ↦ record {
+          below = below;
+          there = t;
+          read = e;
+          queue = l;
+          seen = rw (slot, t) (ap (as_queue chain) (walked own s p chain l));
         }
-      where
-        opened : (rest : List Message) → q.messages ≡ m ∷ rest → (q.full && nat_lt q.low (bytes_of rest)) ≡ false
-            → bytes_of rest < q.high
-        opened rest are e = elim (cases_Bool q.full) [
-          | inl marked ↦ let n : nat_lt q.low (bytes_of rest) ≡ false = rw marked at e in
-              grind (arith, nat_tests, l.low_below, n)
-          | inr unmarked ↦ omega (arith, l.open_below_high unmarked, ap bytes_of are, sum_by-cons size m rest)
-        ]
+        | inr f ↦ absurd (let some = rw (slot, f) at there in cc)
+      ]
+  | inr past ↦ absurd (let some = rw (get_or_past (map (slot_of s) chains) p None
+      (omega (arith, past, length-map chains (slot_of s)))) at there in cc)
+]
 
-    by : (rest : List Message) → q.messages ≡ m ∷ rest → IsChain own s p l.rank chain.first (m ∷ rest) chain.last
-        → All HasBytesThatFit (m ∷ rest) → (next : ℕ) × (get s chain.first ≡ Some (record { message = m; next = next }))
-        × ((own chain.first).0 ≡ p) × IsQueue own' s p (chain_without_first chain next (size m)) (left_with q rest)
-    by [] are c have = (c.0, c.1, c.2, queue_with [] c.0 are 0 tt (All-nil HasBytesThatFit))
-    by (m2 ∷ rest) are c have = (
-      c.0,
-      c.1,
-      c.2,
-      queue_with (m2 ∷ rest) c.0 are (suc l.rank)
-          (frame own own' s s p (suc l.rank) c.0 (m2 ∷ rest) _
-          (λ x node found of above.
-          (refl, kept x (λ e. let r = ap (λ y. (own y).1) e in absurd (omega (arith, r, c.3, above))))) c.4)
-          (All-tail HasBytesThatFit m (m2 ∷ rest) have),
-    )
+-- ---- a message leaves
 
--- after the first node leaves its chain, but stays in the store, one more node is in no chain
-pub store_detach : (own : ℕ → ℕ × ℕ) (s : Slab Node) (chains : List Chain) (queues : List Queue) (loose p : ℕ)
-    (m : Message) (rest : List Message) → IsStore own s chains queues loose → p < length chains
-    → (get_or queues p no_queue).messages ≡ m ∷ rest
-    → (next : ℕ) × (get s (get_or chains p no_chain).first ≡ Some (record { message = m; next = next }))
-    × IsStore (owned own (get_or chains p no_chain).first (length chains, 0)) s
-    (set chains p (chain_without_first (get_or chains p no_chain) next (size m)))
-    (set queues p (left_with (get_or queues p no_queue) rest)) (loose + 1)
-store_detach own s chains queues loose p m rest st within are =
-    let key = (get_or chains p no_chain).first in
-    let l = st.each p within in
-    let d = detached_queue own (owned own key (length chains, 0)) s p _ _ m rest are l
-    (λ x other. owned-other own key _ x other) in (
-      d.0,
-      d.1,
-      record {
-        as_many = length-set queues p _ ∙ st.as_many ∙ sym (length-set chains p _);
-        each = each_set _ s chains queues p _ _ within st.as_many d.3
-            (λ i below differs. queue_kept own _ s s i _ _ (λ x there found of.
-            let other : x ≢ key = λ e. let v = ap (λ y. (own y).0) e in absurd (differs (omega (arith, v, d.2, of))) in
-            (refl, owned-other own key _ x other)) (st.each i below));
-        counted = omega (
-          arith,
-          st.counted,
-          l.count,
-          ap (λ (ms : List Message). length ms) are,
-          sum_by-set (λ (chain : Chain). chain.count) chains p
-              (chain_without_first (get_or chains p no_chain) d.0 (size m)) no_chain within,
-        );
-      },
-    )
+-- if the first node leaves the chain of a place, whether it stays in the store or not, contracts see that its message
+-- has left
+pub detached : (own : ℕ → ℕ × ℕ) (s s' : Slab Node) (chains : List Chain) (loose p : ℕ) (chain : Chain) (node : Node)
+    → IsStore own s chains 0 → (a : IsAt own s chains p chain) → 0 < chain.count → get s chain.first ≡ Some node
+    → ((x : ℕ) → x ≢ chain.first → get s' x ≡ get s x) → slab_len s' + 1 ≡ slab_len s + loose
+    → IsNow (owned own chain.first (length chains, 0)) s'
+    (set chains p (chain_without_first chain node.next (size node.message))) loose
+    (set (map (slot_of s) chains) p (Some (without_front (queue_at (map (slot_of s) chains) p))))
+detached own s s' chains loose p chain node st a some found others len =
+    let f = first_of own s p chain a.queue node some found in
+    let has : HasMessages chain (node.message ∷ f.rest) = rw f.was at a.queue.has in
+    let after : Chain = chain_without_first chain node.next (size node.message) in
+    let now = changed own (owned own chain.first (length chains, 0)) s s' chains 0 loose p after st a.below
+    (λ x i r n at of lt ne.
+    let other = keys_differ own x chain.first i p r a.queue.rank of f.owner (λ e _. ne e) in
+    (others x other, owned-other own chain.first (length chains, 0) x other))
+    (record {
+      messages = f.rest;
+      rank = suc a.queue.rank;
+      nodes = frame own (owned own chain.first (length chains, 0)) s s' p (suc a.queue.rank) node.next f.rest chain.last
+          (λ x r n at of above.
+          let other = keys_differ own x chain.first p p r a.queue.rank of f.owner (λ _ e. omega (arith, e, above)) in
+          (others x other, owned-other own chain.first (length chains, 0) x other)) f.nodes;
+      has = has_fewer chain node.message f.rest node.next has;
+    })
+    (omega (arith, len, some, ap (λ (c : Chain). c.count) a.read)) in
+    let left : chain.bytes - size node.message ≡ bytes_of f.rest =
+    omega (arith, has.bytes, sum_by-cons size node.message f.rest) in
+    let slot : as_slot after f.rest ≡ Some (without_front (queue_at (map (slot_of s) chains) p)) =
+    slot_there after f.rest a.there ∙ ap (λ (q : Queue). Some q) (front_gone chain node.message f.rest node.next left
+    ∙ sym (ap without_front a.seen ∙ ap (λ (ms : List Message). without_front (as_queue chain ms)) f.was)) in
+    record { store = now.store; is = now.is ∙ ap (set (map (slot_of s) chains) p) slot }
 
--- one more message at the end adds its bytes
-bytes_more : (ms : List Message) (m : Message) → bytes_of (ms ++ m ∷ []) ≡ bytes_of ms + size m
-bytes_more ms m = omega (arith, sum_by-append size ms (m ∷ []), sum_by-cons size m [])
+-- ---- a message arrives
 
--- with one more node after its last one, a chain has one more message
-attached_chain : (own : ℕ → ℕ × ℕ) (s : Slab Node) (p rank : ℕ) (chain : Chain) (ms : List Message) (key : ℕ)
-    (node : Node) → IsChain own s p rank chain.first ms chain.last → chain.count ≡ length ms → get s key ≡ Some node
-    → (own key).0 ≢ p → IsChain (owned own key (p, rank + length ms)) (with_follower s chain key) p rank
-    (chain_with_last chain key (size node.message)).first (ms ++ node.message ∷ []) key
-attached_chain own s p rank chain [] key node c count found apart =
-    let o = owned-same own key (p, rank + 0) in
-    let first : (chain_with_last chain key (size node.message)).first ≡ key = rw count refl in
-    let there : get (with_follower s chain key) key ≡ Some node = ap (λ t. get t key) (follows_none s chain key count)
-    ∙ found in
-    subst (λ h. IsChain (owned own key (p, rank + 0)) (with_follower s chain key) p rank h (node.message ∷ []) key)
-    (sym first)
-    (node.next, there, ap (λ o. o.0) o, ap (λ o. o.1) o ∙ add-zero rank, refl)
-attached_chain own s p rank chain (m ∷ rest) key node c count found apart =
-    let o = owned-same own key (p, rank + suc (length rest)) in
-    let t = last_owner own s p rank _ m rest _ c in
-    let test : nat_eq chain.count 0 ≡ false = grind (arith, nat_tests) in
-    let same : (chain_with_last chain key (size node.message)).first ≡ chain.first = rw test refl in
-    let u = follower_updates s chain key t.2.0 (omega (arith, count)) t.2.1 in
-    let changed = λ (was : Node) (is : get s chain.last ≡ Some was). let e : was ≡ t.2.0 = cc (t.2.1) in
-    u.changed ∙ ap (λ (n : Node). Some (node_from n.message key)) (sym e) in
-    subst (λ h. IsChain (owned own key (p, rank + suc (length rest))) (with_follower s chain key) p rank h
-    (m ∷ rest ++ node.message ∷ []) key) (sym same)
-    (chain_more own _ s (with_follower s chain key) p rank chain.first m rest chain.last key node c apart found
-    (λ x other. owned-other own key _ x other) (ap (λ o. o.0) o) (ap (λ o. o.1) o) u.others changed)
-
--- with one more node after its last one, a chain makes its queue after the arrival of this message
-attached_queue : (own : ℕ → ℕ × ℕ) (s : Slab Node) (p : ℕ) (chain : Chain) (q : Queue) (key : ℕ) (node : Node)
-    (l : IsQueue own s p chain q) → chain.there ≡ true → get s key ≡ Some node → (own key).0 ≢ p → 0 < size node.message
-    → size node.message < 2 ^ 63 → IsQueue (owned own key (p, l.rank + length q.messages)) (with_follower s chain key) p
-    (chain_with_last chain key (size node.message)) (with_arrival q node.message)
-attached_queue own s p chain q key node l there found apart some few =
-    let b : chain.bytes + size node.message ≡ bytes_of (q.messages ++ node.message ∷ []) = omega
-    (arith, l.bytes, bytes_more q.messages node.message) in
-    record {
+-- if a node that is in no chain is added at the end of the chain of a place, contracts see that its message has arrived
+pub attached : (own : ℕ → ℕ × ℕ) (s s1 : Slab Node) (chains : List Chain) (loose p : ℕ) (chain : Chain) (key : ℕ)
+    (node : Node) → IsStore own s chains loose → (a : IsAt own s chains p chain)
+    → ((x i r : ℕ) (n : Node) → get s x ≡ Some n → own x ≡ (i, r) → i < length chains → x ≢ key)
+    → ((x : ℕ) → x ≢ key → get s1 x ≡ get s x) → get s1 key ≡ Some node → slab_len s1 + loose ≡ slab_len s + 1
+    → 0 < size node.message → size node.message < 2 ^ 63
+    → IsNow (owned own key (p, a.queue.rank + length a.queue.messages)) (with_follower s1 chain key)
+    (set chains p (chain_with_last chain key (size node.message))) 0
+    (set (map (slot_of s) chains) p (Some (with_arrival (queue_at (map (slot_of s) chains) p) node.message)))
+attached own s s1 chains loose p chain key node st a apart others found len some few =
+    let l : IsQueue own s p chain = a.queue in
+    let f = followed s1 chain key in
+    let after : Chain = chain_with_last chain key (size node.message) in
+    let now = changed own own' s s' chains loose 0 p after st a.below
+    (λ x i r n at of lt ne.
+    let away = apart x i r n at of lt in (
+      f.others x (λ left.
+          keys_differ own x chain.last i p r _ of (last_there own s p chain l left).1.1.1 (λ e _. ne e))
+          ∙ others x away,
+      owned-other own key mark x away,
+    ))
+    (record {
+      messages = l.messages ++ node.message ∷ [];
       rank = l.rank;
-      nodes = attached_chain own s p l.rank chain q.messages key node l.nodes l.count found apart;
-      count = omega (arith, l.count, length-append q.messages (node.message ∷ []));
-      bytes = b;
-      full = cc (l.full, l.high, b);
-      high = l.high;
-      low = l.low;
-      have_bytes = All-push HasBytesThatFit q.messages node.message l.have_bytes (some, few);
-      open_below_high = λ e. grind (arith, nat_tests);
-      high_bounded = l.high_bounded;
-      low_below = l.low_below;
-      none_if_gone = λ gone. absurd (let e = sym there ∙ gone in cc);
-    }
+      nodes = rw (first_with_is chain.count chain.first key l.messages l.has.count) at (
+          chain_more own own' s s' p l.rank chain.first l.messages chain.last key node l.nodes
+          (λ x r n at of. owned-other own key mark x (apart x p r n at of a.below))
+          (f.others key (λ left e.
+          let t = last_there own s p chain l left in apart chain.last p _ _ t.1.0 t.1.1.1 a.below (sym e)) ∙ found)
+          (owned-same own key mark)
+          (λ x r n at of differ. f.others x (λ _. differ) ∙ others x (apart x p r n at of a.below))
+          (λ left was at.
+          let some : 0 < chain.count = omega (arith, left, l.has.count) in
+          let t = last_there own s p chain l some in
+          f.changed was some (others chain.last (apart chain.last p _ _ t.1.0 t.1.1.1 a.below) ∙ at)));
+      has = has_more chain l.messages key node.message l.has a.there some few;
+    })
+    (omega (arith, len, f.len, ap (λ (c : Chain). c.count) a.read)) in
+    let more : chain.bytes + size node.message ≡ bytes_of (l.messages ++ node.message ∷ []) =
+    omega (arith, l.has.bytes, sum_by-append size l.messages (node.message ∷ []), sum_by-cons size node.message []) in
+    let slot : as_slot after (l.messages ++ node.message ∷ [])
+    ≡ Some (with_arrival (queue_at (map (slot_of s) chains) p) node.message) =
+    slot_there after (l.messages ++ node.message ∷ []) a.there
+    ∙ ap (λ (q : Queue). Some q) (one_arrived chain node.message l.messages key more
+    ∙ sym (ap (λ (q : Queue). with_arrival q node.message) a.seen)) in
+    record { store = now.store; is = now.is ∙ ap (set (map (slot_of s) chains) p) slot }
+  where
+    mark : ℕ × ℕ
+    mark = (p, a.queue.rank + length a.queue.messages)
 
--- after a node of no chain is added at the end of a chain, this chain makes its queue after the arrival of the message
-pub store_attach : (own : ℕ → ℕ × ℕ) (s : Slab Node) (chains : List Chain) (queues : List Queue) (loose p key : ℕ)
-    (node : Node) → IsStore own s chains queues (loose + 1) → p < length chains
-    → (get_or chains p no_chain).there ≡ true → get s key ≡ Some node → (own key).0 ≡ length chains
-    → 0 < size node.message → size node.message < 2 ^ 63 → (own' : ℕ → ℕ × ℕ)
-    × IsStore own' (with_follower s (get_or chains p no_chain) key)
-    (set chains p (chain_with_last (get_or chains p no_chain) key (size node.message)))
-    (set queues p (with_arrival (get_or queues p no_queue) node.message)) loose
-store_attach own s chains queues loose p key node st within there found apart some few =
-    let l = st.each p within in
-    let away : (own key).0 ≢ p = λ e. absurd (omega (arith, e)) in (
-      _,
-      record {
-        as_many = length-set queues p _ ∙ st.as_many ∙ sym (length-set chains p _);
-        each = each_set _ _ chains queues p _ _ within st.as_many
-            (attached_queue own s p _ _ key node l there found away some few)
-            (λ i below differs. queue_kept own _ s _ i _ _ (λ x there found of.
-            let other : x ≢ key = λ e. let v = ap (λ y. (own y).0) e in absurd (omega (arith, v, apart, of)) in
-            let elsewhere : (own x).0 ≢ p = λ e. differs (sym of ∙ e) in
-            (follower_kept own s p _ _ key l x elsewhere, owned-other own key _ x other)) (st.each i below));
-        counted = omega (
-          arith,
-          st.counted,
-          follower_counted own s p _ _ key l,
-          sum_by-set (λ (chain : Chain). chain.count) chains p
-              (chain_with_last (get_or chains p no_chain) key (size node.message)) no_chain within,
-        );
-      },
-    )
+    own' : ℕ → ℕ × ℕ
+    own' = owned own key mark
 
--- the queue of a chain without nodes
-abbrev pub bare_queue : Chain → Queue
-bare_queue chain = record { messages = []; full = chain.full; high = chain.high; low = chain.low }
+    s' : Slab Node
+    s' = with_follower s1 chain key
 
--- the chain has no nodes
-pub record IsBare (chain : Chain) : Type 0 where
-  pub count : chain.count ≡ 0
-  pub bytes : chain.bytes ≡ 0
-  pub high_bounded : chain.high ≤ 4096
-  pub low_below : chain.low < chain.high
+-- if the first node of one place is added at the end of another one's chain, contracts see that its message moved
+pub moved : (s : Slab Node) (chains : List Chain) (sound : IsSound s chains) (from to : ℕ) (source target : Chain)
+    (node : Node) → IsAt sound.own s chains from source → IsPlace (map (slot_of s) chains) to
+    → target ≡ get_or chains to target → from ≢ to → 0 < source.count → get s source.first ≡ Some node
+    → IsSeen (with_follower s target source.first)
+    (set (set chains from (chain_without_first source node.next (size node.message))) to
+    (chain_with_last target source.first (size node.message)))
+    (set (set (map (slot_of s) chains) from (Some (without_front (queue_at (map (slot_of s) chains) from)))) to
+    (Some (with_arrival (queue_at (map (slot_of s) chains) to) node.message)))
+moved s chains sound from to source target node a to_there read differ some found =
+    let view : List (Option Queue) = map (slot_of s) chains in
+    let f = first_of sound.own s from source a.queue node some found in
+    let key : ℕ = source.first in
+    let after : Chain = chain_without_first source node.next (size node.message) in
+    let gone : Option Queue = Some (without_front (queue_at view from)) in
+    let turned : to ≢ from = λ e. differ (sym e) in
+    let d = detached sound.own s s chains 1 from source node sound.store a some found (λ x _. refl) refl in
+    let same : get_or (map (slot_of s) (set chains from after)) to None ≡ get_or view to None =
+    ap (λ (v : List (Option Queue)). get_or v to None) d.is ∙ get_or-set_other view from to gone None turned in
+    let b = place_at (owned sound.own key (length chains, 0)) s (set chains from after) 1 d.store to
+    (rw same to_there) target (read ∙ sym (get_or-set_other chains from to after target turned)) in
+    let t = seen_now (attached (owned sound.own key (length chains, 0)) s s (set chains from after) 1 to target key node
+    d.store b
+    (λ x i r n at of lt.
+    keys_differ (owned sound.own key (length chains, 0)) x key i (length chains) r 0 of
+    (owned-same sound.own key (length chains, 0)) (λ e _. omega (arith, e, lt, length-set chains from after)))
+    (λ x _. refl) found refl f.some f.few) in
+    record { sound = t.sound; is = t.is ∙ rw (same, d.is) refl }
 
--- a chain without nodes makes a queue without messages, with the chain's marks
-pub bare_is : (own : ℕ → ℕ × ℕ) (s : Slab Node) (p : ℕ) (chain : Chain) → IsBare chain
-    → IsQueue own s p chain (bare_queue chain)
-bare_is own s p chain bare =
-    record {
-      rank = 0;
-      nodes = tt;
-      count = bare.count;
-      bytes = bare.bytes;
-      full = refl;
-      high = refl;
-      low = refl;
-      have_bytes = All-nil HasBytesThatFit;
-      open_below_high = λ _. omega (arith, bare.low_below);
-      high_bounded = bare.high_bounded;
-      low_below = bare.low_below;
-      none_if_gone = λ _. refl;
-    }
+-- ---- a chain without nodes
 
--- after a chain without messages is replaced by one without nodes, all chains make their queues
-pub store_reset : (own : ℕ → ℕ × ℕ) (s : Slab Node) (chains : List Chain) (queues : List Queue) (loose p : ℕ)
-    (after : Chain) → IsStore own s chains queues loose → p < length chains → (get_or queues p no_queue).messages ≡ []
-    → IsBare after → IsStore own s (set chains p after) (set queues p (bare_queue after)) loose
-store_reset own s chains queues loose p after st within none bare =
-    let l = st.each p within in
-    record {
-      as_many = length-set queues p _ ∙ st.as_many ∙ sym (length-set chains p _);
-      each = each_set own s chains queues p after _ within st.as_many (bare_is own s p after bare)
-          (λ i below differs. st.each i below);
-      counted = omega (
-        arith,
-        st.counted,
-        bare.count,
-        l.count,
-        ap (λ (ms : List Message). length ms) none,
-        sum_by-set (λ (chain : Chain). chain.count) chains p after no_chain within,
-      );
-    }
+-- if a chain without nodes replaces another one, contracts see its queue there
+pub reset : (s : Slab Node) (chains : List Chain) (sound : IsSound s chains) (p : ℕ) (after : Chain) → p < length chains
+    → (chain_at chains p).count ≡ 0 → HasMessages after []
+    → IsNow sound.own s (set chains p after) 0 (set (map (slot_of s) chains) p (as_slot after []))
+reset s chains sound p after below none has =
+    changed sound.own sound.own s s chains 0 0 p after sound.store below (λ x i r node at of lt ne. (refl, refl))
+    (record { messages = []; rank = 0; nodes = tt; has = has }) (omega (arith, none, has.count))
 
--- after appending a chain without nodes, all chains make their queues
-pub store_push : (own : ℕ → ℕ × ℕ) (s : Slab Node) (chains : List Chain) (queues : List Queue) (loose : ℕ)
-    (after : Chain) → IsStore own s chains queues loose → IsBare after
-    → IsStore own s (chains ++ after ∷ []) (queues ++ bare_queue after ∷ []) loose
-store_push own s chains queues loose after st bare =
-    record {
-      as_many =
-          omega (arith, st.as_many, length-append queues (bare_queue after ∷ []), length-append chains (after ∷ []));
-      each = λ i below. elim (cases_lt i (length chains)) [
-        | inl old ↦ rw (
-          get_or_append_left chains (after ∷ []) no_chain i old,
-          get_or_append_left queues (bare_queue after ∷ []) no_queue i (omega (arith, st.as_many)),
-        ) (st.each i old)
-        | inr last ↦
-            let e : i ≡ length chains = omega (arith, length-append chains (after ∷ [])) in
-            rw (
-              e,
-              get_or_push chains after no_chain (length chains) refl,
-              get_or_push queues (bare_queue after) no_queue (length chains) st.as_many,
-            ) (bare_is own s (length chains) after bare)
-      ];
-      counted = omega (arith, st.counted, bare.count, sum_by_push (λ (chain : Chain). chain.count) chains after);
-    }
+-- if the chain of a place without messages gets another mark, or is marked as gone, contracts see its queue there
+pub remarked : (s : Slab Node) (chains : List Chain) (sound : IsSound s chains) (p : ℕ)
+    → IsPlace (map (slot_of s) chains) p → (queue_at (map (slot_of s) chains) p).messages ≡ [] → (chain : Chain)
+    → chain ≡ get_or chains p chain → (exists marked : Bool)
+    → IsSeen s (set chains p (record chain { there = exists; full = marked }))
+    (set (map (slot_of s) chains) p
+    (if exists then Some (record (queue_at (map (slot_of s) chains) p) { messages = []; full = marked }) else None))
+remarked s chains sound p there none chain read exists marked =
+    let a = place_at sound.own s chains 0 sound.store p there chain read in
+    let has : HasMessages chain [] = rw (ap (λ (q : Queue). q.messages) (sym a.seen) ∙ none) at a.queue.has in
+    let count : (chain_at chains p).count ≡ 0 = ap (λ (c : Chain). c.count) (sym a.read) ∙ has.count in
+    let n = reset s chains sound p (record chain { there = exists; full = marked }) a.below count
+    (has_none _ has.count has.bytes has.high_bounded has.low_below) in
+    seen_now (record { store = n.store; is = n.is ∙ rw a.seen refl })
+
+-- if a chain without nodes gets the number of a place that has gone, contracts see its queue there
+pub again : (s : Slab Node) (chains : List Chain) (sound : IsSound s chains) (p : ℕ) (after : Chain) → p < length chains
+    → (chain_at chains p).there ≡ false → HasMessages after []
+    → IsNow sound.own s (set chains p after) 0 (set (map (slot_of s) chains) p (as_slot after []))
+again s chains sound p after below gone has =
+    let l = sound.store.each p below in
+    reset s chains sound p after below
+    (l.has.count ∙ ap (λ (ms : List Message). length ms) (l.has.none_if_gone gone)) has
+
+-- if a chain without nodes is added after all others, contracts see its queue after the others
+pub pushed : (s : Slab Node) (chains : List Chain) (sound : IsSound s chains) (after : Chain) → HasMessages after []
+    → IsNow sound.own s (chains ++ after ∷ []) 0 (map (slot_of s) chains ++ as_slot after [] ∷ [])
+pushed s chains sound after has = record {
+  store = record {
+    each = λ i below. elim (cases_lt i (length chains)) [
+      | inl old ↦ rw (get_or_append_left chains (after ∷ []) no_chain i old) (sound.store.each i old)
+      | inr last ↦
+          let e : i ≡ length chains = omega (arith, length-append chains (after ∷ [])) in
+          rw (get_or_push chains after no_chain i (sym e)) l
+    ];
+    counted = omega (arith, sound.store.counted, has.count, sum_by_push (λ (chain : Chain). chain.count) chains after);
+  };
+  is = map-append (slot_of s) chains (after ∷ [])
+      ∙ ap (λ (o : Option Queue). map (slot_of s) chains ++ o ∷ []) (ap (as_slot after) (walked sound.own s 0 after l));
+} where
+  l : {i : ℕ} → IsQueue sound.own s i after
+  l {i} = record { messages = []; rank = 0; nodes = tt; has = has }
+
+-- ---- all chains, unchanged
 
 -- a store with the same slots and another capacity has the same chains and queues
-pub store_grown : (own : ℕ → ℕ × ℕ) (s s' : Slab Node) (chains : List Chain) (queues : List Queue) (loose : ℕ)
-    → s'.slots ≡ s.slots → IsStore own s chains queues loose → IsStore own s' chains queues loose
-store_grown own s s' chains queues loose same st =
-    record {
-      as_many = st.as_many;
-      each = λ p below. queue_kept _ _ s s' p _ _ (λ x _ _ _. (ap (λ slots. get_or slots x None) same, refl))
-          (st.each p below);
-      counted = ap (λ (slots : List (Option Node)). count_by is_some slots) same ∙ st.counted;
-    }
+pub grown : (s s' : Slab Node) (chains : List Chain) → s'.slots ≡ s.slots → (sound : IsSound s chains)
+    → IsNow sound.own s' chains 0 (map (slot_of s) chains)
+grown s s' chains same sound = record {
+  store = record {
+    each = each;
+    counted = ap (λ (slots : List (Option Node)). count_by is_some slots) same ∙ sound.store.counted;
+  };
+  is = sym (set_past _ (length chains) None (omega (arith, length-map chains (slot_of s'))))
+      ∙ same_but s s' chains (length chains) None (λ i lt _. ap (as_slot (chain_at chains i))
+      (walked sound.own s' i (chain_at chains i) (each i lt)
+      ∙ sym (walked sound.own s i (chain_at chains i) (sound.store.each i lt))))
+      ∙ set_past _ (length chains) None (omega (arith, length-map chains (slot_of s)));
+} where
+  each : (i : ℕ) → i < length chains → IsQueue sound.own s' i (chain_at chains i)
+  each i lt = queue_kept sound.own sound.own s s' i (chain_at chains i)
+      (λ x r node found of. (ap (λ (slots : List (Option Node)). get_or slots x None) same, refl))
+      (sound.store.each i lt)
+
+-- the store has as many nodes as all places have messages
+pub total_is : (s : Slab Node) (chains : List Chain) → IsSound s chains
+    → slab_len s ≡ message_total (map (slot_of s) chains)
+total_is s chains sound = sound.store.counted ∙ omega (arith, sums chains (λ p lt. counted p (sound.store.each p lt)))
+  where
+    counted : (p : ℕ) {chain : Chain} → IsQueue sound.own s p chain
+        → chain.count ≡ length (messages_in (slot_of s chain))
+    counted p {chain} l = elim (cases_Bool chain.there) [
+      | inl t ↦ rw t (l.has.count ∙ ap (λ (ms : List Message). length ms) (sym (walked sound.own s p chain l)))
+      | inr f ↦ rw f (l.has.count ∙ ap (λ (ms : List Message). length ms) (l.has.none_if_gone f))
+    ]
+
+    sums : (cs : List Chain)
+        → ((p : ℕ) → p < length cs → (chain_at cs p).count ≡ length (messages_in (slot_of s (chain_at cs p))))
+        → sum_by (λ (c : Chain). c.count) cs ≡ message_total (map (slot_of s) cs)
+    sums [] each = refl
+    sums (c ∷ cs) each = omega (
+      arith,
+      sum_by-cons (λ (x : Chain). x.count) c cs,
+      sum_by-cons (λ (x : Option Queue). length (messages_in x)) (slot_of s c) (map (slot_of s) cs),
+      each 0 (omega arith),
+      sums cs (λ p lt. each (suc p) (omega (arith, lt))),
+    )

@@ -7,7 +7,7 @@ use Rattle.smx_types.specs.declared.message.Message.{Message}
 use Rattle.smx_queues.specs.declared.chain.Chain.{Chain}
 use Rattle.smx_queues.specs.declared.node.Node.{Node}
 use Rattle.smx_model.specs.Queues.{bytes_of}
-use Rattle.smx_queues.specs.QueueTable.{Queue, empty_queue}
+use Rattle.smx_queues.specs.QueueTable.{Queue}
 
 -- the message of a node, and those from the next key on
 abbrev pub walk_on : (ℕ → List Message) → Option Node → List Message
@@ -86,57 +86,47 @@ with_follower s chain key = if chain.count == 0 then s else with_next s chain.la
 -- place and the rank. The rank rises by one from node to node, so no node is in two chains or twice in one
 abbrev pub IsChain : (ℕ → ℕ × ℕ) → Slab Node → ℕ → ℕ → ℕ → List Message → ℕ → Type 0
 IsChain own s p rank first [] last = Unit {0}
-IsChain own s p rank first (m ∷ []) last =
+IsChain own s p rank first (m ∷ rest) last =
     (next : ℕ)
     × (get s first ≡ Some (record { message = m; next = next }))
-    × ((own first).0 ≡ p)
-    × ((own first).1 ≡ rank)
-    × (first ≡ last)
-IsChain own s p rank first (m ∷ m2 ∷ rest) last =
-    (next : ℕ)
-    × (get s first ≡ Some (record { message = m; next = next }))
-    × ((own first).0 ≡ p)
-    × ((own first).1 ≡ rank)
-    × IsChain own s p (suc rank) next (m2 ∷ rest) last
+    × (own first ≡ (p, rank))
+    × (rest ≡ [] → first ≡ last)
+    × IsChain own s p (suc rank) next rest last
 
 -- the message has at least one byte, and fewer than 2 to the 63rd
 abbrev pub HasBytesThatFit : Message → Type 0
 HasBytesThatFit m = (0 < length m.bytes) × (length m.bytes < 2 ^ 63)
 
--- the chain of place p makes this queue
-pub record IsQueue (own : ℕ → ℕ × ℕ) (s : Slab Node) (p : ℕ) (chain : Chain) (q : Queue) : Type 0 where
+-- the chain's counts and marks are those of these messages
+pub record HasMessages (chain : Chain) (messages : List Message) : Type 0 where
+  pub count : chain.count ≡ length messages
+  pub bytes : chain.bytes ≡ bytes_of messages
+  pub have_bytes : All HasBytesThatFit messages
+  pub open_below_high : chain.full ≡ false → chain.bytes < chain.high
+  pub high_bounded : chain.high ≤ 4096
+  pub low_below : chain.low < chain.high
+  pub none_if_gone : chain.there ≡ false → messages ≡ []
+
+-- the chain of place p makes a queue with these messages
+pub record IsQueue (own : ℕ → ℕ × ℕ) (s : Slab Node) (p : ℕ) (chain : Chain) : Type 0 where
+  pub messages : List Message
   pub rank : ℕ
-  pub nodes : IsChain own s p rank chain.first q.messages chain.last
-  pub count : chain.count ≡ length q.messages
-  pub bytes : chain.bytes ≡ bytes_of q.messages
-  pub full : chain.full ≡ q.full
-  pub high : chain.high ≡ q.high
-  pub low : chain.low ≡ q.low
-  pub have_bytes : All HasBytesThatFit q.messages
-  pub open_below_high : q.full ≡ false → bytes_of q.messages < q.high
-  pub high_bounded : q.high ≤ 4096
-  pub low_below : q.low < q.high
-  pub none_if_gone : chain.there ≡ false → q.messages ≡ []
+  pub nodes : IsChain own s p rank chain.first messages chain.last
+  pub has : HasMessages chain messages
 
 abbrev pub no_chain : Chain
 no_chain = new_chain 0 0
-
-abbrev pub no_queue : Queue
-no_queue = empty_queue 0 0
 
 -- the chain with this number
 abbrev pub chain_at : List Chain → ℕ → Chain
 chain_at chains p = slice_index_or chains p no_chain
 
--- the chains make these queues; the store has their nodes, and this number of others
-pub record IsStore (own : ℕ → ℕ × ℕ) (s : Slab Node) (chains : List Chain) (queues : List Queue)
-    (loose : ℕ) : Type 0 where
-  pub as_many : length queues ≡ length chains
-  pub each : (p : ℕ) → p < length chains → IsQueue own s p (chain_at chains p) (slice_index_or queues p no_queue)
+-- each chain makes a queue; the store has their nodes, and this number of others
+pub record IsStore (own : ℕ → ℕ × ℕ) (s : Slab Node) (chains : List Chain) (loose : ℕ) : Type 0 where
+  pub each : (p : ℕ) → p < length chains → IsQueue own s p (chain_at chains p)
   pub counted : slab_len s ≡ sum_by (λ (chain : Chain). chain.count) chains + loose
 
 -- each node is in one chain
 pub record IsSound (s : Slab Node) (chains : List Chain) : Type 0 where
   pub own : ℕ → ℕ × ℕ
-  pub queues : List Queue
-  pub store : IsStore own s chains queues 0
+  pub store : IsStore own s chains 0

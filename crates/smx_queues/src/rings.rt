@@ -1,7 +1,8 @@
 //! Rings of numbers, as linked lists.
 
 ghost use Rattle.std.specs.Prelude.{◌≡◌, ◌≢◌, ℕ, suc, ◌+◌, ◌<◌, ◌≤◌, ◌^◌, length, slice_set, IfNone, IfOk, IfSome};
-ghost use Rattle.smx_queues.specs.Rings.{at, linked, ring_count, unlinked};
+ghost use Rattle.std.specs.List.{range_with_len};
+ghost use Rattle.smx_queues.specs.Rings.{at, ring_count};
 
 use smx_types::NoMemory;
 use std::alloc::Global;
@@ -12,10 +13,10 @@ use std::marker::Model;
 #[derive(Debug, Drop)]
 pub struct Rings {
     count: usize,
-    // For i below `count`, node i is number i. The ring of number q begins at node `count` + q. `owners` has 0 for a
-    // node that is in no ring, and q + 1 for a node in the ring of q.
+    // 0 for a number that is in no ring, and q + 1 for a number in the ring of q.
     owners: Vec<usize>,
-    // The node after each node, and the one before it.
+    // The node after each node, and the one before it. For i below `count`, node i is number i. The ring of number q
+    // begins at node `count` + q.
     next: Vec<usize>,
     previous: Vec<usize>,
 }
@@ -30,50 +31,15 @@ impl Model for Rings {
     ghost invariant = { λ r. AreRings r.count r.owners.items r.next.items r.previous.items };
 }
 
-// Puts p between h and f in one direction. Afterwards p follows h in `nodes`, and f follows p.
-fn link(nodes: &mut Vec<usize>, p: usize, f: usize, h: usize)
-    requires p { p < length nodes.old.items }
-    requires h { h < length nodes.old.items }
-    ensures { nodes.new.items ≡ linked nodes.old.items p f h }
-{
-    nodes[p] = f;
-    nodes[h] = p;
-}
-
-// Takes p out from between a and b in one direction. Afterwards b follows a in `nodes`, and p follows itself.
-fn unlink(nodes: &mut Vec<usize>, a: usize, b: usize, p: usize)
-    requires a { a < length nodes.old.items }
-    requires p { p < length nodes.old.items }
-    ensures { nodes.new.items ≡ unlinked nodes.old.items a b p }
-{
-    nodes[a] = b;
-    nodes[p] = p;
-}
-
 // Returns the numbers below `count`, in order.
 fn numbers(alloc: Global, count: usize) -> Result<Vec<usize>, NoMemory>
-    ensures count { IfOk result (λ v. length v.items ≡ count) }
-    ensures each { IfOk result (λ v. (i : ℕ) → i < count → at v.items i ≡ i) }
+    ensures { IfOk result (λ v. v.items ≡ range_with_len 0 count) }
 {
     let mut numbers = Vec::with_capacity(alloc, count)?;
     for i in 0..count {
         numbers.push(i)?;
     }
     Ok(numbers)
-}
-
-// Returns `owners` for empty rings: 0 for each number, and q + 1 for the node at which the ring of q begins.
-fn first_owners(alloc: Global, count: usize) -> Result<Vec<usize>, NoMemory>
-    requires { count < 2 ^ 63 }
-    ensures count { IfOk result (λ v. length v.items ≡ count + count) }
-    ensures none { IfOk result (λ v. (i : ℕ) → i < count → at v.items i ≡ 0) }
-    ensures begins { IfOk result (λ v. (q : ℕ) → q < count → at v.items (count + q) ≡ suc q) }
-{
-    let mut owners = vec![in alloc; 0; count]?;
-    for q in 0..count {
-        owners.push(q + 1)?;
-    }
-    Ok(owners)
 }
 
 impl Rings {
@@ -84,7 +50,7 @@ impl Rings {
         ensures many { IfOk result (λ r. count ≤ length r.owners) }
         ensures none { IfOk result (λ r. (i : ℕ) → i < count → at r.owners i ≡ 0) }
     {
-        let owners = first_owners(alloc, count)?;
+        let owners = vec![in alloc; 0; count]?;
         let next = numbers(alloc, 2 * count)?;
         let previous = Vec::from_slice(alloc, &next)?;
         Ok(Rings {
@@ -95,7 +61,8 @@ impl Rings {
         })
     }
 
-    // Puts number p, which is in no ring, into the ring of q.
+    // Puts number p, which is in no ring, into the ring of q. To do so, p and the beginning of the ring swap the nodes
+    // that come after them.
     fn insert(&mut self, p: usize, q: usize)
         requires p { p < self.old.count }
         requires q { q < self.old.count }
@@ -104,12 +71,12 @@ impl Rings {
     {
         let head = self.count + q;
         let first = self.next[head];
-        link(&mut self.next, p, first, head);
-        link(&mut self.previous, p, head, first);
+        self.next.swap(p, head);
+        self.previous.swap(p, first);
         self.owners[p] = q + 1;
     }
 
-    // Takes a number out of its ring.
+    // Takes a number out of its ring. To do so, the number and the node before it swap the nodes that come after them.
     fn remove(&mut self, p: usize)
         requires p { p < self.old.count }
         requires some { at self.old.owners p ≢ 0 }
@@ -117,8 +84,8 @@ impl Rings {
     {
         let before = self.previous[p];
         let behind = self.next[p];
-        unlink(&mut self.next, before, behind, p);
-        unlink(&mut self.previous, behind, before, p);
+        self.next.swap(p, before);
+        self.previous.swap(behind, p);
         self.owners[p] = 0;
     }
 

@@ -7,8 +7,11 @@ add_serials-requires-clause-place c = place_there _ _ c.self.invariant _ _ c.in-
 
 pub add_serials-requires-clause-room : goal.add_serials-requires-clause-room
 add_serials-requires-clause-room c =
-    omega (arith, rw (← c.self.view_is) at c.requires,
-    ap length (queue_is _ _ c.self.invariant _ _ c.in-Some.ensures.found))
+    omega (
+      arith,
+      rw (← c.self.view_is) at c.requires,
+      ap length (queue_is _ _ c.self.invariant _ _ c.in-Some.ensures.found),
+    )
 
 pub clear-requires : goal.clear-requires
 clear-requires c = place_there _ _ c.self.invariant _ _ c.in-Some.ensures.found

@@ -1,6 +1,7 @@
-use Rattle.std.proofs.Common.{ap}
-use Rattle.smx_queues.proofs.SoundLemmas.{place_at, queues_of}
+use Rattle.smx_queues.proofs.StoreLemmas.{place_at}
 use Rattle.smx_queues.proofs.queues.Queues.bytes.Goals as goal
 
 pub returns : goal.returns
-returns c = (place_at _ _ c.self.invariant _ (ap queues_of c.self.view_is) _ c.requires _ c.index.ensures).queue.bytes
+returns c =
+    let a = place_at _ _ _ _ c.self.invariant.store _ (rw (← c.self.view_is) at c.requires) _ c.index.ensures in
+    rw (← c.self.view_is, a.seen) a.queue.has.bytes

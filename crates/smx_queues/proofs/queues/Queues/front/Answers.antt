@@ -1,16 +1,15 @@
-use Rattle.std.proofs.Common.{ap, arith}
-use Rattle.smx_queues.proofs.SoundLemmas.{first_message_is, first_of, place_at, queues_of}
+use Rattle.std.proofs.Common.{arith, refl}
+use Rattle.smx_queues.proofs.StoreLemmas.{first_of, first_there, place_at}
 use Rattle.smx_queues.proofs.queues.Queues.front.Goals as goal
 
 pub index-requires : goal.index-requires
 index-requires c =
-    (first_of _ _ _ _ _
-    (place_at _ _ c.self.invariant _ (ap queues_of c.self.view_is) _ c.requires _ c.index-chain.ensures).queue
-    (omega arith)).there
+    first_there _ _ _ _ (place_at _ _ _ _ c.self.invariant.store _ (rw (← c.self.view_is) at c.requires) _
+    c.index-chain.ensures).queue
+    (omega arith)
 
 pub returns : goal.returns
 returns c =
-    let f = first_of _ _ _ _ _
-    (place_at _ _ c.self.invariant _ (ap queues_of c.self.view_is) _ c.requires _ c.index-chain.ensures).queue
-    (omega arith) in
-    first_message_is _ _ _ c.index.result.now f c.index.ensures
+    let a = place_at _ _ _ _ c.self.invariant.store _ (rw (← c.self.view_is) at c.requires) _ c.index-chain.ensures in
+    let f = first_of _ _ _ _ a.queue c.index.result.now (omega arith) c.index.ensures in
+    rw (← c.self.view_is, a.seen, f.was) refl

@@ -1,13 +1,13 @@
 use Rattle.std.proofs.Common.{ap}
-use Rattle.smx_queues.proofs.SoundLemmas.{queues_of, seen_grown, slots_of}
+use Rattle.slab.specs.Slab.{Slab}
+use Rattle.smx_queues.specs.declared.node.Node.{Node}
+use Rattle.smx_queues.proofs.StoreLemmas.{grown, seen_now}
 use Rattle.smx_queues.proofs.queues.Queues.reserve_one.Goals as goal
 
 pub invariant_of-self : goal.invariant_of-self
-invariant_of-self c =
-    (seen_grown _ _ _ _ (ap slots_of c.in_err-reserve.ensures.rest_kept) c.self.invariant
-    (ap queues_of c.self.view_is)).sound
+invariant_of-self c = (seen_now (grown _ _ _ (ap (λ (s : Slab Node). s.slots) c.in_err-reserve.ensures.rest_kept)
+    c.self.invariant)).sound
 
 pub invariant_of-self-2 : goal.invariant_of-self-2
-invariant_of-self-2 c =
-    (seen_grown _ _ _ _ (ap slots_of c.in_ok-reserve.ensures.rest_kept) c.self.invariant
-    (ap queues_of c.self.view_is)).sound
+invariant_of-self-2 c = (seen_now (grown _ _ _ (ap (λ (s : Slab Node). s.slots) c.in_ok-reserve.ensures.rest_kept)
+    c.self.invariant)).sound

@@ -1,5 +1,7 @@
-use Rattle.std.proofs.Common.{◌≡◌, ◌+◌, ◌∙◌, add-one, arith}
-use Rattle.smx_queues.proofs.RingNodeLemmas.{entered, owned_already}
+use Rattle.std.proofs.Common.{List, ℕ, ap, arith, set, suc, sym, ◌≡◌, ◌∙◌}
+use Rattle.std.proofs.lemmas.List.{set-get_or}
+use Rattle.smx_queues.specs.Rings.{RingTable}
+use Rattle.smx_queues.proofs.RingLemmas.{entered}
 use Rattle.smx_queues.proofs.rings.Rings.enter.Goals as goal
 
 pub returns-then-index-q : goal.returns-then-index-q
@@ -8,8 +10,8 @@ returns-then-index-q c = entered c.args.self.now c.leave.new.self c.insert.new.s
 
 pub returns-else-index-q : goal.returns-else-index-q
 returns-else-index-q c =
-    let told : c.index.result.now ≡ c.args.q + 1 = omega arith in
-    rw (← c.self.view_is) (owned_already (record {
-      count = c.self.inside.count;
-      owners = c.self.inside.owners.items;
-    }) c.args.p _ c.index.result.now c.index.ensures (told ∙ add-one c.args.q))
+    let owned_by : List ℕ → RingTable = λ xs. record { count = c.self.inside.count; owners = xs } in
+    let told : suc c.args.q ≡ c.index.result.now = omega arith in
+    rw (← c.self.view_is) (ap owned_by
+    (sym (ap (set c.self.inside.owners.items c.args.p) (told ∙ c.index.ensures)
+    ∙ set-get_or c.self.inside.owners.items c.args.p c.index.result.now)))

@@ -1,51 +1,44 @@
-use Rattle.std.proofs.Common.{◌≡◌, ◌<◌, suc, sym, subst, ◌∙◌}
-use Rattle.smx_queues.specs.Rings.{RingTable, at}
-use Rattle.smx_queues.proofs.RingLemmas.{fewer_in}
-use Rattle.smx_queues.proofs.RingNodeLemmas.{first_read, none_read, suc_zero}
+use Rattle.std.proofs.Common.{◌≡◌, ◌≢◌, ◌<◌, ◌+◌, suc, arith, sym, ◌∙◌}
+use Rattle.smx_queues.specs.Rings.{at}
+use Rattle.smx_queues.proofs.RingLemmas.{fewer_in, first_in, none_in, read_at}
 use Rattle.smx_queues.proofs.rings.Rings.take_one.Goals as goal
+use Rattle.smx_queues.proofs.rings.Rings.take_one.Goals.{After-index-p}
+
+-- the node that was read is the one after the beginning of the ring
+read : (c : After-index-p) → c.index-p.result.now ≡ at c.self.inside.next.items (c.self.inside.count + c.args.q)
+read c =
+    let lt = rw (← c.self.view_is) at c.requires in
+    read_at c.self.inside.next.items _ _ (omega (arith, lt, c.self.invariant.many_next)) c.index-p.ensures
+
+-- if it is another node, it is a number in the ring
+first : (c : After-index-p) → c.index-p.result.now ≢ c.self.inside.count + c.args.q
+    → (c.index-p.result.now < c.self.inside.count) × (at c.self.inside.owners.items c.index-p.result.now ≡ suc c.args.q)
+first c other = rw (read c) (first_in _ _ _ _ c.self.invariant c.args.q (rw (← c.self.view_is) at c.requires)
+    (rw (read c) at other))
 
 pub returns-then-p-head-clause-none : goal.returns-then-p-head-clause-none
 returns-then-p-head-clause-none c = λ p below own.
-    none_read c.self.inside.count c.self.inside.owners.items c.self.inside.next.items c.self.inside.previous.items
-    c.args.q c.index-p.result.now c.self.invariant
-    (subst (λ (t : RingTable). c.args.q < t.count) (sym c.self.view_is) c.requires) c.index-p.ensures
-    c.if-p-head.true p (subst (λ (t : RingTable). p < t.count) (sym c.self.view_is) below)
-    (subst (λ (t : RingTable). at t.owners p ≡ suc c.args.q) (sym c.self.view_is) own)
+    none_in _ _ _ _ c.self.invariant c.args.q (rw (← c.self.view_is) at c.requires)
+    (sym (read (goal.at.returns-then-p-head-clause-none c).After-index-p) ∙ c.if-p-head.true) p
+    (rw (← c.self.view_is) at below) (rw (← c.self.view_is) at own)
 
 pub remove-requires-clause-p : goal.remove-requires-clause-p
 remove-requires-clause-p c = rw (← c.self.view_is)
-    (first_read c.self.inside.count c.self.inside.owners.items c.self.inside.next.items c.self.inside.previous.items
-    c.args.q c.index-p.result.now c.self.invariant
-    (subst (λ (t : RingTable). c.args.q < t.count) (sym c.self.view_is) c.requires) c.index-p.ensures
-    c.if-p-head.false).0
+    (first (goal.at.remove-requires-clause-p c).After-index-p c.if-p-head.false).0
 
 pub remove-requires-clause-some : goal.remove-requires-clause-some
-remove-requires-clause-some c = λ none.
-    suc_zero c.args.q (sym (first_read c.self.inside.count c.self.inside.owners.items c.self.inside.next.items
-    c.self.inside.previous.items c.args.q c.index-p.result.now c.self.invariant
-    (subst (λ (t : RingTable). c.args.q < t.count) (sym c.self.view_is) c.requires) c.index-p.ensures
-    c.if-p-head.false).1
-    ∙ subst (λ (t : RingTable). at t.owners c.index-p.result.now ≡ 0) (sym c.self.view_is) none)
+remove-requires-clause-some c = rw (← c.self.view_is) (λ none.
+    let own = (first (goal.at.remove-requires-clause-some c).After-index-p c.if-p-head.false).1 in
+    omega (arith, own, none))
 
 pub returns-clause-below : goal.returns-clause-below
 returns-clause-below c = rw (← c.self.view_is)
-    (first_read c.self.inside.count c.self.inside.owners.items c.self.inside.next.items c.self.inside.previous.items
-    c.args.q c.index-p.result.now c.self.invariant
-    (subst (λ (t : RingTable). c.args.q < t.count) (sym c.self.view_is) c.requires) c.index-p.ensures
-    c.if-p-head.false).0
+    (first (goal.at.returns-clause-below c).After-index-p c.if-p-head.false).0
 
 pub returns-clause-its : goal.returns-clause-its
 returns-clause-its c = rw (← c.self.view_is)
-    (first_read c.self.inside.count c.self.inside.owners.items c.self.inside.next.items c.self.inside.previous.items
-    c.args.q c.index-p.result.now c.self.invariant
-    (subst (λ (t : RingTable). c.args.q < t.count) (sym c.self.view_is) c.requires) c.index-p.ensures
-    c.if-p-head.false).1
+    (first (goal.at.returns-clause-its c).After-index-p c.if-p-head.false).1
 
 pub returns-clause-fewer : goal.returns-clause-fewer
-returns-clause-fewer c =
-    let its : at c.args.self.now.owners c.index-p.result.now ≡ suc c.args.q = rw (← c.self.view_is)
-    (first_read c.self.inside.count c.self.inside.owners.items c.self.inside.next.items c.self.inside.previous.items
-    c.args.q c.index-p.result.now c.self.invariant
-    (subst (λ (t : RingTable). c.args.q < t.count) (sym c.self.view_is) c.requires) c.index-p.ensures
-    c.if-p-head.false).1 in
-    rw c.remove.ensures (fewer_in c.args.self.now.owners c.index-p.result.now c.args.q its)
+returns-clause-fewer c = rw (c.remove.ensures, ← c.self.view_is) (fewer_in c.self.inside.owners.items
+    c.index-p.result.now c.args.q (first (goal.at.returns-clause-fewer c).After-index-p c.if-p-head.false).1)
