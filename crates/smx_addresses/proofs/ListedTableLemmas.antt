@@ -1,7 +1,7 @@
 -- The list that corresponds to a table.
 use Rattle.smx_model.proofs.Common.{◌≡◌, ℕ, ◌+◌, Bool, false, cond, List, [], ◌∷◌, length, is_some, Some, None, refl}
-use Rattle.smx_model.proofs.Common.{sym, ap, ◌∙◌, arith, inl, inr, list_any, AllByRecursion, lookup}
-use Rattle.smx_model.proofs.Common.{keys_of, cases_Bool, with_inserted, IsRising}
+use Rattle.smx_model.proofs.Common.{sym, ap, ◌∙◌, arith, list_any, AllByRecursion, lookup}
+use Rattle.smx_model.proofs.Common.{keys_of, with_inserted, IsRising}
 use Rattle.std.specs.List.{IsDistinct}
 use Rattle.std.proofs.lemmas.Map.Keys.{IsDistinct-head, IsDistinct-tail}
 use Rattle.smx_addresses.specs.Keys.{Key, is_key, by_key}

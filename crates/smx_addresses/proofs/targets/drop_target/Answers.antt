@@ -1,4 +1,4 @@
-use Rattle.smx_model.proofs.Common.{sym, arith}
+use Rattle.smx_model.proofs.Common.{arith}
 use Rattle.smx_addresses.proofs.TargetLemmas.{no_set}
 use Rattle.smx_addresses.proofs.targets.drop_target.Goals as goal
 

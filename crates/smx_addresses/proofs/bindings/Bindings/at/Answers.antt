@@ -1,4 +1,3 @@
-use Rattle.smx_model.proofs.Common.{sym, ◌∙◌}
 use Rattle.smx_addresses.proofs.BindingLemmas.{find_address}
 use Rattle.smx_addresses.proofs.bindings.Bindings.at.Goals as goal
 

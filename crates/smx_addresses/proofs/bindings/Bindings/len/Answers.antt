@@ -1,4 +1,4 @@
-use Rattle.smx_model.proofs.Common.{length, sym, ap, ◌∙◌, bind_before, arith}
+use Rattle.smx_model.proofs.Common.{bind_before, arith}
 use Rattle.smx_addresses.specs.TableFields.{binding_of}
 use Rattle.smx_addresses.proofs.ListedTableLemmas.{length_in_order}
 use Rattle.smx_addresses.proofs.bindings.Bindings.len.Goals as goal

@@ -3,7 +3,7 @@ use Rattle.smx_model.proofs.Common.{arith}
 use Rattle.std.proofs.Common.{append-nil}
 use Rattle.std.proofs.lemmas.List.Sorted.{answers_always}
 use Rattle.smx_addresses.specs.Keys.{Key}
-use Rattle.smx_addresses.specs.BindingLists.{address_of, IsBindingList}
+use Rattle.smx_addresses.specs.BindingLists.{address_of}
 use Rattle.smx_addresses.specs.TableFields.{binding_of}
 use Rattle.smx_addresses.proofs.LineLemmas.{sorted_lines}
 use Rattle.smx_addresses.proofs.BindingLemmas.{HasList, has_list, binding_exact, bindings_sound}

@@ -1,5 +1,4 @@
-use Rattle.smx_model.proofs.Common.{sym, subst, ◌∙◌, Route, arith}
-use Rattle.smx_addresses.specs.RouteLists.{IsRouteList}
+use Rattle.smx_model.proofs.Common.{arith}
 use Rattle.smx_addresses.proofs.CopyLemmas.{route_next}
 use Rattle.smx_addresses.proofs.routes.Routes.copy.Goals as goal
 

@@ -1,4 +1,4 @@
-use Rattle.smx_model.proofs.Common.{length, sym, ap, ◌∙◌, route_before, arith}
+use Rattle.smx_model.proofs.Common.{route_before, arith}
 use Rattle.smx_addresses.specs.TableFields.{route_of}
 use Rattle.smx_addresses.proofs.ListedTableLemmas.{length_in_order}
 use Rattle.smx_addresses.proofs.routes.Routes.len.Goals as goal

@@ -1,5 +1,5 @@
-use Rattle.smx_model.proofs.Common.{◌≡◌, ℕ, false, ◌==◌, not, List, filter, Option, Some, sym, ap, ◌∙◌, arith}
-use Rattle.smx_model.proofs.Common.{nat_tests, lookup, Route, route_before, with_inserted}
+use Rattle.smx_model.proofs.Common.{◌≡◌, ℕ, false, ◌==◌, not, filter, Option, Some, ap, ◌∙◌, arith}
+use Rattle.smx_model.proofs.Common.{nat_tests, lookup, route_before, with_inserted}
 use Rattle.smx_addresses.specs.Keys.{is_key}
 use Rattle.smx_addresses.specs.RouteLists.{is_route}
 use Rattle.smx_addresses.specs.TableFields.{routes_of}
@@ -24,8 +24,11 @@ listed : (c : After-unwrap) → routes_of c.insert.new.self.entries ≡ with_ins
     (filter (λ r. not (is_route c.args.driver c.args.addr r)) c.args.self.now)
     (record { driver = c.args.driver; addr = c.args.addr; id = c.args.id })
 listed c =
-    grind (arith,
-    routed _ _ c.args.driver c.args.addr c.args.id c.self.invariant.unique c.insert.ensures.unique (set c), set c)
+    grind (
+      arith,
+      routed _ _ c.args.driver c.args.addr c.args.id c.self.invariant.unique c.insert.ensures.unique (set c),
+      set c,
+    )
 
 pub invariant_of-self-then-before-id : goal.invariant_of-self-then-before-id
 invariant_of-self-then-before-id c =

@@ -1,4 +1,4 @@
-use Rattle.smx_model.proofs.Common.{sym, ◌∙◌, arith}
+use Rattle.smx_model.proofs.Common.{sym, arith}
 use Rattle.smx_addresses.proofs.RouteLemmas.{unlinked_next, unlinked_none}
 use Rattle.smx_addresses.proofs.routes.Routes.unroute_links.Goals as goal
 
