@@ -1,15 +1,14 @@
 -- Records that are copied stream by stream.
 use Rattle.smx_model.proofs.Common.{◌≡◌, ℕ, suc, ◌+◌, ◌<◌, true, false, List, [], ◌∷◌, length, map, get_or, Option}
 use Rattle.smx_model.proofs.Common.{if◌then◌else◌, refl, sym, ap, ◌∙◌, arith, inl, inr, cases_Bool, nat_tests}
-use Rattle.smx_model.proofs.Common.{get_or_past, StreamId, pair_before}
+use Rattle.smx_model.proofs.Common.{get_or_past, StreamId, pair_before, rules}
 use Rattle.std.proofs.Common.{drop}
 use Rattle.std.proofs.Math.ListN.{get_or-map}
 use Rattle.std.proofs.lemmas.List.{length-map}
 use Rattle.slab.specs.Slab.{Slab}
 use Rattle.smx_streams.specs.declared.records.Record.{Record}
 use Rattle.smx_streams.specs.HungRows.{flag_at}
-use Rattle.smx_streams.specs.RecordGrids.{Grid, Uses, HasRows, IsCopyBefore}
-use Rattle.smx_streams.specs.RecordGrids.{holds_of, hung_of, opens_of, record_of_key, uses_of}
+use Rattle.smx_streams.specs.RecordGrids.{Grid, Uses, HasRows, IsCopyBefore, uses_of}
 use Rattle.smx_streams.specs.StreamTables.{number_at}
 
 -- rows

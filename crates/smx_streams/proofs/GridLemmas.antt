@@ -1,7 +1,6 @@
 -- Numbers and keys by driver and minor.
 use Rattle.smx_model.proofs.Common.{◌≡◌, ℕ, zero, suc, ◌<◌, true, List, [], ◌∷◌, length, map, get_or, replicate, Option}
-use Rattle.smx_model.proofs.Common.{Some, None, if◌then◌else◌, refl, sym, ap, ◌∙◌, inl, inr, nat_lt, cases_eq, cases_lt}
-use Rattle.smx_model.proofs.Common.{eq-eqb, lt-ltb, ne_eqb, get_or_past, StreamId, same_stream}
+use Rattle.smx_model.proofs.Common.{Some, None, if◌then◌else◌, refl, ap, ◌∙◌, get_or_past, StreamId, same_stream, arith}
 use Rattle.std.proofs.Common.{set}
 use Rattle.std.proofs.Math.ListN.{get_or-map}
 use Rattle.std.proofs.lemmas.List.{get_or-set_same, get_or-set_other, length-set, length-replicate}

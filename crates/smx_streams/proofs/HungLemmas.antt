@@ -1,8 +1,8 @@
 -- The hung-up streams after a change of the records.
-use Rattle.smx_model.proofs.Common.{◌≡◌, ℕ, ◌+◌, ◌<◌, Bool, true, false, ◌&&◌, ◌||◌, not, List, [], ◌∷◌, filter}
-use Rattle.smx_model.proofs.Common.{if◌then◌else◌, refl, sym, ap, subst, ◌∙◌, arith, inl, inr, nat_lt, cases_Bool}
-use Rattle.smx_model.proofs.Common.{false≢true, lt-ltb, or_cases, or_left, or_right, nat_tests, Descriptor, StreamId}
-use Rattle.smx_model.proofs.Common.{same_stream, is_fd, stream_before, is_hung, with_hung, IsRising, is_named}
+use Rattle.smx_model.proofs.Common.{◌≡◌, ℕ, ◌+◌, ◌<◌, Bool, true, false, ◌&&◌, ◌||◌, List, [], ◌∷◌, filter}
+use Rattle.smx_model.proofs.Common.{if◌then◌else◌, refl, sym, ap, ◌∙◌, arith, nat_lt}
+use Rattle.smx_model.proofs.Common.{false≢true, or_left, nat_tests, Descriptor, StreamId}
+use Rattle.smx_model.proofs.Common.{same_stream, stream_before, is_hung, with_hung, IsRising, is_named, rules}
 use Rattle.smx_model.proofs.EachLemmas.{later_filter}
 use Rattle.smx_model.proofs.HungListLemmas.{hung_kept_by, hung_with, one_list}
 use Rattle.smx_model.proofs.RisingLemmas.{rising_with_hung}
@@ -70,8 +70,11 @@ pub holds_changed : (t : Inside) (v : Uses) (s : StreamId) (h : ℕ)
     (nat_lt 0 (number_at t.records.opens s + h) && flag_at t.records.hungs s) v
     → IsWhole t → HasHolds (table_of t) s h (table_of (record t { records = v }))
 holds_changed t v s h set whole =
-    grind (arith, left t.records v (table_of t) (table_of (record t { records = v })) s _ _ set whole.records.hung,
-    same_number t.records.opens)
+    grind (
+      arith,
+      left t.records v (table_of t) (table_of (record t { records = v })) s _ _ set whole.records.hung,
+      same_number t.records.opens,
+    )
 
 -- if no numbers change, a stream has hung up exactly if it exists and had hung up
 each_kept : (u : Uses) (old new : StreamTable) → AreUsed u → AreNames u new → new.holds ≡ u.holds

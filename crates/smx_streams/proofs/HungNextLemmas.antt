@@ -1,7 +1,7 @@
 -- The streams from a minor of a driver on, in ordered lists of streams.
 use Rattle.smx_model.proofs.Common.{◌≡◌, ℕ, ◌+◌, ◌<◌, ◌≤◌, true, false, not, List, [], ◌∷◌, length, get_or, None, refl}
-use Rattle.smx_model.proofs.Common.{ap, arith, inl, inr, slice_get, cases_Bool, cases_eq, cases_lt, ltb-true, or_left}
-use Rattle.smx_model.proofs.Common.{or_parts, or_right, nat_tests, get_or_past, StreamId, pair_before, same_stream}
+use Rattle.smx_model.proofs.Common.{ap, arith, inl, inr, slice_get, cases_Bool, cases_eq, ltb-true, or_left}
+use Rattle.smx_model.proofs.Common.{or_right, nat_tests, get_or_past, StreamId, pair_before, same_stream}
 use Rattle.smx_model.proofs.Common.{stream_before, is_hung, ComesBefore, IsRising}
 use Rattle.std.proofs.lemmas.Option.{slice_get_cases}
 use Rattle.smx_streams.specs.HungRows.{streams_from}
@@ -85,8 +85,14 @@ none_left : (minors : List ℕ) (d n : ℕ) (xs : List StreamId) → length mino
     → streams_from d n xs ≡ []
 none_left minors d n [] past h = refl
 none_left minors d n (x ∷ xs) past h =
-    grind (arith, first_in_range minors x xs h, get_or_past minors x.driver 0, nat_tests,
-    none_left minors d n xs past (others_in_range minors x xs h), others_in_range minors x xs h)
+    grind (
+      arith,
+      first_in_range minors x xs h,
+      get_or_past minors x.driver 0,
+      nat_tests,
+      none_left minors d n xs past (others_in_range minors x xs h),
+      others_in_range minors x xs h,
+    )
 
 -- from a driver that does not exist on, there are no streams
 pub no_driver_left : (minors : List ℕ) (d n : ℕ) (xs : List StreamId) → None ≡ slice_get minors d → AreInRange minors xs

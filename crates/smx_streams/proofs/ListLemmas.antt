@@ -1,6 +1,6 @@
 -- Lists in general.
-use Rattle.smx_model.proofs.Common.{◌≡◌, Bool, ◌&&◌, not, List, [], ◌∷◌, ◌++◌, find, filter, Some, None, refl, ap, inl}
-use Rattle.smx_model.proofs.Common.{inr, list_any, is_some, cases_Bool, ComesBefore, with_inserted}
+use Rattle.smx_model.proofs.Common.{◌≡◌, Bool, ◌&&◌, not, List, [], ◌∷◌, ◌++◌, find, filter, Some, None, refl, inl}
+use Rattle.smx_model.proofs.Common.{inr, list_any, is_some, cases_Bool, ComesBefore, with_inserted, arith}
 
 -- a search in two joined lists
 

@@ -1,7 +1,7 @@
 -- The number of descriptors that name a stream.
-use Rattle.smx_model.proofs.Common.{◌≡◌, ℕ, zero, suc, ◌+◌, ◌-◌, ◌<◌, ◌≤◌, Bool, true, false, not, eqb, List, [], ◌∷◌}
+use Rattle.smx_model.proofs.Common.{◌≡◌, ℕ, zero, suc, ◌+◌, ◌-◌, ◌<◌, ◌≤◌, Bool, true, false, not, List, [], ◌∷◌}
 use Rattle.smx_model.proofs.Common.{length, find, filter, get_or, slice_get, Some, None, if◌then◌else◌, refl, sym, ap}
-use Rattle.smx_model.proofs.Common.{arith, inl, inr, nat_lt, list_any, range_with_len, cases_Bool, and_parts, eqb-true}
+use Rattle.smx_model.proofs.Common.{arith, inl, inr, nat_lt, list_any, range_with_len, cases_Bool}
 use Rattle.smx_model.proofs.Common.{lt-ltb, nat_tests, same_Some, Descriptor, StreamId, same_stream, is_fd, fd_before}
 use Rattle.smx_model.proofs.Common.{ComesBefore, IsRising, with_inserted, is_named}
 use Rattle.std.specs.Prelude.{nat_le}

@@ -1,7 +1,7 @@
 -- The descriptors from a number of a process on, and those of one process.
 use Rattle.smx_model.proofs.Common.{◌≡◌, ℕ, suc, ◌+◌, ◌<◌, ◌≤◌, Bool, true, false, ◌&&◌, not, eqb, List, [], ◌∷◌, find}
 use Rattle.smx_model.proofs.Common.{◌∙◌, filter, Some, None, refl, ap, arith, inl, inr, nat_lt, All, cases_Bool}
-use Rattle.smx_model.proofs.Common.{and_parts, eqb-true, nat_tests, same_Some, MAX_DESCRIPTORS, MAX_PROCESSES}
+use Rattle.smx_model.proofs.Common.{nat_tests, same_Some, MAX_DESCRIPTORS, MAX_PROCESSES}
 use Rattle.smx_model.proofs.Common.{Descriptor, StreamId, is_fd, fd_before, pair_before, ComesBefore, IsRising}
 use Rattle.std.proofs.lemmas.List.Elements.{filter_agree}
 use Rattle.smx_streams.specs.StreamTables.{fds_from, stream_at}

@@ -2,7 +2,7 @@
 use Rattle.smx_model.proofs.Common.{◌≡◌, ◌≢◌, ℕ, ◌+◌, ◌<◌, ◌≤◌, true, false, List, length, map, replicate, Option, Some}
 use Rattle.smx_model.proofs.Common.{None, if◌then◌else◌, refl, sym, ap, ◌∙◌, arith, inl, inr, cases_Bool, cases_eq}
 use Rattle.smx_model.proofs.Common.{both_ways, ltb-true, lt-ltb, nat_lt, is_some, nat_tests, same_Some, MAX_DRIVERS}
-use Rattle.smx_model.proofs.Common.{StreamId, same_stream}
+use Rattle.smx_model.proofs.Common.{StreamId, same_stream, rules}
 use Rattle.std.proofs.lemmas.List.{length-map}
 use Rattle.slab.specs.Slab.{Slab, get, Updates}
 use Rattle.smx_streams.specs.declared.records.Record.{Record}
@@ -92,8 +92,15 @@ numbers_set : (grid : Grid) (old : Slab Record) (r : Record) (key : ℕ) (new_ke
     → (uses_of new_grid new).minors ≡ (uses_of grid old).minors
     → AreSet (uses_of grid old) r.stream r.opens r.holds (is_used_and_hung r) (uses_of new_grid new)
 numbers_set grid old r key new_key slot new_grid new h opens holds hung minors =
-    grind (arith, opens_at new_grid new, opens_at grid old, holds_at new_grid new, holds_at grid old,
-    hungs_at new_grid new, hungs_at grid old)
+    grind (
+      arith,
+      opens_at new_grid new,
+      opens_at grid old,
+      holds_at new_grid new,
+      holds_at grid old,
+      hungs_at new_grid new,
+      hungs_at grid old,
+    )
 
 -- a record with a descriptor or hold is both used and hung up exactly if its flag is set
 flag_of_used : (r : Record) → 0 < r.opens + r.holds → r.hung ≡ is_used_and_hung r

@@ -1,7 +1,7 @@
 -- Descriptors as rows of streams by number: looked up, added and removed.
 use Rattle.smx_model.proofs.Common.{◌≡◌, ℕ, zero, suc, ◌+◌, ◌<◌, true, false, not, eqb, List, [], ◌∷◌, ◌++◌, length}
 use Rattle.smx_model.proofs.Common.{find, filter, get_or, Option, Some, None, refl, sym, ap, ◌∙◌, arith, list_any}
-use Rattle.smx_model.proofs.Common.{is_some, option_map, nat_tests, eq-eqb, ne_eqb, Descriptor, StreamId, is_fd}
+use Rattle.smx_model.proofs.Common.{is_some, nat_tests, eq-eqb, ne_eqb, Descriptor, StreamId, is_fd}
 use Rattle.smx_model.proofs.Common.{fd_before, pair_before, ComesBefore, with_inserted}
 use Rattle.std.proofs.Common.{set}
 use Rattle.std.proofs.lemmas.List.Elements.{filter-append}

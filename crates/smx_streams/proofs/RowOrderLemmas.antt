@@ -2,7 +2,7 @@
 use Rattle.smx_model.proofs.Common.{◌≡◌, ℕ, zero, suc, ◌+◌, ◌*◌, ◌<◌, ◌≤◌, true, List, [], ◌∷◌, ◌++◌, length, map}
 use Rattle.smx_model.proofs.Common.{get_or, replicate, Option, Some, None, refl, sym, ap, ◌∙◌, arith, length-append}
 use Rattle.smx_model.proofs.Common.{All, list_any, is_some, All-nil, nat_tests, MAX_DESCRIPTORS, MAX_PROCESSES}
-use Rattle.smx_model.proofs.Common.{Descriptor, StreamId, is_fd, fd_before, ComesBefore, IsRising}
+use Rattle.smx_model.proofs.Common.{Descriptor, StreamId, is_fd, fd_before, ComesBefore, IsRising, rules}
 use Rattle.std.proofs.Common.{set}
 use Rattle.std.proofs.lemmas.List.{get_or-set_same, length-set, length-replicate}
 use Rattle.std.proofs.lemmas.List.Elements.{All-cons, All-append, All-set}

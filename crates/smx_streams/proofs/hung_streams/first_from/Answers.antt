@@ -1,4 +1,4 @@
-use Rattle.smx_model.proofs.Common.{sym, ◌∙◌, arith}
+use Rattle.smx_model.proofs.Common.{arith}
 use Rattle.smx_streams.specs.HungRows.{hungs_from}
 use Rattle.smx_streams.proofs.HungNextLemmas.{found, next_driver, no_driver_left, passed}
 use Rattle.smx_streams.proofs.HungRowLemmas.{flag_tells, hungs_rise, stream}

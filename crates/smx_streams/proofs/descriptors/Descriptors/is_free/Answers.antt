@@ -1,5 +1,4 @@
-use Rattle.smx_model.proofs.Common.{not, ap, sym, ◌∙◌, list_any, is_fd}
-use Rattle.smx_streams.specs.DescriptorRows.{Listed}
+use Rattle.smx_model.proofs.Common.{arith}
 use Rattle.smx_streams.proofs.RowLemmas.{any_is_cell}
 use Rattle.smx_streams.proofs.descriptors.Descriptors.is_free.Goals as goal
 

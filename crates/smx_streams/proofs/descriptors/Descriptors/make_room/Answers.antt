@@ -1,5 +1,4 @@
-use Rattle.smx_model.proofs.Common.{◌≡◌, true, ap, sym, subst, ◌∙◌, arith, list_any, false≢true, is_fd}
-use Rattle.smx_streams.specs.DescriptorRows.{Listed}
+use Rattle.smx_model.proofs.Common.{arith}
 use Rattle.smx_streams.proofs.RowOrderLemmas.{has_cells, room_shows_the_same, rows_with_room, there_is_room}
 use Rattle.smx_streams.proofs.descriptors.Descriptors.make_room.Goals as goal
 

@@ -1,5 +1,4 @@
-use Rattle.smx_model.proofs.Common.{◌≤◌, ◌+◌, arith, sym, ◌∙◌, inl, inr, false≢true, MAX_PROCESSES}
-use Rattle.std.proofs.lemmas.Bool.{cases_order}
+use Rattle.smx_model.proofs.Common.{arith}
 use Rattle.smx_streams.proofs.NextLemmas.{passed, found, next_process, no_process}
 use Rattle.smx_streams.proofs.descriptors.Descriptors.next.Goals as goal
 

@@ -1,6 +1,4 @@
-use Rattle.smx_model.proofs.Common.{◌∙◌, ap}
-use Rattle.smx_streams.specs.StreamTables.{stream_at}
-use Rattle.smx_streams.specs.DescriptorRows.{Listed}
+use Rattle.smx_model.proofs.Common.{arith}
 use Rattle.smx_streams.proofs.RowLemmas.{stream_is_cell}
 use Rattle.smx_streams.proofs.descriptors.Descriptors.stream_of.Goals as goal
 

@@ -1,6 +1,4 @@
-use Rattle.smx_model.proofs.Common.{◌≡◌, not, ap, sym, subst, ◌∙◌, filter, is_fd}
-use Rattle.smx_streams.specs.DescriptorRows.{IsListed, Listed}
-use Rattle.smx_streams.specs.StreamTables.{stream_at}
+use Rattle.smx_model.proofs.Common.{sym, arith}
 use Rattle.smx_streams.proofs.RowLemmas.{stream_is_cell, take_cell, take_none}
 use Rattle.smx_streams.proofs.RowOrderLemmas.{are_listed, rows_with_cell}
 use Rattle.smx_streams.proofs.descriptors.Descriptors.take.Goals as goal

@@ -1,6 +1,5 @@
-use Rattle.smx_model.proofs.Common.{ℕ, ◌+◌, List, Option, ap, subst, ◌∙◌, false≢true, lt-ltb, is_some, nat_lt}
-use Rattle.smx_streams.specs.RecordGrids.{Uses, AreSound, key_at}
-use Rattle.smx_streams.specs.StreamTables.{number_at}
+use Rattle.smx_model.proofs.Common.{subst, arith}
+use Rattle.smx_streams.specs.RecordGrids.{AreSound}
 use Rattle.smx_streams.proofs.RecordLemmas.{are_sound, key_tells}
 use Rattle.smx_streams.proofs.records.Records.change.Goals as goal
 

@@ -1,5 +1,5 @@
-use Rattle.smx_model.proofs.Common.{◌≡◌, ℕ, length, map, subst, ap, ◌∙◌, arith}
-use Rattle.smx_streams.specs.RecordGrids.{Uses, HasRows, IsCopyBefore}
+use Rattle.smx_model.proofs.Common.{◌≡◌, subst, ◌∙◌, arith}
+use Rattle.smx_streams.specs.RecordGrids.{HasRows}
 use Rattle.smx_streams.proofs.CopyLemmas.{all_copied, has_rows, none_copied}
 use Rattle.smx_streams.proofs.records.Records.copy.Goals as goal
 use Rattle.smx_streams.proofs.records.Records.copy.Goals.{In_ok-minors}

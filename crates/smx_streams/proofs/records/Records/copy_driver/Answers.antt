@@ -1,4 +1,4 @@
-use Rattle.smx_model.proofs.Common.{◌≡◌, arith, ◌∙◌}
+use Rattle.smx_model.proofs.Common.{arith}
 use Rattle.smx_streams.proofs.CopyLemmas.{driver_copied}
 use Rattle.smx_streams.proofs.records.Records.copy_driver.Goals as goal
 

@@ -1,6 +1,4 @@
-use Rattle.smx_model.proofs.Common.{ℕ, List, Option, ◌+◌, ap, ◌∙◌, is_some, nat_lt}
-use Rattle.smx_streams.specs.RecordGrids.{Uses, key_at}
-use Rattle.smx_streams.specs.StreamTables.{number_at}
+use Rattle.smx_model.proofs.Common.{arith}
 use Rattle.smx_streams.proofs.RecordLemmas.{key_tells}
 use Rattle.smx_streams.proofs.records.Records.has.Goals as goal
 

@@ -1,4 +1,4 @@
-use Rattle.smx_model.proofs.Common.{refl}
+use Rattle.smx_model.proofs.Common.{refl, arith}
 use Rattle.smx_streams.proofs.CopyLemmas.{has_rows}
 use Rattle.smx_streams.proofs.GridLemmas.{no_keys_lengths}
 use Rattle.smx_streams.proofs.RecordLemmas.{are_sound, no_holds, no_hungs, no_opens, none_recorded}

@@ -1,4 +1,4 @@
-use Rattle.smx_model.proofs.Common.{sym, subst, refl, ◌<◌, ◌∙◌, arith, All, fd_before, IsRising, MAX_DESCRIPTORS}
+use Rattle.smx_model.proofs.Common.{sym, subst, refl, ◌∙◌, arith, fd_before, IsRising}
 use Rattle.smx_streams.specs.StreamTables.{StreamTable, AreHungsSound, HasOneLess}
 use Rattle.smx_streams.specs.TableFields.{IsWhole, table_of}
 use Rattle.smx_streams.proofs.NameLemmas.{names_after_take, names_some}

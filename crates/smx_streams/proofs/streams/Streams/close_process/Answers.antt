@@ -1,5 +1,5 @@
-use Rattle.smx_model.proofs.Common.{not, ap, refl, sym, subst, arith, filter, ◌<◌, ◌∙◌, List, inl, inr, cases_Bool}
-use Rattle.smx_model.proofs.Common.{false≢true, All, MAX_DESCRIPTORS, Descriptor, is_fd}
+use Rattle.smx_model.proofs.Common.{not, ap, sym, subst, arith, filter, ◌<◌, ◌∙◌, List, inl, inr, cases_Bool}
+use Rattle.smx_model.proofs.Common.{All, MAX_DESCRIPTORS, Descriptor, is_fd}
 use Rattle.std.proofs.Math.Nat.{eq-zero-or-pos}
 use Rattle.smx_streams.specs.StreamTables.{StreamTable, exists, stream_at}
 use Rattle.smx_streams.proofs.NextLemmas.{closed_none, closed_more, closed_all}
@@ -43,6 +43,9 @@ loop-fd-preserved c = record {
 
 pub returns-clause-rest : goal.returns-clause-rest
 returns-clause-rest c =
-    grind (arith,
-    closed_all c.args.process c.loop-fd.fd c.args.self.now.fds (omega arith) (c.loop-fd.invariant.numbered (omega arith)),
-    c.loop-fd.invariant.numbered (omega arith), c.loop-fd.invariant.hungs (omega arith))
+    grind (
+      arith,
+      closed_all c.args.process c.loop-fd.fd c.args.self.now.fds (omega arith) (c.loop-fd.invariant.numbered (omega arith)),
+      c.loop-fd.invariant.numbered (omega arith),
+      c.loop-fd.invariant.hungs (omega arith),
+    )

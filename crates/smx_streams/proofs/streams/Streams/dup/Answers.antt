@@ -1,5 +1,4 @@
-use Rattle.smx_model.proofs.Common.{◌≡◌, true, sym, subst, arith}
-use Rattle.smx_streams.specs.StreamTables.{StreamTable, is_in_range}
+use Rattle.smx_model.proofs.Common.{arith}
 use Rattle.smx_streams.proofs.NameLemmas.{names_some}
 use Rattle.smx_streams.proofs.streams.Streams.dup.Goals as goal
 

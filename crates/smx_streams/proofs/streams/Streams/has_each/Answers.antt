@@ -1,6 +1,6 @@
-use Rattle.smx_model.proofs.Common.{ap, subst, ◌+◌, ◌∙◌, nat_lt, list_all}
+use Rattle.smx_model.proofs.Common.{subst, arith}
 use Rattle.smx_model.proofs.TestLemmas.{all_same}
-use Rattle.smx_streams.specs.StreamTables.{StreamTable, AreHungsSound, exists, number_at}
+use Rattle.smx_streams.specs.StreamTables.{AreHungsSound}
 use Rattle.smx_streams.specs.TableFields.{table_of}
 use Rattle.smx_streams.proofs.HungLemmas.{are_sound}
 use Rattle.smx_streams.proofs.NameLemmas.{used_exists}

@@ -1,5 +1,4 @@
-use Rattle.smx_model.proofs.Common.{ap, ◌∙◌}
-use Rattle.smx_streams.specs.StreamTables.{StreamTable, is_in_range}
+use Rattle.smx_model.proofs.Common.{arith}
 use Rattle.smx_streams.proofs.NameLemmas.{no_driver}
 use Rattle.smx_streams.proofs.streams.Streams.in_range.Goals as goal
 

@@ -1,5 +1,4 @@
-use Rattle.smx_model.proofs.Common.{sym, ap, ◌∙◌, is_hung}
-use Rattle.smx_streams.specs.StreamTables.{StreamTable}
+use Rattle.smx_model.proofs.Common.{arith}
 use Rattle.smx_streams.proofs.HungRowLemmas.{flag_tells}
 use Rattle.smx_streams.proofs.streams.Streams.is_hung.Goals as goal
 

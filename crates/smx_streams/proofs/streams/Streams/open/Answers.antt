@@ -1,5 +1,5 @@
-use Rattle.smx_model.proofs.Common.{◌≡◌, Some, sym, subst, refl, ◌∙◌, arith, false≢true}
-use Rattle.smx_streams.specs.StreamTables.{StreamTable, HasOneMore, stream_at}
+use Rattle.smx_model.proofs.Common.{subst, refl, ◌∙◌, arith}
+use Rattle.smx_streams.specs.StreamTables.{StreamTable, HasOneMore}
 use Rattle.smx_streams.specs.TableFields.{table_of}
 use Rattle.smx_streams.proofs.NameLemmas.{named_any, names_after_put, names_few, names_some}
 use Rattle.smx_streams.proofs.HungLemmas.{hung_same, same_number}

@@ -1,4 +1,4 @@
-use Rattle.smx_model.proofs.Common.{get_or, sym, arith, lt-ltb}
+use Rattle.smx_model.proofs.Common.{arith}
 use Rattle.smx_streams.proofs.NameLemmas.{find_below, minors_at}
 use Rattle.smx_streams.proofs.streams.Streams.open_clone.Goals as goal
 
