@@ -65,20 +65,13 @@ pub either_any : (d a m : ℕ) (bs : List Binding)
     → list_any (λ b. (b.driver == d) && ((b.addr == a) || (b.minor == m))) bs
     ≡ (list_any (λ b. is_key (address_of b) (d, a)) bs || list_any (λ b. is_key (stream_of b) (d, m)) bs)
 either_any d a m [] = refl
-either_any d a m (b ∷ bs) = rw (either_any d a m bs)
-    (grind (arith, nat_tests))
+either_any d a m (b ∷ bs) = grind (arith, either_any d a m bs, nat_tests)
 
 -- the test for both, by the two tables
 pub taken_either : (xs ys : Entries) (bs : List Binding) (d a m : ℕ) → bindings_of xs ≡ bs → AreBindings xs ys
     → list_any (λ b. (b.driver == d) && ((b.addr == a) || (b.minor == m))) bs
     ≡ (is_some (lookup (is_key (d, a)) xs) || is_some (lookup (is_key (d, m)) ys))
-taken_either xs ys bs d a m e h =
-    let x : is_some (lookup (is_key (d, a)) xs) ≡ list_any (λ b. is_key (address_of b) (d, a)) (bindings_of xs) =
-    ap is_some ((has_list xs h.unique).finds (d, a)) ∙ found_any address_of (λ b. b.minor) (bindings_of xs) (d, a) in
-    let y : is_some (lookup (is_key (d, m)) ys) ≡ list_any (λ b. is_key (stream_of b) (d, m)) (bindings_of xs) =
-    ap is_some (h.addresses (d, m)) ∙ found_any stream_of (λ b. b.addr) (bindings_of xs) (d, m) in
-    ap (list_any (λ b. (b.driver == d) && ((b.addr == a) || (b.minor == m)))) (sym e)
-    ∙ either_any d a m (bindings_of xs) ∙ (λ i. sym x i || sym y i)
+taken_either xs ys bs d a m e h = grind (arith, has_list, found_any, h.addresses (d, m), either_any)
 
 -- one more binding
 
@@ -131,15 +124,7 @@ module _ (xs ys us vs : Entries) (d a m : ℕ) (h : AreBindings xs ys)
 has_address : (bs : List Binding) (d a m : ℕ) → found stream_of (λ b. b.addr) bs (d, m) ≡ Some a
     → list_any (λ b. is_key (address_of b) (d, a)) bs ≡ true
 has_address [] d a m h = cc
-has_address (b ∷ bs) d a m h = elim (cases_Bool (is_key (d, m) (stream_of b))) [
-  | inl t ↦
-      let same = same_Some b.addr a (rw t at h) in
-      let here : is_key (address_of b) (d, a) ≡ true = grind (arith, nat_tests) in
-      rw here refl
-  | inr f ↦
-      let rest = has_address bs d a m (rw f at h) in
-      elim (cases_Bool (is_key (address_of b) (d, a))) [ inl t ↦ rw t refl | inr g ↦ rw g rest ]
-]
+has_address (b ∷ bs) d a m h = grind (arith, same_Some b.addr a, nat_tests, has_address bs d a m)
 
 -- removing the binding of a stream removes that of its address
 same_taken : (bs : List Binding) (d a m : ℕ) → AreApart address_of bs → AreApart stream_of bs

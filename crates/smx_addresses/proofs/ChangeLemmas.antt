@@ -1,6 +1,7 @@
 -- Look-ups in a table after an entry is set or removed, and the list with the same look-ups.
 use Rattle.smx_model.proofs.Common.{◌≡◌, ℕ, Bool, false, cond, not, List, [], ◌∷◌, filter, Option, Some, None, refl}
 use Rattle.smx_model.proofs.Common.{sym, ap, ◌∙◌, inl, inr, list_any, lookup, cases_Bool, with_inserted, IsRising}
+use Rattle.smx_model.proofs.Common.{arith}
 use Rattle.std.proofs.lemmas.Map.Entries.{option_filter}
 use Rattle.smx_addresses.specs.Keys.{Key, is_key, found, by_key, AreApart}
 use Rattle.smx_addresses.specs.TableFields.{Entries, Finds}
@@ -20,8 +21,7 @@ sets_from before old new k w e s q = s q ∙ ap (λ (es : Entries). cond (is_key
 any_gone : {X : Type 0} (key : X → Key) (k : Key) (xs : List X)
     → list_any (λ x. is_key (key x) k) (filter (λ x. not (is_key (key x) k)) xs) ≡ false
 any_gone key k [] = refl
-any_gone key k (x ∷ xs) =
-    elim (cases_Bool (is_key (key x) k)) [ inl t ↦ rw t (any_gone key k xs) | inr f ↦ rw (f, f) (any_gone key k xs) ]
+any_gone key k (x ∷ xs) = grind (arith, any_gone key k xs)
 
 module _ {X : Type 0} (key : X → Key) (value : X → ℕ) (xs : List X) where
   -- a new element with a new key

@@ -26,8 +26,7 @@ is_key_congr p q r h = grind (arith, nat_tests)
 
 -- keys that pass the test for equality are equal
 pub key_same : (p q : Key) → is_key p q ≡ true → p ≡ q
-key_same p q h =
-    let a : p.0 ≡ q.0 = grind (arith, nat_tests) in let b : p.1 ≡ q.1 = grind (arith, nat_tests) in (λ i. (a i, b i))
+key_same p q h = grind (arith, nat_tests)
 
 -- equality of keys is an equivalence, as look-ups in maps require
 pub keys_equal : IsEquivalence is_key

@@ -2,11 +2,10 @@
 use Rattle.smx_model.proofs.Common.{◌≡◌, ℕ, ◌+◌, true, false, List, [], ◌∷◌, map, refl, subst, ◌∙◌, arith, inl, inr}
 use Rattle.smx_model.proofs.Common.{AllByRecursion, IsPermutation, lookup, keys_of, cases_Bool, nat_tests}
 use Rattle.smx_model.proofs.Common.{ComesBefore, IsRising}
-use Rattle.std.specs.List.{IsDistinct}
+use Rattle.std.specs.List.{IsDistinct, slice_index_or}
 use Rattle.std.specs.Cmp.{IsTotalOrder}
 use Rattle.std.specs.declared.cmp.Ordering.{Ordering}
 use Rattle.std.specs.declared.cmp.Ordering.TheVariants.{Less}
-use Rattle.std.specs.List.{slice_index_or}
 use Rattle.std.specs.List.Sorted.{IsSortedByKey, IsStrictlySortedBy}
 use Rattle.std.specs.Ordering.{is_lt, nat_cmp, ordering_then, on}
 use Rattle.std.proofs.lemmas.Cmp.{nat_cmp_total, on_total, then_total}

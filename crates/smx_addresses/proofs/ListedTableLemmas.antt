@@ -1,7 +1,7 @@
 -- The list that corresponds to a table.
 use Rattle.smx_model.proofs.Common.{◌≡◌, ℕ, ◌+◌, Bool, false, cond, List, [], ◌∷◌, length, is_some, Some, None, refl}
-use Rattle.smx_model.proofs.Common.{sym, ap, ◌∙◌, arith, inl, inr, list_any, AllByRecursion, lookup}
-use Rattle.smx_model.proofs.Common.{keys_of, cases_Bool, with_inserted, IsRising}
+use Rattle.smx_model.proofs.Common.{sym, ap, ◌∙◌, arith, list_any, AllByRecursion, lookup}
+use Rattle.smx_model.proofs.Common.{keys_of, with_inserted, IsRising}
 use Rattle.std.specs.List.{IsDistinct}
 use Rattle.std.proofs.lemmas.Map.Keys.{IsDistinct-head, IsDistinct-tail}
 use Rattle.smx_addresses.specs.Keys.{Key, is_key, by_key}
@@ -19,15 +19,13 @@ absent k (e ∷ es) h = rw h.0 (absent k es h.1)
 pub length_inserted : {X : Type 0} (before : X → X → Bool) (xs : List X) (x : X)
     → length (with_inserted before xs x) ≡ length xs + 1
 length_inserted before [] x = refl
-length_inserted before (y ∷ ys) x = elim (cases_Bool (before x y))
-    [ inl t ↦ rw t (omega arith) | inr f ↦ rw f (omega (arith, length_inserted before ys x)) ]
+length_inserted before (y ∷ ys) x = grind (arith, length_inserted before ys x)
 
 -- the list is as long as the table
 pub length_in_order : {X : Type 0} (before : X → X → Bool) (make : Key × ℕ → X) (es : Entries)
     → length (in_order before make es) ≡ length es
 length_in_order before make [] = refl
-length_in_order before make (e ∷ es) =
-    omega (arith, length_inserted before (in_order before make es) (make e), length_in_order before make es)
+length_in_order before make (e ∷ es) = grind (arith, length_inserted, length_in_order before make es)
 
 module _ {X : Type 0} (key : X → Key) (value : X → ℕ) where
   -- the list rises, and a look-up in the table finds what a look-up in the list finds

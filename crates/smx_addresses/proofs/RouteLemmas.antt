@@ -2,7 +2,7 @@
 use Rattle.smx_model.proofs.Common.{◌≡◌, ℕ, ◌<◌, ◌+◌, ◌&&◌, ◌||◌, ◌==◌, not, List, [], ◌∷◌, ◌++◌, length, get_or, take}
 use Rattle.smx_model.proofs.Common.{filter, find, Option, Some, None, refl, sym, ap, ◌∙◌, inl, inr, list_any}
 use Rattle.smx_model.proofs.Common.{lookup, keys_of, option_map, cases_Bool, take_more, Route, route_before}
-use Rattle.smx_model.proofs.Common.{with_inserted}
+use Rattle.smx_model.proofs.Common.{with_inserted, arith}
 use Rattle.std.specs.List.{IsDistinct}
 use Rattle.std.proofs.lemmas.Map.Entries.{option_filter}
 use Rattle.smx_addresses.specs.Keys.{Key, is_key}
@@ -104,13 +104,7 @@ unlinked_more : (rs : List Route) (ids : List ℕ) (id : ℕ)
     → filter (λ r. not (r.id == id)) (filter (λ r. not (list_any (λ i. r.id == i) ids)) rs)
     ≡ filter (λ r. not (list_any (λ i. r.id == i) (ids ++ id ∷ []))) rs
 unlinked_more [] ids id = refl
-unlinked_more (r ∷ rs) ids id = elim (cases_Bool (list_any (λ i. r.id == i) ids)) [
-  | inl t ↦ rw (ids_more ids id r, t) (unlinked_more rs ids id)
-  | inr f ↦ elim (cases_Bool (r.id == id)) [
-    | inl e ↦ rw (ids_more ids id r, f, e) (unlinked_more rs ids id)
-    | inr n ↦ rw (ids_more ids id r, f, n) (ap (λ x. r ∷ x) (unlinked_more rs ids id))
-  ]
-]
+unlinked_more (r ∷ rs) ids id = grind (arith, ids_more ids id r, unlinked_more rs ids id)
 
 -- removing the routes to the first i links, then those to the next one, removes those to the first i + 1
 pub unlinked_next : (rs : List Route) (ids : List ℕ) (i : ℕ) → i < length ids

@@ -34,18 +34,7 @@ left_filtered id b (Some n) e = rw e (elim (cases_Bool (n == id)) [ inl t ↦ rw
 leads_filtered : (id i : ℕ) (r : Option ℕ) → leads_to i (option_filter (λ n. not (n == id)) r)
     ≡ cond (id == i) false (leads_to i r)
 leads_filtered id i None = elim (cases_Bool (id == i)) [ inl t ↦ rw t refl | inr f ↦ rw f refl ]
-leads_filtered id i (Some n) = elim (cases_Bool (n == id)) [
-  | inl t ↦ elim (cases_Bool (id == i)) [
-    | inl a ↦ rw (t, a) refl
-    | inr a ↦
-        let b : (n == i) ≡ false = grind (arith, nat_tests) in rw (t, a, b) refl
-  ]
-  | inr f ↦ elim (cases_Bool (id == i)) [
-    | inl a ↦ let b : (n == i) ≡ false = grind (arith, nat_tests) in
-        rw (f, a, b) refl
-    | inr a ↦ rw (f, a) refl
-  ]
-]
+leads_filtered id i (Some n) = grind (arith, nat_tests)
 
 -- a fact that holds anyway holds if the result is an error
 pub on_err : {X E : Type 0} (r : Result X E) (P : Type 0) → P → OnErr r P

@@ -1,6 +1,6 @@
 -- Bits of words, and the bits that one more link adds.
 use Rattle.smx_model.proofs.Common.{◌≡◌, ℕ, ◌<◌, ◌≤◌, Bool, true, false, ◌&&◌, ◌||◌, eqb, cond, List, length, get_or}
-use Rattle.smx_model.proofs.Common.{refl, sym, ap, ◌∙◌, arith, inl, inr, eqb-true, eq-eqb, cases_eq, cases_lt}
+use Rattle.smx_model.proofs.Common.{refl, sym, ap, ◌∙◌, arith, inl, inr, eqb-true, cases_lt}
 use Rattle.smx_model.proofs.Common.{false_from_ne_true, get_or_past, nat_tests}
 use Rattle.std.proofs.Common.{◌^◌, max, bit_or}
 use Rattle.std.proofs.Math.Bool.{or-false, or_comm}
@@ -20,11 +20,7 @@ is_set_or v w b = rw (bit_at_or v w b) (set_max (bit_at v b) (bit_at w b) (bit_a
 
 -- a power of two has one bit
 pub is_set_pow : (k b : ℕ) → is_set (2 ^ k) b ≡ eqb k b
-is_set_pow k b = elim (cases_eq b k) [
-  | inl same ↦ rw same (ap (λ x. eqb x 1) (bit_at-pow_same k) ∙ sym (eq-eqb k k refl))
-  | inr other ↦ ap (λ x. eqb x 1) (bit_at-pow_other k b other)
-      ∙ sym (false_from_ne_true (eqb k b) (λ t. other (sym (eqb-true k b t))))
-]
+is_set_pow k b = grind (arith, bit_at-pow_same k, bit_at-pow_other k b)
 
 -- 0 has no bits
 pub is_set_zero : (b : ℕ) → is_set 0 b ≡ false
@@ -41,9 +37,7 @@ joined_word ws u r a = cond (eqb a u || has_bit ws a u) (bit_or (get_or ws a 0) 
 -- the bits of a joined word
 joined_bits : (c : Bool) (w x k b : ℕ) → is_set (cond c (bit_or w (bit_or x (2 ^ k))) w) b
     ≡ (is_set w b || (c && (eqb k b || is_set x b)))
-joined_bits true w x k b = is_set_or w (bit_or x (2 ^ k)) b
-    ∙ ap (λ y. is_set w b || y) (is_set_or x (2 ^ k) b ∙ ap (λ y. is_set x b || y) (is_set_pow k b)
-    ∙ or_comm (is_set x b) (eqb k b))
+joined_bits true w x k b = grind (arith, is_set_or, is_set_pow, or_comm)
 joined_bits false w x k b = sym (or-false (is_set w b))
 
 -- no bit is set past the last word

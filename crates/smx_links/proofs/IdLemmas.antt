@@ -13,10 +13,7 @@ before l k = nat_lt l.id k.id
 -- if no link has the id, a filter by it removes nothing
 pub none_goes : (ls : List Link) (id : ℕ) → find (λ l. eqb l.id id) ls ≡ None → filter (λ l. not (eqb l.id id)) ls ≡ ls
 none_goes [] id h = refl
-none_goes (l ∷ ls) id h = elim (cases_Bool (eqb l.id id)) [
-  | inl t ↦ let k : Some l ≡ None = rw t at h in absurd cc
-  | inr f ↦ rw f (ap (λ x. l ∷ x) (none_goes ls id (rw f at h)))
-]
+none_goes (l ∷ ls) id h = grind (arith, none_goes ls id)
 
 -- later links have other ids
 pub later_stay : (l : Link) (ls : List Link) (id : ℕ) → l.id ≡ id → ComesBefore before l ls
@@ -30,12 +27,7 @@ later_stay l (k ∷ ls) id e h =
 pub before_found : (test : Link → Bool) (k : Link) (ls : List Link) (l : Link) → ComesBefore before k ls
     → find test ls ≡ Some l → eqb k.id l.id ≡ false
 before_found test k [] l h some = absurd cc
-before_found test k (j ∷ ls) l h some = elim (cases_Bool (test j)) [
-  | inl t ↦
-      let other : eqb k.id j.id ≡ false = grind (arith, nat_tests, h.0) in
-      rw (← same_Some j l (rw t at some)) other
-  | inr f ↦ before_found test k ls l h.1 (rw f at some)
-]
+before_found test k (j ∷ ls) l h some = grind (arith, nat_tests, same_Some j l, before_found test k ls l h.1)
 
 -- one more
 
@@ -75,13 +67,7 @@ none_of_more : (ls : List Link) (ids : List ℕ) (id : ℕ)
     → filter (λ l. not (eqb l.id id)) (filter (λ l. not (is_one_of ids l)) ls)
     ≡ filter (λ l. not (is_one_of (ids ++ id ∷ []) l)) ls
 none_of_more [] ids id = refl
-none_of_more (l ∷ ls) ids id = elim (cases_Bool (is_one_of ids l)) [
-  | inl t ↦ rw (one_of_more ids id l, t) (none_of_more ls ids id)
-  | inr f ↦ elim (cases_Bool (eqb l.id id)) [
-    | inl e ↦ rw (one_of_more ids id l, f, e) (none_of_more ls ids id)
-    | inr n ↦ rw (one_of_more ids id l, f, n) (ap (λ x. l ∷ x) (none_of_more ls ids id))
-  ]
-]
+none_of_more (l ∷ ls) ids id = grind (arith, one_of_more ids id l, none_of_more ls ids id)
 
 -- removing the links of the first i ids, then that of the next id, removes those of the first i + 1
 pub none_of_next : (ls : List Link) (ids : List ℕ) (i : ℕ) → i < length ids

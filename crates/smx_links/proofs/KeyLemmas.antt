@@ -75,9 +75,7 @@ removed_entries es is id h rise = ap (remove_entry (eqb id)) h.keyed ∙ removed
 pub values_less : (es fs : List (ℕ × Link)) (is : List (Key × ℕ)) (id : ℕ) → AreFound es is
     → IsRising (λ l k. nat_lt l.id k.id) (values_of es) → fs ≡ remove_entry (eqb id) es
     → values_of fs ≡ filter (λ l. not (eqb l.id id)) (values_of es)
-values_less es fs is id h rise less =
-    ap values_of (less ∙ removed_entries es is id h rise)
-    ∙ values_links (filter (λ l. not (eqb l.id id)) (values_of es))
+values_less es fs is id h rise less = grind (arith, removed_entries es is id h rise, values_links)
 
 -- both maps are consistent after one link is removed from both
 pub found_less : (es fs : List (ℕ × Link)) (is js : List (Key × ℕ)) (l : Link) (id : ℕ) → AreFound es is

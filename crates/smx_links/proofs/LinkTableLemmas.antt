@@ -1,10 +1,9 @@
 -- A table of links: how it is made and changed.
-use Rattle.smx_model.proofs.Common.{◌≡◌, ℕ, zero, suc, ◌<◌, ◌≤◌, ◌+◌, Bool, true, false, ◌||◌, eqb, leb, List, [], ◌∷◌}
+use Rattle.smx_model.proofs.Common.{◌≡◌, ℕ, zero, suc, ◌<◌, ◌≤◌, ◌+◌, Bool, true, false, ◌||◌, eqb, List, [], ◌∷◌}
 use Rattle.smx_model.proofs.Common.{◌++◌, length, filter, get_or, replicate, take, Option, Some, None, refl, arith}
-use Rattle.smx_model.proofs.Common.{length-append, if◌then◌else◌, or_parts, All-nil, All-filter, MAX_DRIVERS, MAX_LINKS}
+use Rattle.smx_model.proofs.Common.{length-append, if◌then◌else◌, All-nil, All-filter, MAX_DRIVERS, MAX_LINKS}
 use Rattle.smx_model.proofs.Common.{NUMBER_END, Link, LinkKind, StreamId, reaches, is_below}
 use Rattle.std.proofs.Common.{drop}
-use Rattle.std.proofs.lemmas.Bool.{leb-false}
 use Rattle.std.proofs.lemmas.List.{length-replicate, take_at}
 use Rattle.std.proofs.lemmas.List.Elements.{All-push}
 use Rattle.std.proofs.lemmas.List.Sums.{length-filter, count_by-le-length}
@@ -34,12 +33,7 @@ no_masks n a b = rw (zeros n a) (is_set_zero b)
 
 -- the fields of a table without links
 pub parts_empty : (n : ℕ) → n ≤ MAX_DRIVERS → AreParts (no_bits n) [] 1
-parts_empty n h = record {
-  list = record { sound = sound_empty; ids = ids_none; few = omega arith; numbered = omega arith };
-  within = All-nil _;
-  few = rw (length-replicate {A = ℕ} n 0) h;
-  masks = no_masks n;
-}
+parts_empty n h = grind (arith, sound_empty, ids_none, All-nil, length-replicate, no_masks)
 
 -- no refusal
 
@@ -61,16 +55,7 @@ pub record IsFree (t : LinkList) (ctl lower : StreamId) : Type 0 where
 
 -- if no refusal applies, these facts hold
 pub is_free : (t : LinkList) (ctl lower : StreamId) → refusal t ctl lower ≡ None → IsFree t ctl lower
-is_free t ctl lower h =
-    let each = not_refused _ _ _ _ _ _ h in
-    let room = or_parts (leb MAX_LINKS (length t.links)) (leb NUMBER_END t.next_id) each.2 in
-    record {
-      below = each.0;
-      apart = each.1;
-      few = leb-false MAX_LINKS
-          (length t.links) room.0;
-      numbered = leb-false NUMBER_END t.next_id room.1;
-    }
+is_free t ctl lower h = grind (arith, not_refused)
 
 -- one more link
 

@@ -1,8 +1,8 @@
 -- Links by their lower streams, and the results of look-ups by these.
 use Rattle.smx_model.proofs.Common.{◌≡◌, ℕ, zero, suc, ◌<◌, Bool, true, false, cond, not, eqb, List, [], ◌∷◌, ◌++◌}
-use Rattle.smx_model.proofs.Common.{filter, find, Option, get_or, length, take, Some, None, refl, sym, subst, ap, ◌∙◌}
+use Rattle.smx_model.proofs.Common.{filter, find, Option, get_or, length, take, Some, None, refl, sym, ap, ◌∙◌}
 use Rattle.smx_model.proofs.Common.{arith, inl, inr, nat_lt, All, list_any, lookup, option_map, is_some, cases_Bool}
-use Rattle.smx_model.proofs.Common.{eq-eqb, eqb-true, false≢true, nat_tests, same_Some, Link, StreamId, same_stream}
+use Rattle.smx_model.proofs.Common.{eqb-true, nat_tests, same_Some, Link, StreamId, same_stream}
 use Rattle.smx_model.proofs.Common.{IsRising, AreLowersApart, is_below}
 use Rattle.std.proofs.lemmas.List.Elements.{All-head, All-tail, All-weaker}
 use Rattle.smx_links.specs.Keys.{Key, HasIds, id_above, is_key, key_of}
@@ -36,10 +36,8 @@ some_above ls s = mapped (find (λ l. same_stream l.lower s) ls) ∙ any_found (
 pub found_has : {X : Type 0} (P : X → Type 0) (test : X → Bool) (xs : List X) (x : X) → All P xs → find test xs ≡ Some x
     → P x
 found_has P test [] x all h = absurd cc
-found_has {X} P test (y ∷ ys) x all h = elim (cases_Bool (test y)) [
-  | inl t ↦ subst P (same_Some y x (rw t at h)) (All-head P y ys all)
-  | inr f ↦ found_has P test ys x (All-tail P y ys all) (rw f at h)
-]
+found_has {X} P test (y ∷ ys) x all h =
+    grind (arith, same_Some y x, All-head P y ys all, found_has P test ys x (All-tail P y ys all), All-tail P y ys all)
 
 -- one more link
 
@@ -47,21 +45,14 @@ found_has {X} P test (y ∷ ys) x all h = elim (cases_Bool (test y)) [
 above_more : (ls : List Link) (l : Link) (s : StreamId) → is_below ls l.lower ≡ false
     → id_above (ls ++ l ∷ []) s ≡ cond (same_stream l.lower s) (Some l.id) (id_above ls s)
 above_more [] l s h = elim (cases_Bool (same_stream l.lower s)) [ inl t ↦ rw t refl | inr f ↦ rw f refl ]
-above_more (k ∷ ks) l s h = elim (cases_Bool (same_stream k.lower l.lower)) [
-  | inl t ↦ absurd (false≢true (sym h ∙ rw t refl))
-  | inr f ↦ elim (cases_Bool (same_stream k.lower s)) [
-    | inl t ↦ rw (t, sym (same_congr k.lower s l.lower t ∙ same_sym s l.lower) ∙ f) refl
-    | inr g ↦ rw g (above_more ks l s (rw f at h))
-  ]
-]
+above_more (k ∷ ks) l s h = grind (arith, same_congr k.lower s l.lower, same_sym s l.lower, above_more ks l s)
 
 -- the map of ids after one more link
 pub ids_more : (es fs : List (Key × ℕ)) (ls : List Link) (l : Link) → HasIds es ls → is_below ls l.lower ≡ false
     → ((s : StreamId) → lookup (is_key (key_of s)) fs
     ≡ cond (same_stream l.lower s) (Some l.id) (lookup (is_key (key_of s)) es))
     → HasIds fs (ls ++ l ∷ [])
-ids_more es fs ls l h free put s = put s ∙ ap (cond (same_stream l.lower s) (Some l.id)) (h s)
-    ∙ sym (above_more ls l s free)
+ids_more es fs ls l h free put s = grind (arith, put s, h s, above_more ls l s free)
 
 -- one link removed
 
@@ -125,14 +116,7 @@ pub ids_less : (es fs : List (Key × ℕ)) (ls : List Link) (l : Link) (id : ℕ
     → ((s : StreamId) → lookup (is_key (key_of s)) fs
     ≡ cond (same_stream l.lower s) None (lookup (is_key (key_of s)) es))
     → HasIds fs (filter (λ l. not (eqb l.id id)) ls)
-ids_less es fs ls l id apart rise h found taken s =
-    taken s ∙ ap (cond (same_stream l.lower s) None) (h s)
-    ∙ mapped (same_stream l.lower s) (find (λ l. same_stream l.lower s) ls)
-    ∙ sym (ap (option_map (λ (k : Link). k.id)) (above_less ls l id s apart rise found)) where
-      mapped : (b : Bool) (o : Option Link)
-          → cond b None (option_map (λ l. l.id) o) ≡ option_map (λ l. l.id) (cond b None o)
-      mapped true o = refl
-      mapped false o = refl
+ids_less es fs ls l id apart rise h found taken s = grind (arith, taken s, h s, above_less ls l id s apart rise found)
 
 -- the link above a stream, by its id
 
@@ -140,12 +124,7 @@ ids_less es fs ls l id apart rise h found taken s =
 found_by_id : (test : Link → Bool) (ls : List Link) (l : Link) → IsRising (λ l k. nat_lt l.id k.id) ls
     → find test ls ≡ Some l → find (λ k. eqb k.id l.id) ls ≡ Some l
 found_by_id test [] l rise h = absurd cc
-found_by_id test (k ∷ ks) l rise h = elim (cases_Bool (test k)) [
-  | inl t ↦ rw (same_Some k l (rw t at h), eq-eqb l.id l.id refl) refl
-  | inr f ↦
-      let rest : find test ks ≡ Some l = rw f at h in
-      rw (before_found test k ks l rise.0 rest) (found_by_id test ks l rise.1 rest)
-]
+found_by_id test (k ∷ ks) l rise h = grind (arith, same_Some, before_found, found_by_id test ks l rise.1)
 
 -- the id that a look-up finds is that of the link above the stream
 pub above_found : (es : List (Key × ℕ)) (ls : List Link) (s : StreamId) (id : ℕ)
@@ -162,8 +141,4 @@ above_found es ls s id rise h at = by (find (λ l. same_stream l.lower s) ls) re
 -- if a look-up by a stream finds no id, no link is above the stream
 pub above_none : (es : List (Key × ℕ)) (ls : List Link) (s : StreamId) → HasIds es ls
     → lookup (is_key (key_of s)) es ≡ None → find (λ l. same_stream l.lower s) ls ≡ None
-above_none es ls s h at = by (find (λ l. same_stream l.lower s) ls) refl where
-  by : (o : Option Link) → find (λ l. same_stream l.lower s) ls ≡ o → o ≡ None
-  by None none = refl
-  by (Some l) some = let k : ◌≡◌ {A = Option ℕ} None (Some l.id) = sym at ∙ h s
-      ∙ ap (option_map (λ (l : Link). l.id)) some in absurd cc
+above_none es ls s h at = grind arith

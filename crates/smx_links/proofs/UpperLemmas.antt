@@ -1,7 +1,7 @@
 -- Drivers with links, judged by the bits of their words.
 use Rattle.smx_model.proofs.Common.{◌≡◌, ℕ, ◌<◌, Bool, true, false, not, eqb, List, [], ◌∷◌, get_or, refl, sym, ap, ◌∙◌}
-use Rattle.smx_model.proofs.Common.{arith, inl, inr, cases_Bool, eqb-true, eq-eqb, false_from_ne_true, false≢true}
-use Rattle.smx_model.proofs.Common.{or_left, or_parts, or_right, nat_tests, Link, reaches}
+use Rattle.smx_model.proofs.Common.{arith, inl, inr, cases_Bool, eqb-true, eq-eqb}
+use Rattle.smx_model.proofs.Common.{or_left, or_right, nat_tests, Link, reaches}
 use Rattle.std.proofs.Common.{◌^◌}
 use Rattle.std.specs.Int.{trailing_zeros, w128}
 use Rattle.std.proofs.lemmas.Nat.Bits.{bit_at-trailing_zeros}
@@ -13,11 +13,7 @@ use Rattle.smx_links.proofs.BitLemmas.{is_set_zero}
 -- a driver without links reaches no driver
 pub none_reached : (ls : List Link) (a b : ℕ) → is_upper ls a ≡ false → reaches ls a b ≡ false
 none_reached [] a b h = refl
-none_reached (l ∷ ls) a b h =
-    let p = or_parts (eqb l.ctl.driver a) (is_upper ls a) h in
-    let other : eqb a l.ctl.driver ≡ false = false_from_ne_true (eqb a l.ctl.driver)
-    (λ t. false≢true (sym p.0 ∙ eq-eqb l.ctl.driver a (sym (eqb-true a l.ctl.driver t)))) in
-    rw (none_reached ls a b p.1, none_reached ls a l.ctl.driver p.1, other) refl
+none_reached (l ∷ ls) a b h = grind (arith, none_reached ls a b, none_reached ls a l.ctl.driver)
 
 -- a driver with a link reaches some driver
 some_reached : (ls : List Link) (a : ℕ) → is_upper ls a ≡ true → (b : ℕ) × (reaches ls a b ≡ true)
@@ -37,14 +33,8 @@ some_reached (l ∷ ls) a h = elim (cases_Bool (eqb l.ctl.driver a)) [
 -- a word has a bit exactly if a link leads from its driver
 pub any_is_upper : (ls : List Link) (ws : List ℕ) (a : ℕ) (r : Bool) → AreMasks ls ws → HasAnyBit ws a r
     → r ≡ is_upper ls a
-any_is_upper ls ws a true m h = elim (cases_Bool (is_upper ls a)) [
-  | inl t ↦ sym t
-  | inr f ↦ absurd (false≢true (sym (none_reached ls a h.0 f) ∙ sym (m a h.0) ∙ h.1))
-]
-any_is_upper ls ws a false m h = elim (cases_Bool (is_upper ls a)) [
-  | inl t ↦ let some = some_reached ls a t in absurd (false≢true (sym (h some.0) ∙ m a some.0 ∙ some.1))
-  | inr f ↦ sym f
-]
+any_is_upper ls ws a true m h = grind (arith, none_reached ls a h.0, m a h.0)
+any_is_upper ls ws a false m h = grind (arith, some_reached ls a, m a)
 
 -- a word that is not 0 has a bit
 pub has_bits : (ws : List ℕ) (a w : ℕ) → get_or ws a 0 ≡ w → get_or ws a 0 < 2 ^ WORD_BITS

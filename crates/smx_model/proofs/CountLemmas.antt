@@ -1,7 +1,7 @@
 -- The number of occurrences of a number in a list.
 use Rattle.smx_model.proofs.Common.{◌≡◌, ℕ, ◌+◌, ◌≤◌, Bool, true, false, not, cond, eqb, List, [], ◌∷◌, ◌++◌, filter}
 use Rattle.smx_model.proofs.Common.{refl, sym, subst, arith, inl, inr, list_any, IsPermutation, cases_Bool, eq-eqb}
-use Rattle.smx_model.proofs.Common.{false≢true, with_inserted, in_rising_order, without_first, nat_tests}
+use Rattle.smx_model.proofs.Common.{false≢true, with_inserted, in_rising_order, without_first, cases_eq, ne_eqb}
 use Rattle.std.proofs.Common.{ltb}
 use Rattle.std.proofs.lemmas.List.Sorted.{IsPermutation-refl, IsPermutation-cons, IsPermutation-trans}
 use Rattle.std.proofs.lemmas.List.Sorted.{IsPermutation-sym, IsPermutation-to_front, IsPermutation-append_left}
@@ -59,16 +59,13 @@ swap_two x y xs = IsPermutation-append_left xs (x ∷ y ∷ []) (y ∷ x ∷ [])
 -- moving one number of a list to its front permutes it
 one_in_front : (n : ℕ) (xs : List ℕ) → 1 ≤ times n xs → IsPermutation (n ∷ without_one n xs) xs
 one_in_front n [] h = absurd (omega arith)
-one_in_front n (x ∷ xs) h =
-    grind (
-      arith,
-      nat_tests,
-      IsPermutation-refl (n ∷ xs),
-      IsPermutation-trans (n ∷ x ∷ without_one n xs) (x ∷ n ∷ without_one n xs) (x ∷ xs) (swap_two n x (without_one n xs)),
-      swap_two n x (without_one n xs),
-      IsPermutation-cons x (n ∷ without_one n xs) xs,
-      one_in_front n xs,
-    )
+one_in_front n (x ∷ xs) h = elim (cases_eq x n) [
+  | inl e ↦ rw (eq-eqb x n e) (subst (λ (y : ℕ). IsPermutation (n ∷ xs) (y ∷ xs)) (sym e) (IsPermutation-refl (n ∷ xs)))
+  | inr ne ↦ let z : eqb x n ≡ false = ne_eqb x n ne in
+      rw z (IsPermutation-trans (n ∷ x ∷ without_one n xs) (x ∷ n ∷ without_one n xs) (x ∷ xs)
+      (swap_two n x (without_one n xs))
+      (IsPermutation-cons x (n ∷ without_one n xs) xs (one_in_front n xs (omega (arith, rw z at h)))))
+]
 
 -- removing one occurrence of a number takes one from its count, and leaves the other counts
 times_without : (n m : ℕ) (xs : List ℕ) → 1 ≤ times m xs → times n xs ≡ cond (eqb m n) 1 0 + times n (without_one m xs)
@@ -84,14 +81,9 @@ none_counted (x ∷ xs) h = let k = h x in absurd (omega (arith, rw (eq-eqb x x 
 pub permuted : (xs ys : List ℕ) → ((n : ℕ) → times n xs ≡ times n ys) → IsPermutation xs ys
 permuted [] ys h = subst (λ (zs : List ℕ). IsPermutation [] zs) (sym (none_counted ys h)) (IsPermutation-refl [])
 permuted (x ∷ xs) ys h =
-    grind (
-      arith,
-      nat_tests,
-      h x,
-      times x ys,
-      IsPermutation-trans (x ∷ xs) (x ∷ without_one x ys) ys,
-      IsPermutation-cons x xs (without_one x ys),
-      permuted xs (without_one x ys),
-      times_without,
-      one_in_front x ys,
-    )
+    let k = h x in
+    let some : 1 ≤ times x ys = omega (arith, rw (eq-eqb x x refl) at k) in
+    IsPermutation-trans (x ∷ xs) (x ∷ without_one x ys) ys
+    (IsPermutation-cons x xs (without_one x ys)
+    (permuted xs (without_one x ys) (λ n. omega (arith, h n, times_without n x ys some))))
+    (one_in_front x ys some)

@@ -146,7 +146,10 @@ filled_accepted drivers p c process k h = of_rows _ drivers c process k (search 
 
 -- this holds of a place after each move
 filled_moved : (drivers : List DriverSpec) (p : Place) → MovesKeep (IsFilled p) drivers
-filled_moved drivers p = search (rules, moved_by (IsFilled p) drivers, filled_arrived drivers p, filled_left drivers p)
+filled_moved drivers p = record {
+  each = λ c q h. moved_by (IsFilled p) drivers c q h
+      (λ r m e. filled_arrived drivers p (after_leaving drivers c q) r m (filled_left drivers p c q h));
+}
 
 -- this holds of a place after a command
 filled_step : (drivers : List DriverSpec) (p : Place) (c : Configuration) (process : ℕ) (k : Command) → IsFilled p c

@@ -2,7 +2,7 @@
 use Rattle.smx_model.proofs.Common.{◌≡◌, ◌≢◌, ℕ, List, [], ◌∷◌, ◌++◌, length, map, refl, subst, arith}
 use Rattle.smx_model.proofs.Common.{AllPairs, range_with_len, Command, Entry, DriverSpec, Reply, step, Configuration}
 use Rattle.smx_model.proofs.Common.{empty, after, after_from, call_of, IsLegal, IsLegalFrom, taken_serials, IsLawful}
-use Rattle.smx_model.proofs.Common.{IsLawfulThroughout, nat_tests}
+use Rattle.smx_model.proofs.Common.{IsLawfulThroughout, sym}
 use Rattle.std.proofs.lemmas.List.FromFn.{get_or-range_with_len, length-range_with_len}
 use Rattle.smx_model.proofs.ConservationLemmas.{conserving, numbered_from_one}
 use Rattle.smx_model.proofs.KeptLemmas.{always_is_kept}
@@ -71,14 +71,14 @@ range_apart a n i j d lt within e = grind (arith, length-range_with_len, get_or-
 -- a legal history is lawful
 pub lawful : (drivers : List DriverSpec) (history : List Entry) → IsLegal drivers history → IsLawful drivers history
 lawful drivers history legal =
-    grind (
-      arith,
-      nat_tests,
-      always_is_kept drivers history,
-      numbered_from_one drivers history legal,
-      range_apart 1 (length (taken_serials history)),
-      conserving drivers history legal,
-    )
+    let sound = (always_is_kept drivers history).sound.links in
+    record {
+      no_cycle = sound.no_cycle;
+      lowers_apart = sound.lowers;
+      taken_once = subst (AllPairs (λ x y. x ≢ y)) (sym (numbered_from_one drivers history legal))
+          (range_apart 1 (length (taken_serials history)));
+      conserved = conserving drivers history legal;
+    }
 
 -- a legal history is lawful after each of its entries
 pub lawful_throughout : (drivers : List DriverSpec) (history : List Entry) → IsLegal drivers history

@@ -1,7 +1,8 @@
 -- The queues of a flow in order determine it.
 use Rattle.smx_model.proofs.Common.{◌≡◌, true, false, List, [], ◌∷◌, ◌++◌, refl, arith, AllByRecursion, nat_tests}
-use Rattle.smx_model.proofs.Common.{Place, DriverSpec, Configuration, QueuedMessage, queued_before, place_before}
-use Rattle.smx_model.proofs.Common.{same_place, IsInOrder, with_inserted, queue, after_move, rules}
+use Rattle.smx_model.proofs.Common.{Place, DriverSpec, Configuration, QueuedMessage, queued_before, place_before, inr}
+use Rattle.smx_model.proofs.Common.{same_place, IsInOrder, with_inserted, queue, after_move, rules, cases_Bool, inl}
+use Rattle.smx_model.proofs.Common.{is_at}
 use Rattle.smx_model.proofs.EachLemmas.{each_of_every, later_placed, later_without_first}
 use Rattle.smx_model.proofs.SettledLemmas.{moved_by}
 use Rattle.smx_model.proofs.SettlingLemmas.{same_place_is}
@@ -53,7 +54,11 @@ none_queued h (j ∷ hs) k lt n = rw (place_differs h.place k.place j.place lt n
 pub queue_placed : (hs : List QueuedMessage) (h : QueuedMessage) → IsInOrder hs
     → queue (with_inserted queued_before hs h) h.place ≡ queue hs h.place ++ h.message ∷ []
 queue_placed [] h o = rw (same_self h.place) refl
-queue_placed (k ∷ hs) h o = search (rules, none_queued, same_not_before, same_self, queue_placed hs h o.1)
+queue_placed (k ∷ hs) h o = elim (cases_Bool (queued_before h k)) [
+  | inl t ↦ rw (t, same_self h.place, none_queued h (k ∷ hs) k t (same_not_before k.place, o.0)) refl
+  | inr f ↦ elim (cases_Bool (is_at h.place k))
+      [ inl y ↦ rw (f, y, queue_placed hs h o.1) refl | inr n ↦ rw (f, n) (queue_placed hs h o.1) ]
+]
 
 -- a message that is inserted by its place leaves each other queue unchanged
 pub queue_elsewhere : (hs : List QueuedMessage) (h : QueuedMessage) (q : Place) → same_place h.place q ≡ false

@@ -1,8 +1,8 @@
 -- Paths, and the test for them.
 use Rattle.smx_model.proofs.Common.{◌≡◌, ℕ, zero, suc, ◌<◌, Bool, true, false, ◌&&◌, ◌||◌, eqb, List, [], ◌∷◌, ◌++◌}
 use Rattle.smx_model.proofs.Common.{length, get_or, refl, sym, subst, arith, inl, inr, length-append, find, Some}
-use Rattle.smx_model.proofs.Common.{false≢true, both_ways, or_cases, and_parts}
-use Rattle.smx_model.proofs.Common.{or_left, or_right, eqb-true, Link, HasNoCycle, reaches, nat_tests}
+use Rattle.smx_model.proofs.Common.{false≢true, both_ways, or_cases, and_parts, false_from_ne_true}
+use Rattle.smx_model.proofs.Common.{or_left, or_right, eqb-true, Link, HasNoCycle, reaches, cases_Bool, ◌∙◌}
 use Rattle.std.specs.List.{Contains}
 use Rattle.std.proofs.lemmas.List.Elements.{Contains-append_cases, Contains-append_left, Contains-append_right}
 use Rattle.smx_model.specs.Paths.{IsPath, Path}
@@ -53,19 +53,12 @@ path_over l ls a b h k = record {
 -- if the test says that one driver reaches another, a path leads from the first to the second
 pub reaches_path : (links : List Link) (a b : ℕ) → reaches links a b ≡ true → Path links a b
 reaches_path [] a b h = absurd (false≢true h)
-reaches_path (l ∷ ls) a b h =
-    grind (
-      arith,
-      nat_tests,
-      path_more ls (l ∷ ls),
-      is_later,
-      reaches_path ls a b,
-      path_over l ls a b,
-      comes_walk ls a l.ctl.driver (reaches_path ls a l.ctl.driver),
-      reaches_path ls a l.ctl.driver,
-      comes_walk ls l.lower.driver b (reaches_path ls l.lower.driver b),
-      reaches_path ls l.lower.driver b,
-    )
+reaches_path (l ∷ ls) a b h = elim (or_cases (reaches ls a b) _ h) [
+  | inl r ↦ path_more ls (l ∷ ls) (λ k. is_later k l ls) a b (reaches_path ls a b r)
+  | inr via ↦ let v = and_parts (comes ls a l.ctl.driver) (comes ls l.lower.driver b) via in
+      path_over l ls a b (comes_walk ls a l.ctl.driver (reaches_path ls a l.ctl.driver) v.0)
+      (comes_walk ls l.lower.driver b (reaches_path ls l.lower.driver b) v.1)
+]
 
 -- a driver that reaches a second one reaches every driver that the second is or reaches
 reaches_comes : (links : List Link) (a b c : ℕ)
@@ -148,16 +141,13 @@ head_to_end ls l k h = grind (arith, Contains-append_cases, Contains-append_righ
 
 -- paths are the same with one more link at the end or at the head
 pub reaches_push : (links : List Link) (l : Link) (a b : ℕ) → reaches (links ++ l ∷ []) a b ≡ reaches (l ∷ links) a b
-reaches_push links l a b =
-    grind (
-      arith,
-      nat_tests,
-      path_reaches (links ++ l ∷ []) a b,
-      path_more (l ∷ links) (links ++ l ∷ []) (head_to_end links l) a b,
-      head_to_end links l,
-      reaches_path (l ∷ links) a b,
-      path_reaches (l ∷ links) a b,
-      path_more (links ++ l ∷ []) (l ∷ links) (end_to_head links l) a b,
-      end_to_head links l,
-      reaches_path (links ++ l ∷ []) a b,
-    )
+reaches_push links l a b = elim (cases_Bool (reaches (l ∷ links) a b)) [
+  | inl t ↦ path_reaches (links ++ l ∷ []) a b
+      (path_more (l ∷ links) (links ++ l ∷ []) (head_to_end links l) a b (reaches_path (l ∷ links) a b t)) ∙ sym t
+  | inr f ↦
+      false_from_ne_true _
+      (λ t. both_ways _ f
+      (path_reaches (l ∷ links) a b
+      (path_more (links ++ l ∷ []) (l ∷ links) (end_to_head links l) a b
+      (reaches_path (links ++ l ∷ []) a b t)))) ∙ sym f
+]

@@ -30,14 +30,12 @@ not_same_turned p q h = false_from_ne_true _ (λ t. both_ways (same_place p q) h
 pub arrived_queue : (flow : List QueuedMessage) (p q : Place) (m : Message) → IsInOrder flow
     → queue (with_inserted queued_before flow (record { place = p; message = m })) q
     ≡ cond (same_place p q) (queue flow q ++ m ∷ []) (queue flow q)
-arrived_queue flow p q m o =
-    grind (
-      arith,
-      nat_tests,
-      same_place_is p q,
-      queue_placed flow (record { place = p; message = m }) o,
-      queue_elsewhere flow (record { place = p; message = m }) q,
-    )
+arrived_queue flow p q m o = elim (cases_Bool (same_place p q)) [
+  | inl t ↦
+      rw t (subst (λ (x : Place). queue (with_inserted queued_before flow (record { place = p; message = m })) x
+      ≡ queue flow x ++ m ∷ []) (same_place_is p q t) (queue_placed flow (record { place = p; message = m }) o))
+  | inr f ↦ rw f (queue_elsewhere flow (record { place = p; message = m }) q f)
+]
 
 -- the first message leaves
 
@@ -62,23 +60,17 @@ emptied_queue (k ∷ ks) goes q = grind (arith, same_place_is k.place q, emptied
 
 -- full marks
 
--- after the mark of a place is cleared that place is not full, and each other place is as full as before
-any_unmarked : (p q : Place) (ps : List Place) → list_any (same_place q) (filter (λ r. not (same_place p r)) ps)
-    ≡ cond (same_place p q) false (list_any (same_place q) ps)
-any_unmarked p q [] = elim (cases_Bool (same_place p q)) [ inl t ↦ rw t refl | inr f ↦ rw f refl ]
-any_unmarked p q (r ∷ rs) = grind (arith, any_unmarked p q rs, same_places p q r, same_place_is q r)
-
--- setting or clearing the mark of a place decides whether it is full, and each other place is as full as before
-pub marked_full : (p q : Place) (full : Bool) (ps : List Place)
-    → list_any (same_place q) (with_mark p full ps) ≡ cond (same_place p q) full (list_any (same_place q) ps)
-marked_full p q true ps = search (rules, any_of_placed (same_place q) place_before, any_unmarked p q ps)
-marked_full p q false ps = any_unmarked p q ps
-
 -- emptied places are not full, and each other place is as full as before
 pub emptied_full : (ps : List Place) (goes : Place → Bool) (q : Place)
     → list_any (same_place q) (filter (λ p. not (goes p)) ps) ≡ cond (goes q) false (list_any (same_place q) ps)
 emptied_full [] goes q = elim (cases_Bool (goes q)) [ inl t ↦ rw t refl | inr f ↦ rw f refl ]
 emptied_full (r ∷ rs) goes q = grind (arith, emptied_full rs goes q, same_place_is q r)
+
+-- setting or clearing the mark of a place decides whether it is full, and each other place is as full as before
+pub marked_full : (p q : Place) (full : Bool) (ps : List Place)
+    → list_any (same_place q) (with_mark p full ps) ≡ cond (same_place p q) full (list_any (same_place q) ps)
+marked_full p q true ps = search (rules, any_of_placed (same_place q) place_before, emptied_full ps (same_place p) q)
+marked_full p q false ps = emptied_full ps (same_place p) q
 
 -- the least movable place
 

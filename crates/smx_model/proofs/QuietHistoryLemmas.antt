@@ -3,10 +3,10 @@ use Rattle.smx_model.proofs.Common.{◌≡◌, ℕ, zero, suc, Bool, true, false
 use Rattle.smx_model.proofs.Common.{Result, Ok, Err, refl, rules, sym, ap, ◌∙◌, inl, inr, list_any, both_ways, and_from}
 use Rattle.smx_model.proofs.Common.{eq-eqb, false_from_ne_true, false≢true, or_cases, or_left, or_parts, or_right}
 use Rattle.smx_model.proofs.Common.{ProgramLists, is_hangup, Command, Entry, Which, DriverSpec, Link, LinkKind, Fault}
-use Rattle.smx_model.proofs.Common.{Place, StreamId, Transcript, outcome, step, done_outcome, link_outcome}
+use Rattle.smx_model.proofs.Common.{Place, StreamId, Transcript, outcome, step, done_outcome, link_outcome, cases_Bool}
 use Rattle.smx_model.proofs.Common.{receive_outcome, unlink_outcome, Configuration, empty, is_hung, IsReportOf, after}
 use Rattle.smx_model.proofs.Common.{after_from, HoldsPrograms, IsLegal, IsLegalFrom, IsKept, free_stream, live_leaf}
-use Rattle.smx_model.proofs.Common.{live_stream, mux_stream, Outcome, refuse, without_links, arith, nat_tests}
+use Rattle.smx_model.proofs.Common.{live_stream, mux_stream, Outcome, refuse, without_links, arith, or_from}
 use Rattle.std.specs.Prelude.{slice_index_or}
 use Rattle.std.specs.Option.{ok_or}
 use Rattle.smx_types.specs.Versions.{is_of_hangup, least_of_programs}
@@ -155,14 +155,10 @@ quiet_from : (drivers : List DriverSpec) (c : Configuration) (es : List Entry) �
     → IsLegalFrom drivers c es → list_any (λ e. is_hangup e.command) es ≡ false → list_any is_of_hangup es ≡ false
 quiet_from drivers c [] h none legal other = refl
 quiet_from drivers c (e ∷ es) h none legal other =
-    grind (
-      arith,
-      nat_tests,
-      quiet_step drivers c e.process e.command none,
-      quiet_from drivers (step drivers c e.process e.command).0 es (step_keeps drivers c e.process e.command h),
-      step_keeps drivers c e.process e.command h,
-      none_left drivers c e.process e.command h none,
-    )
+    let p = or_parts (is_hangup e.command) (list_any (λ e. is_hangup e.command) es) other in
+    or_from _ _ (or_from _ _ p.0 (ap tells_of_hangup (sym legal.0) ∙ quiet_step drivers c e.process e.command none p.0))
+    (quiet_from drivers (step drivers c e.process e.command).0 es (step_keeps drivers c e.process e.command h)
+    (none_left drivers c e.process e.command h none p.0) legal.1 p.1)
 
 -- a legal history without a hangup has no entry that only version 2 has
 pub quiet_replies : (drivers : List DriverSpec) (history : List Entry) → IsLegal drivers history
@@ -189,7 +185,8 @@ quiet_streams drivers history other = hungs_from drivers empty history (empty_ke
 of_process : (p : ℕ) (es : List Entry) → list_any (λ e. eqb e.process p && is_hangup e.command) es ≡ true
     → list_any is_hangup (commands_of p es) ≡ true
 of_process p [] h = h
-of_process p (e ∷ es) h = grind (arith, of_process p es)
+of_process p (e ∷ es) h = elim (cases_Bool (eqb e.process p))
+    [ inl t ↦ rw t (grind (arith, of_process p es, rw t at h)) | inr f ↦ rw f (of_process p es (rw f at h)) ]
 
 -- a process with an entry that is a hangup
 record OfSome (es : List Entry) : Type 0 where

@@ -2,7 +2,7 @@
 use Rattle.smx_model.proofs.Common.{◌≡◌, ℕ, zero, suc, ◌+◌, ◌<◌, Bool, false, leb, arith, List, [], ◌∷◌, length}
 use Rattle.smx_model.proofs.Common.{find, Some, Ok, range_with_len, AllByRecursion, Command, NoDriver}
 use Rattle.smx_model.proofs.Common.{DriverSpec, Link, Place, StreamId, outcome, Configuration, minors_of, IsKnown}
-use Rattle.smx_model.proofs.Common.{driver_of, stream_of, free_minor, after_move, nat_tests}
+use Rattle.smx_model.proofs.Common.{driver_of, stream_of, free_minor, after_move, rules}
 use Rattle.std.specs.Prelude.{position}
 use Rattle.std.specs.Str.{bytes_eq}
 use Rattle.std.proofs.lemmas.Bool.{leb-false}
@@ -11,6 +11,7 @@ use Rattle.smx_model.proofs.SettledLemmas.{moved_by}
 use Rattle.smx_model.proofs.LookupLemmas.{descriptor_of, there_is}
 use Rattle.smx_model.proofs.OutcomeLemmas.{IfAccepted}
 use Rattle.smx_model.proofs.EachLemmas.{each_filter, each_placed, each_push, each_find, each_map}
+use Rattle.smx_model.proofs.AcceptedLemmas.{of_rows}
 
 -- the drivers have the stream of each descriptor, and the controlling and the lower stream of each link
 pub record AreNamed (drivers : List DriverSpec) (c : Configuration) : Type 0 where
@@ -60,19 +61,17 @@ stream_known drivers c process fd s h e = grind (arith, descriptor_of c process 
 -- after an accepted command the drivers have the streams of descriptors and links
 pub named_accepted : (drivers : List DriverSpec) (c : Configuration) (process : ℕ) (k : Command) → AreNamed drivers c
     → IfAccepted (λ d r. AreNamed drivers d) (outcome drivers c process k)
-named_accepted drivers c process k h =
-    grind (
-      arith,
-      nat_tests,
-      each_placed,
-      each_push,
-      each_filter,
-      known_made,
-      minor_free,
-      minor_in,
-      driver_below,
-      stream_known,
-    )
+named_accepted drivers c process k h = of_rows _ drivers c process k (search (
+  each_placed,
+  each_push,
+  each_filter,
+  known_made,
+  minor_free,
+  minor_in,
+  driver_below,
+  stream_known,
+  rules,
+) depth 24)
 
 -- after a move the drivers have the streams of descriptors and links
 pub named_moved : (drivers : List DriverSpec) (c : Configuration) (p : Place) → AreNamed drivers c

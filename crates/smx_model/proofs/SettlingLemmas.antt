@@ -7,7 +7,7 @@ use Rattle.smx_model.proofs.Common.{Route, Side, StreamId, Configuration, Queued
 use Rattle.smx_model.proofs.Common.{same_place, same_stream, same_side, with_inserted, without_first}
 use Rattle.smx_model.proofs.Common.{HasNoCycle, reaches, first_message, is_full, after_settling}
 use Rattle.smx_model.proofs.Common.{after_settling_within, least_movable, after_move, next_open_place, is_movable}
-use Rattle.smx_model.proofs.Common.{next_place, place_below, place_above, IsSettled, AreLinksSound, nat_tests}
+use Rattle.smx_model.proofs.Common.{next_place, place_below, place_above, IsSettled, AreLinksSound, is_mux}
 use Rattle.smx_types.specs.declared.stream.Side.TheVariants as side
 use Rattle.smx_model.specs.Settling.{◌>>=◌}
 use Rattle.smx_model.proofs.SettledLemmas.{moved_by}
@@ -145,13 +145,11 @@ up_falls links binds n addr s q none below e = via (above_binding links binds s 
 next_falls : (drivers : List DriverSpec) (c : Configuration) (s : StreamId) (addr : ℕ) (side_ : Side) (q : Place)
     → CanSettle drivers c → next_place drivers c (record { stream = s; side = side_ }) addr ≡ Some q
     → rank c.links (length drivers) q < rank_by c.links (length drivers) s.driver side_
-next_falls drivers c s addr side.Write q h e =
-    grind (
-      arith,
-      nat_tests,
-      down_falls c.links c.routes c.hungs (length drivers) s.driver addr q h.no_cycle h.below (routes_lead drivers c h.routed),
-      routes_lead drivers c h.routed,
-    )
+next_falls drivers c s addr side.Write q h e = elim (cases_Bool (is_mux drivers s.driver)) [
+  | inl t ↦ down_falls c.links c.routes c.hungs (length drivers) s.driver addr q h.no_cycle h.below
+      (routes_lead drivers c h.routed) (rw t at e)
+  | inr f ↦ let k : None ≡ Some q = rw f at e in cc
+]
 next_falls drivers c s addr side.Read q h e = up_falls c.links c.binds (length drivers) addr s q h.no_cycle h.below e
 
 -- a place that a first message may go on to is the next place for its address, and not full

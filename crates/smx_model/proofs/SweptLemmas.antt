@@ -7,7 +7,7 @@ use Rattle.smx_model.proofs.Common.{HasNoCycle, without_first, first_message, wi
 use Rattle.smx_model.proofs.Common.{after_move_to, next_open_place, next_place, is_persistent, stands_within, exists}
 use Rattle.smx_model.proofs.Common.{Stands, IsSwept, list_any, eq-eqb, or_right, and_from, Command, Descriptor}
 use Rattle.smx_model.proofs.Common.{DriverSpec, Link, Message, Place, Side, StreamId, list_all, AllByRecursion}
-use Rattle.smx_model.proofs.Common.{nat_tests}
+use Rattle.smx_model.proofs.Common.{nat_tests, or_left}
 use Rattle.smx_model.proofs.IdleSweepLemmas.{swept_idle}
 use Rattle.smx_model.proofs.AcceptedLemmas.{of_rows}
 use Rattle.smx_model.proofs.OutcomeLemmas.{IfAccepted, if_ok}
@@ -75,14 +75,9 @@ stream_self t = and_from _ _ (eq-eqb t.driver t.driver refl) (eq-eqb t.minor t.m
 stream_exists : (drivers : List DriverSpec) (c : Configuration) (process fd : ℕ) (s : StreamId)
     → stream_of c process fd ≡ Ok s → exists drivers c s ≡ true
 stream_exists drivers c process fd s e =
-    grind (
-      arith,
-      nat_tests,
-      descriptor_of c process fd s e,
-      stands_more c.fds c.links 0 (length drivers) s (omega arith),
-      found_any (is_fd process fd),
-      stream_self s,
-    )
+    let d = descriptor_of c process fd s e in
+    stands_more c.fds c.links 0 (length drivers) s (omega arith)
+    (or_left _ _ (found_any (is_fd process fd) (λ x. same_stream x.stream s) c.fds d.0 d.1 (rw d.2 (stream_self s))))
 
 -- the stream of a descriptor that is not linked below exists
 pub free_exists : (drivers : List DriverSpec) (c : Configuration) (process fd : ℕ) (s : StreamId)

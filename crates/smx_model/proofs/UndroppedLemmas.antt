@@ -2,8 +2,8 @@
 use Rattle.smx_model.proofs.Common.{◌≡◌, ℕ, Bool, true, ◌&&◌, not, List, [], ◌∷◌, filter, arith, refl, sym, ap, ◌∙◌}
 use Rattle.smx_model.proofs.Common.{IfOk, AllPairs, and_parts, Command, DriverSpec, Link}
 use Rattle.smx_model.proofs.Common.{Reply, Place, done_outcome, outcome, Configuration, QueuedMessage, FreesOnly}
-use Rattle.smx_model.proofs.Common.{HaveFullPlacesMessages, in_rising_order, is_full, after_sweep}
-use Rattle.smx_model.proofs.Common.{serials, serials_that_left, without_links, without_queues_at, nowhere}
+use Rattle.smx_model.proofs.Common.{HaveFullPlacesMessages, in_rising_order, is_full, after_sweep, first_message}
+use Rattle.smx_model.proofs.Common.{serials, serials_that_left, without_links, without_queues_at, nowhere, inl}
 use Rattle.smx_types.specs.declared.reply.Reply.TheVariants as reply
 use Rattle.smx_model.specs.KeptConfigurations.{AreSerialsSound}
 use Rattle.smx_model.proofs.AcceptedLemmas.{of_rows}
@@ -86,25 +86,22 @@ none_freed c d some h same p freed = grind (arith, h p, never_freed, some p (and
 done_undropped : (drivers : List DriverSpec) (c new : Configuration) → AreSerialsSound c → HaveFullPlacesMessages c
     → IsPart c.flow new.flow → KeepsOrEmpties c new
     → IfAccepted (FreesUndropped c) (done_outcome drivers c new)
-done_undropped drivers c new sound some part keeps =
-    grind (
-      arith,
-      none_freed c (after_sweep drivers new) some (keeps_then c new (after_sweep drivers new) keeps (swept_keeps drivers new)),
-      keeps_then c new (after_sweep drivers new) keeps (swept_keeps drivers new),
-      swept_keeps drivers new,
-      whole c.flow (after_sweep drivers new).flow sound.apart (swept_part drivers c.flow new part),
-      swept_part drivers c.flow new part,
-    )
+done_undropped drivers c new sound some part keeps = record {
+  holds = λ e. none_freed c (after_sweep drivers new) some
+      (keeps_then c new (after_sweep drivers new) keeps (swept_keeps drivers new))
+      (whole c.flow (after_sweep drivers new).flow sound.apart (swept_part drivers c.flow new part) (named _ e));
+} where
+  named : (ns : List ℕ) → reply.Done ns ≡ reply.Done [] → ns ≡ []
+  named ns e = cc
 
 -- a change that keeps the messages and the full marks frees no place
 still_undropped : (drivers : List DriverSpec) (c new : Configuration) → AreSerialsSound c → HaveFullPlacesMessages c
     → new.flow ≡ c.flow → new.fulls ≡ c.fulls → IfAccepted (FreesUndropped c) (done_outcome drivers c new)
-still_undropped drivers c new sound some flow fulls =
-    grind (
-      arith,
-      done_undropped drivers c new sound some (same_part c.flow new.flow flow),
-      same_part c.flow new.flow flow,
-    )
+still_undropped drivers c new sound some flow fulls = done_undropped drivers c new sound some
+    (same_part c.flow new.flow flow) (λ q. inl (
+      ap (λ (ps : List Place). is_full (record c { fulls = ps }) q) fulls,
+      ap (λ (hs : List QueuedMessage). first_message hs q) flow,
+    ))
 
 -- the same of the removal of links
 removed_undropped : (drivers : List DriverSpec) (c : Configuration) (goes : Link → Bool) → AreSerialsSound c

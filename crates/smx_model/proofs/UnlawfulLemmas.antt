@@ -1,7 +1,7 @@
 -- The fault of each unlawful example, and of drivers that no configuration can have.
 use Rattle.smx_model.proofs.Common.{◌≡◌, ℕ, zero, suc, ◌<◌, Ok, Err, List, [], ◌∷◌, get_or, refl, sym, ap}
 use Rattle.smx_model.proofs.Common.{◌∙◌, inl, inr, arith, DriverSpec, Message, IsDriverList}
-use Rattle.smx_model.proofs.Common.{AreDropsAllowed, IsLawful, IsLawfulThroughout, IsTakenIn, Sends, nat_tests}
+use Rattle.smx_model.proofs.Common.{AreDropsAllowed, IsLawful, IsLawfulThroughout, IsTakenIn, Sends}
 use Rattle.std.proofs.lemmas.List.FromFn.{get_or-map-range_with_len}
 use Rattle.std.proofs.lemmas.List.Sorted.{IsPermutation-refl, length_permutation, sum_by-IsPermutation}
 use Rattle.smx_types.specs.declared.driver.SpecFault.TheVariants.{BadMinors}
@@ -16,12 +16,11 @@ use Rattle.smx_model.proofs.KeptLemmas.{always_is_kept}
 
 -- driver 1 is below itself
 pub alone : IsLawfulEnd [] (example.end_with example.below_itself) → ⊥
-alone h =
-    grind (
-      arith,
-      nat_tests,
-      h.no_cycle 1 (record { path = example.link 2 1 1 ∷ []; some = omega arith; leads = ((1, omega arith, refl), refl, refl) }),
-    )
+alone h = h.no_cycle 1 (record {
+  path = example.link 2 1 1 ∷ [];
+  some = omega arith;
+  leads = ((1, omega arith, refl), refl, refl);
+})
 
 -- drivers 1, 2 and 3 form a cycle
 pub round : IsLawfulEnd [] (example.end_with example.in_a_round) → ⊥

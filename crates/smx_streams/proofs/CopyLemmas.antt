@@ -1,15 +1,14 @@
 -- Records that are copied stream by stream.
 use Rattle.smx_model.proofs.Common.{◌≡◌, ℕ, suc, ◌+◌, ◌<◌, true, false, List, [], ◌∷◌, length, map, get_or, Option}
 use Rattle.smx_model.proofs.Common.{if◌then◌else◌, refl, sym, ap, ◌∙◌, arith, inl, inr, cases_Bool, nat_tests}
-use Rattle.smx_model.proofs.Common.{get_or_past, StreamId, pair_before}
+use Rattle.smx_model.proofs.Common.{get_or_past, StreamId, pair_before, rules}
 use Rattle.std.proofs.Common.{drop}
 use Rattle.std.proofs.Math.ListN.{get_or-map}
 use Rattle.std.proofs.lemmas.List.{length-map}
 use Rattle.slab.specs.Slab.{Slab}
 use Rattle.smx_streams.specs.declared.records.Record.{Record}
 use Rattle.smx_streams.specs.HungRows.{flag_at}
-use Rattle.smx_streams.specs.RecordGrids.{Grid, Uses, HasRows, IsCopyBefore}
-use Rattle.smx_streams.specs.RecordGrids.{holds_of, hung_of, opens_of, record_of_key, uses_of}
+use Rattle.smx_streams.specs.RecordGrids.{Grid, Uses, HasRows, IsCopyBefore, uses_of}
 use Rattle.smx_streams.specs.StreamTables.{number_at}
 
 -- rows
@@ -21,19 +20,12 @@ same_lengths f (row ∷ rows) = λ i. length-map row f i ∷ same_lengths f rows
 
 -- each driver has as many numbers and flags as minors
 pub has_rows : (grid : Grid) (records : Slab Record) → HasRows (uses_of grid records)
-has_rows grid records = record {
-  opens = same_lengths (λ key. opens_of (record_of_key records key)) grid;
-  holds = same_lengths (λ key. holds_of (record_of_key records key)) grid;
-  hungs = same_lengths (λ key. hung_of (record_of_key records key)) grid;
-}
+has_rows grid records = search (rules, same_lengths)
 
 -- a look-up past a row's end returns the default
 past_row : {X : Type 0} (d : X) (rows : List (List X)) (minors : List ℕ) (a b : ℕ) → map length rows ≡ minors
     → (get_or minors a 0 < b + 1) → get_or (get_or rows a []) b d ≡ d
-past_row d rows minors a b long past =
-    let size : length (get_or rows a []) ≡ get_or minors a 0 =
-    sym (get_or-map length rows a []) ∙ ap (λ (ns : List ℕ). get_or ns a 0) long in
-    get_or_past (get_or rows a []) b d (omega (arith, size, past))
+past_row d rows minors a b long past = grind (arith, get_or-map length rows a, get_or_past (get_or rows a []) b d)
 
 -- two lists of the same length with equal elements at each index are equal
 same_items : {X : Type 0} (d : X) (xs ys : List X) → length xs ≡ length ys
@@ -68,13 +60,7 @@ not_before s = grind (arith, nat_tests)
 pub none_copied : (u v : Uses) → HasRows u → HasRows v → v.minors ≡ u.minors
     → ((s : StreamId) → (number_at v.opens s ≡ 0) × (number_at v.holds s ≡ 0))
     → ((s : StreamId) → flag_at v.hungs s ≡ false) → IsCopyBefore u 0 0 v
-none_copied u v own rows minors none hungs = record {
-  rows = (own, rows);
-  minors = minors;
-  opens = λ x. rw (none_before x) (none x).0;
-  holds = λ x. rw (none_before x) (none x).1;
-  hungs = λ x. rw (none_before x) (hungs x);
-}
+none_copied u v own rows minors none hungs = grind (arith, none_before)
 
 -- the end of a driver's row
 
@@ -98,30 +84,14 @@ row_end x d n none new old before past = elim (cases_Bool (pair_before x.driver 
 
 -- the streams of one more driver are copied
 pub driver_copied : (u v : Uses) (d n : ℕ) → n ≡ get_or u.minors d 0 → IsCopyBefore u d n v → IsCopyBefore u (d + 1) 0 v
-driver_copied u v d n is h = record {
-  rows = h.rows;
-  minors = h.minors;
-  opens = λ x. row_end x d n 0 (number_at v.opens x) (number_at u.opens x) (h.opens x)
-      (λ same past. past_row 0 u.opens u.minors x.driver x.minor h.rows.0.opens (far x same past));
-  holds = λ x. row_end x d n 0 (number_at v.holds x) (number_at u.holds x) (h.holds x)
-      (λ same past. past_row 0 u.holds u.minors x.driver x.minor h.rows.0.holds (far x same past));
-  hungs = λ x. row_end x d n false (flag_at v.hungs x) (flag_at u.hungs x) (h.hungs x)
-      (λ same past. past_row false u.hungs u.minors x.driver x.minor h.rows.0.hungs (far x same past));
-} where
-  far : (x : StreamId) → x.driver ≡ d → n < x.minor + 1 → get_or u.minors x.driver 0 < x.minor + 1
-  far x same past = rw (same, ← is) past
+driver_copied u v d n is h = grind (arith, row_end, past_row)
 
 -- all streams
 
 -- the number or flag at a stream, after all streams are copied
 whole_at : {X : Type 0} (x : StreamId) (d : ℕ) (none new old : X)
     → new ≡ (if pair_before x.driver x.minor d 0 then old else none) → (d < x.driver + 1 → old ≡ none) → new ≡ old
-whole_at x d none new old before past = elim (cases_Bool (pair_before x.driver x.minor d 0)) [
-  | inl t ↦ before ∙ rw t refl
-  | inr f ↦
-      let behind : d < x.driver + 1 = grind (arith, nat_tests) in
-      before ∙ rw f (sym (past behind))
-]
+whole_at x d none new old before past = grind (arith, nat_tests)
 
 -- the copy has the same numbers and flags
 pub all_copied : (u v : Uses) → IsCopyBefore u (length u.minors) 0 v → v ≡ u

@@ -1,7 +1,6 @@
 -- Numbers and keys by driver and minor.
 use Rattle.smx_model.proofs.Common.{◌≡◌, ℕ, zero, suc, ◌<◌, true, List, [], ◌∷◌, length, map, get_or, replicate, Option}
-use Rattle.smx_model.proofs.Common.{Some, None, if◌then◌else◌, refl, sym, ap, ◌∙◌, inl, inr, nat_lt, cases_eq, cases_lt}
-use Rattle.smx_model.proofs.Common.{eq-eqb, lt-ltb, ne_eqb, get_or_past, StreamId, same_stream}
+use Rattle.smx_model.proofs.Common.{Some, None, if◌then◌else◌, refl, ap, ◌∙◌, get_or_past, StreamId, same_stream, arith}
 use Rattle.std.proofs.Common.{set}
 use Rattle.std.proofs.Math.ListN.{get_or-map}
 use Rattle.std.proofs.lemmas.List.{get_or-set_same, get_or-set_other, length-set, length-replicate}
@@ -46,26 +45,7 @@ hungs_at grid records s = read_at (λ key. hung_of (record_of_key records key)) 
 pub key_set : (grid : Grid) (s : StreamId) (key : Option ℕ) (x : StreamId) → s.driver < length grid
     → s.minor < length (get_or grid s.driver [])
     → key_at (with_key grid s key) x ≡ (if same_stream x s then key else key_at grid x)
-key_set grid s key x driver minor = elim (cases_eq x.driver s.driver) [
-  | inl d ↦
-      let row : get_or (with_key grid s key) x.driver []
-      ≡ set (get_or grid s.driver []) s.minor key = ap (λ n. get_or (with_key grid s key) n []) d
-      ∙ get_or-set_same grid s.driver (set (get_or grid s.driver []) s.minor key) [] driver in
-      elim (cases_eq x.minor s.minor) [
-        | inl m ↦ rw (eq-eqb x.driver s.driver d, eq-eqb x.minor s.minor m)
-            (ap (λ (r : List (Option ℕ)). get_or r x.minor None) row
-            ∙ ap (λ n. get_or (set (get_or grid s.driver []) s.minor key) n None) m
-            ∙ get_or-set_same (get_or grid s.driver []) s.minor key None minor)
-        | inr m ↦
-            rw (eq-eqb x.driver s.driver d, ne_eqb x.minor s.minor m)
-            (ap (λ (r : List (Option ℕ)). get_or r x.minor None) row
-            ∙ get_or-set_other (get_or grid s.driver []) s.minor x.minor key None m
-            ∙ ap (λ n. get_or (get_or grid n []) x.minor None) (sym d))
-      ]
-  | inr d ↦ rw (ne_eqb x.driver s.driver d)
-      (ap (λ (r : List (Option ℕ)). get_or r x.minor None)
-      (get_or-set_other grid s.driver x.driver (set (get_or grid s.driver []) s.minor key) [] d))
-]
+key_set grid s key x driver minor = grind (arith, get_or-set_same, get_or-set_other)
 
 -- each driver keeps its number of minors
 pub lengths_set : (grid : Grid) (s : StreamId) (key : Option ℕ) → map length (with_key grid s key) ≡ map length grid
@@ -79,25 +59,17 @@ lengths_set grid s key = by grid s.driver where
 
 -- the driver of a stream with a key exists
 pub has_driver : (grid : Grid) (s : StreamId) (key : ℕ) → key_at grid s ≡ Some key → s.driver < length grid
-has_driver grid s key h = elim (cases_lt s.driver (length grid)) [
-  | inl lt ↦ lt
-  | inr past ↦ let none : key_at grid s ≡ None = ap (λ (row : List (Option ℕ)). get_or row s.minor None)
-      (get_or_past grid s.driver [] past) in absurd cc
-]
+has_driver grid s key h = grind (arith, get_or_past grid s.driver)
 
 -- the minor of a stream with a key is in the row of its driver
 pub has_minor : (grid : Grid) (s : StreamId) (key : ℕ) → key_at grid s ≡ Some key
     → s.minor < length (get_or grid s.driver [])
-has_minor grid s key h = elim (cases_lt s.minor (length (get_or grid s.driver []))) [
-  | inl lt ↦ lt
-  | inr past ↦ let none : key_at grid s ≡ None = get_or_past (get_or grid s.driver []) s.minor None past in absurd cc
-]
+has_minor grid s key h = grind (arith, get_or_past (get_or grid s.driver []) s.minor None)
 
 -- a stream with a key is in range by its driver's number of minors
 pub in_range_of_key : (grid : Grid) (s : StreamId) (key : ℕ) → key_at grid s ≡ Some key
     → is_in_range (map length grid) s.driver s.minor ≡ true
-in_range_of_key grid s key h = ap (λ n. nat_lt s.minor n) (get_or-map length grid s.driver [])
-    ∙ lt-ltb s.minor (length (get_or grid s.driver [])) (has_minor grid s key h)
+in_range_of_key grid s key h = grind (arith, get_or-map length grid s.driver, has_minor grid s key h)
 
 -- no keys
 
@@ -118,5 +90,4 @@ no_keys minors s = by minors s.driver where
 -- if there are no keys, each driver has the given number of minors
 pub no_keys_lengths : (minors : List ℕ) → map length (map (λ n. replicate {A = Option ℕ} n None) minors) ≡ minors
 no_keys_lengths [] = refl
-no_keys_lengths (n ∷ ns) = ap (λ m. m ∷ map length (map (λ n. replicate {A = Option ℕ} n None) ns))
-    (length-replicate {A = Option ℕ} n None) ∙ ap (λ ms. n ∷ ms) (no_keys_lengths ns)
+no_keys_lengths (n ∷ ns) = grind (arith, length-replicate, no_keys_lengths ns)

@@ -1,8 +1,8 @@
 -- The hung-up streams after a change of the records.
-use Rattle.smx_model.proofs.Common.{◌≡◌, ℕ, ◌+◌, ◌<◌, Bool, true, false, ◌&&◌, ◌||◌, not, List, [], ◌∷◌, filter}
-use Rattle.smx_model.proofs.Common.{if◌then◌else◌, refl, sym, ap, subst, ◌∙◌, arith, inl, inr, nat_lt, cases_Bool}
-use Rattle.smx_model.proofs.Common.{false≢true, lt-ltb, or_cases, or_left, or_right, nat_tests, Descriptor, StreamId}
-use Rattle.smx_model.proofs.Common.{same_stream, is_fd, stream_before, is_hung, with_hung, IsRising, is_named}
+use Rattle.smx_model.proofs.Common.{◌≡◌, ℕ, ◌+◌, ◌<◌, Bool, true, false, ◌&&◌, ◌||◌, List, [], ◌∷◌, filter}
+use Rattle.smx_model.proofs.Common.{if◌then◌else◌, refl, sym, ap, ◌∙◌, arith, nat_lt}
+use Rattle.smx_model.proofs.Common.{false≢true, or_left, nat_tests, Descriptor, StreamId}
+use Rattle.smx_model.proofs.Common.{same_stream, stream_before, is_hung, with_hung, IsRising, is_named, rules}
 use Rattle.smx_model.proofs.EachLemmas.{later_filter}
 use Rattle.smx_model.proofs.HungListLemmas.{hung_kept_by, hung_with, one_list}
 use Rattle.smx_model.proofs.RisingLemmas.{rising_with_hung}
@@ -27,14 +27,12 @@ AreNames u t = (s : StreamId) → number_at u.opens s ≡ names_of s t.fds
 -- the same number at one place
 pub same_number : (grid : List (List ℕ)) (x s : StreamId) (n : ℕ) → n ≡ number_at grid s
     → (if same_stream x s then n else number_at grid x) ≡ number_at grid x
-same_number grid x s n e = elim (cases_Bool (same_stream x s))
-    [ inl t ↦ rw t (e ∙ ap (number_at grid) (sym (same_is x s t))) | inr f ↦ rw f refl ]
+same_number grid x s n e = grind (arith, same_is x s)
 
 -- a stream exists exactly if it has at least one descriptor or hold
 exists_by : (u : Uses) (t : StreamTable) (x : StreamId) → AreNames u t → t.holds ≡ u.holds
     → exists t x ≡ nat_lt 0 (number_at u.opens x + number_at u.holds x)
-exists_by u t x names holds = sym (used_exists t x (number_at u.opens x) (names x))
-    ∙ ap (λ (h : List (List ℕ)). nat_lt 0 (number_at u.opens x + number_at h x)) holds
+exists_by u t x names holds = grind (arith, used_exists t x (number_at u.opens x) (names x), names x)
 
 -- a test that every hung-up stream passes removes none
 and_true : (a b : Bool) → (b ≡ true → a ≡ true) → b ≡ (a && b)
@@ -45,39 +43,19 @@ and_true false false h = refl
 -- if each hung-up stream has a descriptor or a hold, testing for one in addition to the flag changes nothing
 used_stays : (u : Uses) (x : StreamId) → AreUsed u
     → flag_at u.hungs x ≡ (nat_lt 0 (number_at u.opens x + number_at u.holds x) && flag_at u.hungs x)
-used_stays u x used =
-    and_true _ (flag_at u.hungs x) (λ t. lt-ltb 0 (number_at u.opens x + number_at u.holds x) (used x t))
+used_stays u x used = grind (arith, and_true, used x)
 
 -- the remaining hung-up streams as a list
 made : (old new : StreamTable) → IsRising stream_before new.hungs → IsRising stream_before old.hungs
     → ((x : StreamId) → is_hung new.hungs x ≡ (exists new x && is_hung old.hungs x)) → LeavesHungs old new
-made old new rise was each = one_list new.hungs (filter (exists new) old.hungs) rise
-    (later_filter _ (exists new) old.hungs was) (λ x. each x ∙ sym (hung_kept_by (exists new) x old.hungs))
+made old new rise was each = grind (arith, one_list, later_filter, hung_kept_by)
 
 -- if the numbers of one stream change, the streams that remain hung up are those that exist
 each_left : (u v : Uses) (old new : StreamTable) (s : StreamId) (o h : ℕ)
     → AreSet u s o h (nat_lt 0 (o + h) && flag_at u.hungs s) v → AreUsed u → AreNames v new → new.holds ≡ v.holds
     → new.hungs ≡ hungs_from 0 v.hungs → old.hungs ≡ hungs_from 0 u.hungs → (x : StreamId)
     → is_hung new.hungs x ≡ (exists new x && is_hung old.hungs x)
-each_left u v old new s o h set used names holds now was x =
-    ap (λ (hs : List StreamId). is_hung hs x) now ∙ flag_tells v.hungs x ∙ set.hungs_now x
-    ∙ elim (cases_Bool (same_stream x s)) [
-      | inl t ↦
-          let opens : number_at v.opens x ≡ o = rw t at (set.opens_now x) in
-          let held : number_at v.holds x ≡ h = rw t at (set.holds_now x) in
-          rw t (both (nat_lt 0 (o + h)) (exists new x) _ _ (sym (exists_by v new x names holds ∙ rw (opens, held) refl))
-          (ap (flag_at u.hungs) (sym (same_is x s t)) ∙ before))
-      | inr f ↦
-          let opens : number_at v.opens x ≡ number_at u.opens x = rw f at (set.opens_now x) in
-          let held : number_at v.holds x ≡ number_at u.holds x = rw f at (set.holds_now x) in
-          rw f (used_stays u x used ∙ both (nat_lt 0 (number_at u.opens x + number_at u.holds x)) (exists new x) _ _
-          (sym (exists_by v new x names holds ∙ rw (opens, held) refl)) before)
-    ] where
-      before : flag_at u.hungs x ≡ is_hung old.hungs x
-      before = sym (ap (λ (hs : List StreamId). is_hung hs x) was ∙ flag_tells u.hungs x)
-
-      both : (a b c d : Bool) → a ≡ b → c ≡ d → (a && c) ≡ (b && d)
-      both a b c d e f = cc
+each_left u v old new s o h set used names holds now was x = grind (arith, flag_tells, exists_by, same_is, used_stays)
 
 -- if the numbers of one stream change, the list of hung-up streams keeps those that exist
 pub left : (u v : Uses) (old new : StreamTable) (s : StreamId) (o h : ℕ)
@@ -91,25 +69,18 @@ pub holds_changed : (t : Inside) (v : Uses) (s : StreamId) (h : ℕ)
     → AreSet t.records s (number_at t.records.opens s) h
     (nat_lt 0 (number_at t.records.opens s + h) && flag_at t.records.hungs s) v
     → IsWhole t → HasHolds (table_of t) s h (table_of (record t { records = v }))
-holds_changed t v s h set whole = record {
-  minors = set.minors;
-  fds = refl;
-  holds = set.holds_now;
-  hungs = left t.records v (table_of t) (table_of (record t { records = v })) s _ _ set
-      whole.records.hung (λ x. set.opens_now x ∙ same_number t.records.opens x s _ refl ∙ whole.named x) refl refl refl;
-}
+holds_changed t v s h set whole =
+    grind (
+      arith,
+      left t.records v (table_of t) (table_of (record t { records = v })) s _ _ set whole.records.hung,
+      same_number t.records.opens,
+    )
 
 -- if no numbers change, a stream has hung up exactly if it exists and had hung up
 each_kept : (u : Uses) (old new : StreamTable) → AreUsed u → AreNames u new → new.holds ≡ u.holds
     → new.hungs ≡ hungs_from 0 u.hungs → old.hungs ≡ new.hungs → (x : StreamId)
     → is_hung new.hungs x ≡ (exists new x && is_hung old.hungs x)
-each_kept u old new used names holds now was x =
-    let flag : is_hung new.hungs x ≡ flag_at u.hungs x = ap (λ (hs : List StreamId). is_hung hs x) now
-    ∙ flag_tells u.hungs x in
-    flag ∙ used_stays u x used ∙ both _ _ _ _ (sym (exists_by u new x names holds))
-    (sym (ap (λ (hs : List StreamId). is_hung hs x) was ∙ flag)) where
-      both : (a b c d : Bool) → a ≡ b → c ≡ d → (a && c) ≡ (b && d)
-      both a b c d e f = cc
+each_kept u old new used names holds now was x = grind (arith, flag_tells, used_stays, exists_by)
 
 -- if no numbers change and the same streams have hung up, all of them exist and remain
 pub kept : (u : Uses) (old new : StreamTable) → AreUsed u → AreNames u new → new.holds ≡ u.holds
@@ -120,32 +91,22 @@ kept u old new used names holds now was = made old new (rw now (hungs_rise 0 u.h
 -- if the flag of one stream stays, all flags stay
 each_same : (u v : Uses) (s : StreamId) (o h : ℕ) → AreSet u s o h (flag_at u.hungs s) v → (x : StreamId)
     → is_hung (hungs_from 0 v.hungs) x ≡ is_hung (hungs_from 0 u.hungs) x
-each_same u v s o h set x = flag_tells v.hungs x ∙ set.hungs_now x
-    ∙ elim (cases_Bool (same_stream x s)) [
-      | inl t ↦ rw t (ap (flag_at u.hungs) (sym (same_is x s t)))
-      | inr f ↦
-          rw f refl
-    ] ∙ sym (flag_tells u.hungs x)
+each_same u v s o h set x = grind (arith, flag_tells v.hungs x, same_is x s, flag_tells u.hungs x)
 
 -- if the numbers of one stream change but not its flag, the same streams have hung up
 pub hung_same : (u v : Uses) (s : StreamId) (o h : ℕ) → AreSet u s o h (flag_at u.hungs s) v
     → hungs_from 0 v.hungs ≡ hungs_from 0 u.hungs
-hung_same u v s o h set = one_list (hungs_from 0 v.hungs) (hungs_from 0 u.hungs) (hungs_rise 0 v.hungs)
-    (hungs_rise 0 u.hungs) (each_same u v s o h set)
+hung_same u v s o h set = search (rules, one_list, hungs_from, hungs_rise, each_same)
 
 -- if a stream gets one more hold, the same streams have hung up
 pub hung_still : (u v : Uses) (s : StreamId) (o h : ℕ)
     → AreSet u s o (h + 1) (nat_lt 0 (o + (h + 1)) && flag_at u.hungs s) v → hungs_from 0 v.hungs ≡ hungs_from 0 u.hungs
-hung_still u v s o h set = hung_same u v s o (h + 1)
-    (subst (λ (b : Bool). AreSet u s o (h + 1) b v) (counted (flag_at u.hungs s)) set) where
-      counted : (f : Bool) → (nat_lt 0 (o + (h + 1)) && f) ≡ f
-      counted f = rw (lt-ltb 0 (o + (h + 1)) (omega arith)) refl
+hung_still u v s o h set = grind (arith, hung_same u v s o (h + 1))
 
 -- if the flag of one stream is set, a stream has hung up exactly if it had, or is that one
 each_now : (u v : Uses) (s : StreamId) (o h : ℕ) → AreSet u s o h true v → (x : StreamId)
     → is_hung (hungs_from 0 v.hungs) x ≡ (same_stream x s || is_hung (hungs_from 0 u.hungs) x)
-each_now u v s o h set x = flag_tells v.hungs x ∙ set.hungs_now x
-    ∙ elim (cases_Bool (same_stream x s)) [ inl t ↦ rw t refl | inr f ↦ rw f (sym (flag_tells u.hungs x)) ]
+each_now u v s o h set x = grind (arith, flag_tells v.hungs x, flag_tells u.hungs x)
 
 -- if the flag of one stream is set, the same streams have hung up, and that one
 pub hung_now : (u v : Uses) (s : StreamId) (o h : ℕ) → AreSet u s o h true v
@@ -159,12 +120,8 @@ hung_now u v s o h set = one_list (hungs_from 0 v.hungs) (with_hung s (hungs_fro
 
 -- the streams whose flags are set are in order and exist
 pub are_sound : (t : Inside) → IsWhole t → AreHungsSound (table_of t)
-are_sound t whole = record {
-  rise = hungs_rise 0 t.records.hungs;
-  exist = λ x h. exists_by t.records (table_of t) x whole.named refl
-      ∙ lt-ltb 0 (number_at t.records.opens x + number_at t.records.holds x)
-      (whole.records.hung x (sym (flag_tells t.records.hungs x) ∙ h));
-}
+are_sound t whole =
+    grind (arith, hungs_rise 0 t.records.hungs, exists_by t.records (table_of t), flag_tells t.records.hungs)
 
 -- if no flag is set, no stream has hung up
 pub none_hung : (rows : List (List Bool)) → ((s : StreamId) → flag_at rows s ≡ false) → hungs_from 0 rows ≡ []
@@ -179,34 +136,20 @@ none_hung rows h = by (hungs_from 0 rows) (λ s. flag_tells rows s ∙ h s) wher
 named_before : (keep : Descriptor → Bool) (ds : List Descriptor) (s : StreamId) → is_named (filter keep ds) s ≡ true
     → is_named ds s ≡ true
 named_before keep [] s h = h
-named_before keep (d ∷ ds) s h = elim (cases_Bool (keep d)) [
-  | inl k ↦ let t : (same_stream d.stream s || is_named (filter keep ds) s) ≡ true = rw k at h in
-      elim (or_cases (same_stream d.stream s) (is_named (filter keep ds) s) t)
-      [ inl a ↦ or_left _ _ a | inr b ↦ or_right _ _ (named_before keep ds s b) ]
-  | inr k ↦ or_right _ _ (named_before keep ds s (rw k at h))
-]
+named_before keep (d ∷ ds) s h = grind (arith, named_before keep ds s)
 
 -- a stream that exists after one descriptor is closed existed before
 exists_before : (old new : StreamTable) (p n : ℕ) (x : StreamId) → HasOneLess old p n new → exists new x ≡ true
     → exists old x ≡ true
-exists_before old new p n x less h = elim (or_cases (is_named new.fds x) (nat_lt 0 (number_at new.holds x)) h) [
-  | inl a ↦
-      or_left _ _ (named_before (λ d. not (is_fd p n d)) old.fds x
-      (ap (λ (ds : List Descriptor). is_named ds x) (sym less.fds) ∙ a))
-  | inr b ↦ or_right _ _ (ap (nat_lt 0) (sym (less.holds x)) ∙ b)
-]
+exists_before old new p n x less h = grind (arith, named_before, less.holds x)
 
 -- filtering by a test and then by a stricter one is filtering by the stricter one
 pub twice : {X : Type 0} (p q : X → Bool) (xs : List X) → ((x : X) → p x ≡ true → q x ≡ true)
     → filter p (filter q xs) ≡ filter p xs
 twice p q [] h = refl
-twice p q (x ∷ xs) h = elim (cases_Bool (p x)) [
-  | inl t ↦ rw (h x t, t) (ap (λ (ys : List _). x ∷ ys) (twice p q xs h))
-  | inr f ↦ elim (cases_Bool (q x)) [ inl u ↦ rw (u, f) (twice p q xs h) | inr u ↦ rw (u, f) (twice p q xs h) ]
-]
+twice p q (x ∷ xs) h = grind (arith, h x, twice p q xs h)
 
 -- after one more descriptor is closed, the hung-up streams are those of the first list that still exist
 pub left_again : (old new : StreamTable) (p n : ℕ) (was first : List StreamId) → HasOneLess old p n new
     → was ≡ filter (exists old) first → filter (exists new) was ≡ filter (exists new) first
-left_again old new p n was first less e =
-    ap (filter (exists new)) e ∙ twice (exists new) (exists old) first (λ x. exists_before old new p n x less)
+left_again old new p n was first less e = grind (arith, twice, exists_before)

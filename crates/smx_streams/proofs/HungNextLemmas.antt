@@ -1,7 +1,7 @@
 -- The streams from a minor of a driver on, in ordered lists of streams.
 use Rattle.smx_model.proofs.Common.{◌≡◌, ℕ, ◌+◌, ◌<◌, ◌≤◌, true, false, not, List, [], ◌∷◌, length, get_or, None, refl}
-use Rattle.smx_model.proofs.Common.{ap, arith, inl, inr, slice_get, cases_Bool, cases_eq, cases_lt, ltb-true, or_left}
-use Rattle.smx_model.proofs.Common.{or_parts, or_right, nat_tests, get_or_past, StreamId, pair_before, same_stream}
+use Rattle.smx_model.proofs.Common.{ap, arith, inl, inr, slice_get, cases_Bool, cases_eq, ltb-true, or_left}
+use Rattle.smx_model.proofs.Common.{or_right, nat_tests, get_or_past, StreamId, pair_before, same_stream}
 use Rattle.smx_model.proofs.Common.{stream_before, is_hung, ComesBefore, IsRising}
 use Rattle.std.proofs.lemmas.Option.{slice_get_cases}
 use Rattle.smx_streams.specs.HungRows.{streams_from}
@@ -12,9 +12,7 @@ use Rattle.smx_streams.proofs.HungRowLemmas.{stream}
 -- all streams are from the first minor of the first driver on
 pub from_first : (xs : List StreamId) → streams_from 0 0 xs ≡ xs
 from_first [] = refl
-from_first (x ∷ xs) =
-    let first : not (pair_before x.driver x.minor 0 0) ≡ true = grind (arith, nat_tests) in
-    rw first (ap (λ (ys : List StreamId). x ∷ ys) (from_first xs))
+from_first (x ∷ xs) = grind (arith, nat_tests, from_first xs)
 
 -- any stream other than that of a minor is from that minor on exactly if it is from the next one on
 from_more : (d n : ℕ) (x : StreamId) → same_stream x (stream d n) ≡ false
@@ -25,56 +23,25 @@ from_more d n x other = grind (arith, nat_tests)
 pub passed : (d n : ℕ) (xs : List StreamId) → is_hung xs (stream d n) ≡ false
     → streams_from d n xs ≡ streams_from d (n + 1) xs
 passed d n [] h = refl
-passed d n (x ∷ xs) h =
-    let p = or_parts (same_stream x (stream d n)) (is_hung xs (stream d n)) h in
-    let e = from_more d n x p.0 in
-    let rest = passed d n xs p.1 in
-    elim (cases_Bool (not (pair_before x.driver x.minor d (n + 1)))) [
-      | inl t ↦ rw (e, t) (ap (λ (ys : List StreamId). x ∷ ys) rest)
-      | inr g ↦ rw (e, g) rest
-    ]
+passed d n (x ∷ xs) h = grind (arith, stream d n, from_more d n x, passed d n xs)
 
 -- if all streams come after a minor, those from that minor on are those from the next one on
 later_stays : (d n : ℕ) (xs : List StreamId) → ComesBefore stream_before (stream d n) xs
     → streams_from d n xs ≡ streams_from d (n + 1) xs
 later_stays d n [] h = refl
-later_stays d n (x ∷ xs) h =
-    let after : pair_before d n x.driver x.minor ≡ true = h.0 in
-    let a : not (pair_before x.driver x.minor d n) ≡ true = grind (arith, nat_tests) in
-    let b : not (pair_before x.driver x.minor d (n + 1)) ≡ true = grind (arith, nat_tests) in
-    rw (a, b) (ap (λ (ys : List StreamId). x ∷ ys) (later_stays d n xs h.1))
+later_stays d n (x ∷ xs) h = grind (arith, nat_tests, later_stays d n xs h.1)
 
 -- the stream of a minor does not follow a stream that does not come before that minor
 none_behind : (d n : ℕ) (x : StreamId) (xs : List StreamId) → not (pair_before x.driver x.minor d n) ≡ true
     → ComesBefore stream_before x xs → is_hung xs (stream d n) ≡ false
 none_behind d n x [] t h = refl
-none_behind d n x (y ∷ ys) t h =
-    let after : pair_before x.driver x.minor y.driver y.minor ≡ true = h.0 in
-    let f : same_stream y (stream d n) ≡ false = grind (arith, nat_tests) in
-    rw f (none_behind d n x ys t h.1)
+none_behind d n x (y ∷ ys) t h = grind (arith, stream d n, nat_tests, none_behind d n x ys t h.1)
 
 -- in an ordered list, a stream that is present is the first of those from its minor on
 pub found : (d n : ℕ) (xs : List StreamId) → IsRising stream_before xs → is_hung xs (stream d n) ≡ true
     → streams_from d n xs ≡ stream d n ∷ streams_from d (n + 1) xs
 found d n [] r h = absurd cc
-found d n (x ∷ xs) r h = elim (cases_Bool (same_stream x (stream d n))) [
-  | inl t ↦
-      let here = same_is x (stream d n) t in
-      let a : not (pair_before d n d n) ≡ true = grind (arith, nat_tests) in
-      let b : not (pair_before d n d (n + 1)) ≡ false = grind (arith, nat_tests) in
-      let rest = later_stays d n xs (rw here at r.0) in
-      rw (here, a, b) (ap (λ (ys : List StreamId). stream d n ∷ ys) rest)
-  | inr f ↦
-      let later : is_hung xs (stream d n) ≡ true = rw f at h in
-      elim (cases_Bool (not (pair_before x.driver x.minor d n))) [
-        | inl t ↦
-            let none = none_behind d n x xs t r.0 in
-            absurd cc
-        | inr g ↦
-            let b : not (pair_before x.driver x.minor d (n + 1)) ≡ false = grind (arith, nat_tests) in
-            rw (g, b) (found d n xs r.1 later)
-      ]
-]
+found d n (x ∷ xs) r h = grind (arith, stream, same_is, nat_tests, later_stays, none_behind, found d n xs r.1)
 
 -- the minor of each stream is below its driver's number of minors
 abbrev pub AreInRange : List ℕ → List StreamId → Type 0
@@ -111,19 +78,21 @@ next_driver minors d n (x ∷ xs) past h =
 
 -- a driver for which a look-up finds no number of minors is past the last driver
 past_last : (minors : List ℕ) (d : ℕ) → None ≡ slice_get minors d → length minors ≤ d
-past_last minors d h =
-    elim (slice_get_cases minors d).1 [ inl there ↦ let e = there.2 in absurd cc | inr past ↦ past.0 ]
+past_last minors d h = grind (arith, slice_get_cases minors d)
 
 -- nothing comes after the last driver
 none_left : (minors : List ℕ) (d n : ℕ) (xs : List StreamId) → length minors ≤ d → AreInRange minors xs
     → streams_from d n xs ≡ []
 none_left minors d n [] past h = refl
 none_left minors d n (x ∷ xs) past h =
-    let lt = first_in_range minors x xs h in
-    let below : x.driver < d = elim (cases_lt x.driver (length minors))
-    [ inl l ↦ omega (arith, l) | inr le ↦ absurd (omega (arith, lt, get_or_past minors x.driver 0 le)) ] in
-    let f : not (pair_before x.driver x.minor d n) ≡ false = grind (arith, nat_tests) in
-    rw f (none_left minors d n xs past (others_in_range minors x xs h))
+    grind (
+      arith,
+      first_in_range minors x xs h,
+      get_or_past minors x.driver 0,
+      nat_tests,
+      none_left minors d n xs past (others_in_range minors x xs h),
+      others_in_range minors x xs h,
+    )
 
 -- from a driver that does not exist on, there are no streams
 pub no_driver_left : (minors : List ℕ) (d n : ℕ) (xs : List StreamId) → None ≡ slice_get minors d → AreInRange minors xs

@@ -27,8 +27,7 @@ other_driver d n e m (true ∷ flags) h = or_from _ _ (rw h refl) (other_driver 
 earlier_minor : (d n e m : ℕ) (flags : List Bool) → m < n → is_hung (hung_from d n flags) (stream e m) ≡ false
 earlier_minor d n e m [] h = refl
 earlier_minor d n e m (false ∷ flags) h = earlier_minor d (n + 1) e m flags (omega arith)
-earlier_minor d n e m (true ∷ flags) h =
-    or_from _ _ (grind (arith, nat_tests)) (earlier_minor d (n + 1) e m flags (omega arith))
+earlier_minor d n e m (true ∷ flags) h = grind (arith, nat_tests, earlier_minor d (n + 1) e m flags (omega arith))
 
 -- adding one more is starting one later
 one_further : (n k : ℕ) → n + suc k ≡ (n + 1) + k
@@ -39,13 +38,8 @@ in_row : (d n k : ℕ) (flags : List Bool) → is_hung (hung_from d n flags) (st
 in_row d n k [] = refl
 in_row d n zero (false ∷ flags) = earlier_minor d (n + 1) d (n + 0) flags (omega arith)
 in_row d n zero (true ∷ flags) = or_left (eqb d d && eqb n (n + 0)) _ (grind (arith, nat_tests))
-in_row d n (suc k) (false ∷ flags) =
-    ap (λ (m : ℕ). is_hung (hung_from d (n + 1) flags) (stream d m)) (one_further n k) ∙ in_row d (n + 1) k flags
-in_row d n (suc k) (true ∷ flags) = rw (other d n k)
-    (ap (λ (m : ℕ). is_hung (hung_from d (n + 1) flags) (stream d m)) (one_further n k)
-    ∙ in_row d (n + 1) k flags) where
-      other : (d n k : ℕ) → (eqb d d && eqb n (n + suc k)) ≡ false
-      other d n k = grind (arith, nat_tests)
+in_row d n (suc k) (false ∷ flags) = grind (arith, stream d, one_further n k, in_row d (n + 1) k flags)
+in_row d n (suc k) (true ∷ flags) = grind (arith, stream d, one_further n k, in_row d (n + 1) k flags)
 
 -- rows have no stream of an earlier driver
 
@@ -69,17 +63,12 @@ in_rows d zero m (row ∷ rows) = hung_both (hung_from d 0 row) (hungs_from (d +
 
       zero_plus : (k : ℕ) → k ≡ 0 + k
       zero_plus k = omega arith
-in_rows d (suc j) m (row ∷ rows) = hung_both (hung_from d 0 row) (hungs_from (d + 1) rows) (stream (d + suc j) m)
-    ∙ (ap (λ (b : Bool). b || is_hung (hungs_from (d + 1) rows) (stream (d + suc j) m))
-    (other_driver d 0 (d + suc j) m row (grind (arith, nat_tests)))
-    ∙ (ap (λ (e : ℕ). is_hung (hungs_from (d + 1) rows) (stream e m)) (one_further d j) ∙ in_rows (d + 1) j m rows))
+in_rows d (suc j) m (row ∷ rows) =
+    grind (arith, hung_both, hungs_from, stream, other_driver, nat_tests, one_further, in_rows (d + 1) j m rows)
 
 -- the streams whose flag is set are those that have hung up
 pub flag_tells : (rows : List (List Bool)) (s : StreamId) → is_hung (hungs_from 0 rows) s ≡ flag_at rows s
-flag_tells rows s = ap (λ (d : ℕ). is_hung (hungs_from 0 rows) (stream d s.minor)) (zero_plus s.driver)
-    ∙ in_rows 0 s.driver s.minor rows where
-      zero_plus : (k : ℕ) → k ≡ 0 + k
-      zero_plus k = omega arith
+flag_tells rows s = grind (arith, hungs_from 0 rows, stream, in_rows 0 s.driver s.minor rows)
 
 -- in order
 

@@ -1,6 +1,6 @@
 -- Lists in general.
-use Rattle.smx_model.proofs.Common.{◌≡◌, Bool, ◌&&◌, not, List, [], ◌∷◌, ◌++◌, find, filter, Some, None, refl, ap, inl}
-use Rattle.smx_model.proofs.Common.{inr, list_any, is_some, cases_Bool, ComesBefore, with_inserted}
+use Rattle.smx_model.proofs.Common.{◌≡◌, Bool, ◌&&◌, not, List, [], ◌∷◌, ◌++◌, find, filter, Some, None, refl, inl}
+use Rattle.smx_model.proofs.Common.{inr, list_any, is_some, cases_Bool, ComesBefore, with_inserted, arith}
 
 -- a search in two joined lists
 
@@ -8,15 +8,13 @@ use Rattle.smx_model.proofs.Common.{inr, list_any, is_some, cases_Bool, ComesBef
 pub find_front : {X : Type 0} (test : X → Bool) (xs ys : List X) (x : X) → find test xs ≡ Some x
     → find test (xs ++ ys) ≡ Some x
 find_front test [] ys x h = absurd cc
-find_front test (y ∷ xs) ys x h =
-    elim (cases_Bool (test y)) [ inl t ↦ rw t (rw t at h) | inr f ↦ rw f (find_front test xs ys x (rw f at h)) ]
+find_front test (y ∷ xs) ys x h = grind (arith, find_front test xs ys x)
 
 -- a search that finds nothing in the first of two lists finds what it finds in the second
 pub find_past : {X : Type 0} (test : X → Bool) (xs ys : List X) → find test xs ≡ None
     → find test (xs ++ ys) ≡ find test ys
 find_past test [] ys h = refl
-find_past test (y ∷ xs) ys h = elim (cases_Bool (test y))
-    [ inl t ↦ let k : Some y ≡ None = rw t at h in absurd cc | inr f ↦ rw f (find_past test xs ys (rw f at h)) ]
+find_past test (y ∷ xs) ys h = grind (arith, find_past test xs ys)
 
 -- some element passes a test exactly if a search finds an element
 pub any_found : {X : Type 0} (test : X → Bool) (xs : List X) → list_any test xs ≡ is_some (find test xs)
@@ -26,22 +24,13 @@ any_found test (x ∷ xs) = elim (cases_Bool (test x)) [ inl t ↦ rw t refl | i
 -- if no element passes a test, removing those that pass it removes none
 pub none_goes : {X : Type 0} (test : X → Bool) (xs : List X) → find test xs ≡ None → filter (λ x. not (test x)) xs ≡ xs
 none_goes test [] h = refl
-none_goes test (x ∷ xs) h = elim (cases_Bool (test x)) [
-  | inl t ↦ let k : Some x ≡ None = rw t at h in absurd cc
-  | inr f ↦ rw f (ap (λ ys. x ∷ ys) (none_goes test xs (rw f at h)))
-]
+none_goes test (x ∷ xs) h = grind (arith, none_goes test xs)
 
 -- two filters in turn are one filter by both tests
 pub filter_twice : {X : Type 0} (t u : X → Bool) (xs : List X)
     → filter u (filter t xs) ≡ filter (λ x. t x && u x) xs
 filter_twice t u [] = refl
-filter_twice t u (x ∷ xs) = elim (cases_Bool (t x)) [
-  | inl a ↦ elim (cases_Bool (u x)) [
-    | inl b ↦ rw (a, b) (ap (λ (ys : List _). x ∷ ys) (filter_twice t u xs))
-    | inr b ↦ rw (a, b) (filter_twice t u xs)
-  ]
-  | inr a ↦ rw a (filter_twice t u xs)
-]
+filter_twice t u (x ∷ xs) = grind (arith, filter_twice t u xs)
 
 -- an element that comes before two lists comes before both joined
 pub comes_both : {X : Type 0} (before : X → X → Bool) (x : X) (xs ys : List X) → ComesBefore before x xs

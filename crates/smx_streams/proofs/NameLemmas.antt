@@ -1,7 +1,7 @@
 -- The number of descriptors that name a stream.
-use Rattle.smx_model.proofs.Common.{◌≡◌, ℕ, zero, suc, ◌+◌, ◌-◌, ◌<◌, ◌≤◌, Bool, true, false, not, eqb, List, [], ◌∷◌}
+use Rattle.smx_model.proofs.Common.{◌≡◌, ℕ, zero, suc, ◌+◌, ◌-◌, ◌<◌, ◌≤◌, Bool, true, false, not, List, [], ◌∷◌}
 use Rattle.smx_model.proofs.Common.{length, find, filter, get_or, slice_get, Some, None, if◌then◌else◌, refl, sym, ap}
-use Rattle.smx_model.proofs.Common.{arith, inl, inr, nat_lt, list_any, range_with_len, cases_Bool, and_parts, eqb-true}
+use Rattle.smx_model.proofs.Common.{arith, inl, inr, nat_lt, list_any, range_with_len, cases_Bool}
 use Rattle.smx_model.proofs.Common.{lt-ltb, nat_tests, same_Some, Descriptor, StreamId, same_stream, is_fd, fd_before}
 use Rattle.smx_model.proofs.Common.{ComesBefore, IsRising, with_inserted, is_named}
 use Rattle.std.specs.Prelude.{nat_le}
@@ -20,62 +20,35 @@ one_if b = if b then 1 else 0
 pub names_put : (s : StreamId) (d : Descriptor) (ds : List Descriptor)
     → names_of s (with_inserted fd_before ds d) ≡ one_if (same_stream d.stream s) + names_of s ds
 names_put s d [] = refl
-names_put s d (e ∷ ds) = elim (cases_Bool (fd_before d e)) [
-  | inl t ↦ rw t refl
-  | inr f ↦ rw f (let rest = names_put s d ds in omega (arith, rest))
-]
+names_put s d (e ∷ ds) = grind (arith, names_put s d ds)
 
 -- later descriptors differ from this one
 later_is_other : (p n : ℕ) (d : Descriptor) (ds : List Descriptor) → is_fd p n d ≡ true → ComesBefore fd_before d ds
     → find (is_fd p n) ds ≡ None
 later_is_other p n d [] t h = refl
-later_is_other p n d (e ∷ ds) t h = elim (cases_Bool (is_fd p n e)) [
-  | inl u ↦
-      let here = and_parts (eqb d.process p) (eqb d.fd n) t in
-      let there = and_parts (eqb e.process p) (eqb e.fd n) u in
-      let a = eqb-true d.process p here.0 in
-      let b = eqb-true d.fd n here.1 in
-      let x = eqb-true e.process p there.0 in
-      let y = eqb-true e.fd n there.1 in
-      let before = h.0 in
-      absurd (grind (arith, nat_tests))
-  | inr f ↦ rw f (later_is_other p n d ds t h.1)
-]
+later_is_other p n d (e ∷ ds) t h = grind (arith, nat_tests, later_is_other p n d ds t h.1)
 
 -- removing a descriptor removes one name from its stream, and none from other streams
 pub names_taken : (s t : StreamId) (p n : ℕ) (ds : List Descriptor) → IsRising fd_before ds → stream_at ds p n ≡ Some t
     → names_of s ds ≡ one_if (same_stream t s) + names_of s (filter (λ d. not (is_fd p n d)) ds)
 names_taken s t p n [] r h = absurd cc
-names_taken s t p n (d ∷ ds) r h = elim (cases_Bool (is_fd p n d)) [
-  | inl here ↦
-      let e : d.stream ≡ t = same_Some d.stream t (rw here at h) in
-      rw (here, none_goes (is_fd p n) ds (later_is_other p n d ds here r.0), e) refl
-  | inr other ↦ rw other (let rest = names_taken s t p n ds r.1 (rw other at h) in omega (arith, rest))
-]
+names_taken s t p n (d ∷ ds) r h =
+    grind (arith, same_Some d.stream t, none_goes (is_fd p n) ds, later_is_other p n d ds, names_taken s t p n ds r.1)
 
 -- a stream is named exactly if more than 0 descriptors name it
 pub named_is_some : (s : StreamId) (ds : List Descriptor) → is_named ds s ≡ nat_lt 0 (names_of s ds)
 named_is_some s [] = refl
-named_is_some s (d ∷ ds) = elim (cases_Bool (same_stream d.stream s)) [
-  | inl t ↦ rw t (grind (arith, nat_tests))
-  | inr f ↦ let none : 0 + names_of s ds ≡ names_of s ds = omega arith in rw (f, none) (named_is_some s ds)
-]
+named_is_some s (d ∷ ds) = grind (arith, nat_tests, named_is_some s ds)
 
 -- at most as many descriptors name a stream as there are
 pub names_few : (s : StreamId) (ds : List Descriptor) → names_of s ds ≤ length ds
 names_few s [] = omega arith
-names_few s (d ∷ ds) = elim (cases_Bool (same_stream d.stream s))
-    [ inl t ↦ rw t (omega (arith, names_few s ds)) | inr f ↦ rw f (omega (arith, names_few s ds)) ]
+names_few s (d ∷ ds) = grind (arith, names_few s ds)
 
 -- a stream that a descriptor names has more than 0 names
 pub names_some : (s : StreamId) (p n : ℕ) (ds : List Descriptor) → stream_at ds p n ≡ Some s → 0 < names_of s ds
 names_some s p n [] h = absurd cc
-names_some s p n (d ∷ ds) h = elim (cases_Bool (is_fd p n d)) [
-  | inl here ↦
-      let e : d.stream ≡ s = same_Some d.stream s (rw here at h) in
-      rw (e, same_self s) (omega arith)
-  | inr other ↦ let rest = names_some s p n ds (rw other at h) in omega (arith, rest)
-]
+names_some s p n (d ∷ ds) h = grind (arith, same_Some d.stream s, same_self s, names_some s p n ds)
 
 -- a stream with a record exists
 pub used_exists : (t : StreamTable) (s : StreamId) (opens : ℕ) → opens ≡ names_of s t.fds
@@ -87,10 +60,7 @@ used_exists t s opens e = rw (e, named_is_some s t.fds) (grind (arith, nat_tests
 -- a number found by a search in a range is below the range's end
 pub find_below : (test : ℕ → Bool) (k n m : ℕ) → find test (range_with_len k n) ≡ Some m → m < k + n
 find_below test k zero m h = absurd cc
-find_below test k (suc n) m h = elim (cases_Bool (test k)) [
-  | inl t ↦ omega (arith, same_Some k m (rw t at h))
-  | inr f ↦ let rest = find_below test (k + 1) n m (rw f at h) in omega (arith, rest)
-]
+find_below test k (suc n) m h = grind (arith, same_Some k m, find_below test (k + 1) n m)
 
 -- no minor of a driver that does not exist is in range
 pub no_driver : (minors : List ℕ) (d m : ℕ) → None ≡ slice_get minors d → false ≡ is_in_range minors d m
@@ -164,5 +134,4 @@ names_after_take opens s t p n fds h rise there = elim (cases_Bool (same_stream 
 pub named_any : (s : StreamId) (p n : ℕ) (ds : List Descriptor) → stream_at ds p n ≡ Some s
     → list_any (is_fd p n) ds ≡ true
 named_any s p n [] h = absurd cc
-named_any s p n (d ∷ ds) h = elim (cases_Bool (is_fd p n d))
-    [ inl here ↦ rw here refl | inr other ↦ rw other (named_any s p n ds (rw other at h)) ]
+named_any s p n (d ∷ ds) h = grind (arith, named_any s p n ds)

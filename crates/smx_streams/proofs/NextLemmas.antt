@@ -1,7 +1,7 @@
 -- The descriptors from a number of a process on, and those of one process.
 use Rattle.smx_model.proofs.Common.{◌≡◌, ℕ, suc, ◌+◌, ◌<◌, ◌≤◌, Bool, true, false, ◌&&◌, not, eqb, List, [], ◌∷◌, find}
 use Rattle.smx_model.proofs.Common.{◌∙◌, filter, Some, None, refl, ap, arith, inl, inr, nat_lt, All, cases_Bool}
-use Rattle.smx_model.proofs.Common.{and_parts, eqb-true, nat_tests, same_Some, MAX_DESCRIPTORS, MAX_PROCESSES}
+use Rattle.smx_model.proofs.Common.{nat_tests, same_Some, MAX_DESCRIPTORS, MAX_PROCESSES}
 use Rattle.smx_model.proofs.Common.{Descriptor, StreamId, is_fd, fd_before, pair_before, ComesBefore, IsRising}
 use Rattle.std.proofs.lemmas.List.Elements.{filter_agree}
 use Rattle.smx_streams.specs.StreamTables.{fds_from, stream_at}
@@ -27,61 +27,25 @@ from_more p n d other = grind (arith, nat_tests)
 -- a number without a descriptor is skipped
 pub passed : (p n : ℕ) (ds : List Descriptor) → stream_at ds p n ≡ None → fds_from p n ds ≡ fds_from p (n + 1) ds
 passed p n [] h = refl
-passed p n (d ∷ ds) h = elim (cases_Bool (is_fd p n d)) [
-  | inl t ↦ let k : Some d.stream ≡ None = rw t at h in absurd cc
-  | inr f ↦
-      let e = from_more p n d f in
-      let rest = passed p n ds (rw f at h) in
-      elim (cases_Bool (not (pair_before d.process d.fd p (n + 1)))) [
-        | inl t ↦ rw (e, t) (ap (λ (es : List Descriptor). d ∷ es) rest)
-        | inr g ↦ rw (e, g) rest
-      ]
-]
+passed p n (d ∷ ds) h = grind (arith, from_more p n d, passed p n ds)
 
 -- if all descriptors come after a number, those from that number on are those from the next one on
 later_stays : (p n : ℕ) (s : StreamId) (ds : List Descriptor) → ComesBefore fd_before (fd_of p n s) ds
     → fds_from p n ds ≡ fds_from p (n + 1) ds
 later_stays p n s [] h = refl
-later_stays p n s (d ∷ ds) h =
-    let after : pair_before p n d.process d.fd ≡ true = h.0 in
-    let x : not (pair_before d.process d.fd p n) ≡ true = grind (arith, nat_tests) in
-    let y : not (pair_before d.process d.fd p (n + 1)) ≡ true = grind (arith, nat_tests) in
-    rw (x, y) (ap (λ (es : List Descriptor). d ∷ es) (later_stays p n s ds h.1))
+later_stays p n s (d ∷ ds) h = grind (arith, nat_tests, later_stays p n s ds h.1)
 
 -- the descriptor of a number does not follow a descriptor that does not come before that number
 none_behind : (p n : ℕ) (d : Descriptor) (ds : List Descriptor) → not (pair_before d.process d.fd p n) ≡ true
     → ComesBefore fd_before d ds → find (is_fd p n) ds ≡ None
 none_behind p n d [] t h = refl
-none_behind p n d (e ∷ ds) t h =
-    let after : pair_before d.process d.fd e.process e.fd ≡ true = h.0 in
-    let f : is_fd p n e ≡ false = grind (arith, nat_tests) in
-    rw f (none_behind p n d ds t h.1)
+none_behind p n d (e ∷ ds) t h = grind (arith, nat_tests, none_behind p n d ds t h.1)
 
 -- a descriptor that exists is the first of those from its number on
 pub found : (p n : ℕ) (s : StreamId) (ds : List Descriptor) → IsRising fd_before ds → stream_at ds p n ≡ Some s
     → fds_from p n ds ≡ fd_of p n s ∷ fds_from p (n + 1) ds
 found p n s [] r h = absurd cc
-found p n s (d ∷ ds) r h = elim (cases_Bool (is_fd p n d)) [
-  | inl t ↦
-      let both = and_parts (eqb d.process p) (eqb d.fd n) t in
-      let at_p = eqb-true d.process p both.0 in
-      let at_n = eqb-true d.fd n both.1 in
-      let here : d ≡ fd_of p n s = rw (← at_p, ← at_n, ← same_Some d.stream s (rw t at h)) refl in
-      let x : not (pair_before p n p n) ≡ true = grind (arith, nat_tests) in
-      let y : not (pair_before p n p (n + 1)) ≡ false = grind (arith, nat_tests) in
-      let rest = later_stays p n s ds (rw here at r.0) in
-      rw (here, x, y) (ap (λ (es : List Descriptor). fd_of p n s ∷ es) rest)
-  | inr f ↦
-      let later : stream_at ds p n ≡ Some s = rw f at h in
-      elim (cases_Bool (not (pair_before d.process d.fd p n))) [
-        | inl t ↦
-            let none : stream_at ds p n ≡ None = rw (none_behind p n d ds t r.0) refl in
-            absurd cc
-        | inr g ↦
-            let y : not (pair_before d.process d.fd p (n + 1)) ≡ false = grind (arith, nat_tests) in
-            rw (g, y) (found p n s ds r.1 later)
-      ]
-]
+found p n s (d ∷ ds) r h = grind (arith, fd_of, same_Some, nat_tests, later_stays, none_behind, found p n s ds r.1)
 
 -- after the last number of a process comes the next process
 pub next_process : (p n : ℕ) (ds : List Descriptor) → MAX_DESCRIPTORS ≤ n → All (λ d. d.fd < MAX_DESCRIPTORS) ds
@@ -114,9 +78,7 @@ closed_more p n ds = filter_twice (λ d. not (is_closed p n d)) (λ d. not (is_f
 -- no descriptor is closed at first
 pub closed_none : (p : ℕ) (ds : List Descriptor) → ds ≡ filter (λ d. not (is_closed p 0 d)) ds
 closed_none p [] = refl
-closed_none p (d ∷ ds) =
-    let f : not (is_closed p 0 d) ≡ true = grind (arith, nat_tests) in
-    rw f (ap (λ (es : List Descriptor). d ∷ es) (closed_none p ds))
+closed_none p (d ∷ ds) = grind (arith, is_closed p 0 d, nat_tests, closed_none p ds)
 
 -- all descriptors of the process are closed at the end
 pub closed_all : (p n : ℕ) (ds : List Descriptor) → MAX_DESCRIPTORS ≤ n → All (λ d. d.fd < MAX_DESCRIPTORS) ds

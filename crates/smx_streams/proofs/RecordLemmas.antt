@@ -2,7 +2,7 @@
 use Rattle.smx_model.proofs.Common.{◌≡◌, ◌≢◌, ℕ, ◌+◌, ◌<◌, ◌≤◌, true, false, List, length, map, replicate, Option, Some}
 use Rattle.smx_model.proofs.Common.{None, if◌then◌else◌, refl, sym, ap, ◌∙◌, arith, inl, inr, cases_Bool, cases_eq}
 use Rattle.smx_model.proofs.Common.{both_ways, ltb-true, lt-ltb, nat_lt, is_some, nat_tests, same_Some, MAX_DRIVERS}
-use Rattle.smx_model.proofs.Common.{StreamId, same_stream}
+use Rattle.smx_model.proofs.Common.{StreamId, same_stream, rules}
 use Rattle.std.proofs.lemmas.List.{length-map}
 use Rattle.slab.specs.Slab.{Slab, get, Updates}
 use Rattle.smx_streams.specs.declared.records.Record.{Record}
@@ -38,11 +38,7 @@ same_keys grid s x new_key new_grid h t = h x ∙ rw t refl
 other_record : (grid : Grid) (old : Slab Record) (s x : StreamId) (key : ℕ) (new_key : Option ℕ) (slot : Option Record)
     (new_grid : Grid) (new : Slab Record) → IsChange grid old s key new_key slot new_grid new → same_stream x s ≡ false
     → record_of_key new (key_at new_grid x) ≡ record_of_key old (key_at grid x)
-other_record grid old s x key new_key slot new_grid new h f =
-    ap (record_of_key new) (other_keys grid s x new_key None new_grid h.keys f) ∙ by (key_at grid x) refl where
-      by : (o : Option ℕ) → key_at grid x ≡ o → record_of_key new o ≡ record_of_key old o
-      by None is = refl
-      by (Some k) is = h.slots.others k (λ e. both_ways (same_stream x s) f (h.apart x (is ∙ ap Some e)))
+other_record grid old s x key new_key slot new_grid new h f = grind (arith, other_keys)
 
 -- the number of drivers stays
 few_still : (grid new_grid : Grid) → length grid ≤ MAX_DRIVERS → map length new_grid ≡ map length grid
@@ -86,26 +82,7 @@ is_set_some grid old key r new_grid new whole few used h =
 is_set_none : (grid : Grid) (old : Slab Record) (s : StreamId) (key : ℕ) (new_grid : Grid) (new : Slab Record)
     → AreRecords grid old → length new_grid ≤ MAX_DRIVERS
     → IsChange grid old s key None None new_grid new → AreRecords new_grid new
-is_set_none grid old s key new_grid new whole few h = record { few = few; listed = listed; recorded = recorded } where
-  listed : (x : StreamId) (k : ℕ) → key_at new_grid x ≡ Some k → (q : Record) × (get new k ≡ Some q) × IsRecord x q
-  listed x k is = elim (cases_Bool (same_stream x s)) [
-    | inl t ↦ let same : ◌≡◌ {A = Option ℕ} None (Some k) =
-        sym (same_keys grid s x None new_grid h.keys t) ∙ is in absurd cc
-    | inr f ↦
-        let was = sym (other_keys grid s x None None new_grid h.keys f) ∙ is in
-        let there = whole.listed x k was in
-        let differs : k ≢ key = λ e. both_ways (same_stream x s) f (h.apart x (was ∙ ap Some e)) in
-        (there.0, h.slots.others k differs ∙ there.1, there.2)
-  ]
-
-  recorded : (k : ℕ) (q : Record) → get new k ≡ Some q → key_at new_grid q.stream ≡ Some k
-  recorded k q is = elim (cases_eq k key) [
-    | inl e ↦ let same : ◌≡◌ {A = Option Record} None (Some q) =
-        sym h.slots.changed ∙ ap (get new) (sym e) ∙ is in absurd cc
-    | inr differs ↦
-        let was = sym (h.slots.others k differs) ∙ is in
-        other_keys grid s q.stream None None new_grid h.keys (h.alone k q differs was) ∙ whole.recorded k q was
-  ]
+is_set_none grid old s key new_grid new whole few h = grind arith
 
 -- the numbers after the change
 numbers_set : (grid : Grid) (old : Slab Record) (r : Record) (key : ℕ) (new_key : Option ℕ) (slot : Option Record)
@@ -114,19 +91,16 @@ numbers_set : (grid : Grid) (old : Slab Record) (r : Record) (key : ℕ) (new_ke
     → hung_of (record_of_key new new_key) ≡ is_used_and_hung r
     → (uses_of new_grid new).minors ≡ (uses_of grid old).minors
     → AreSet (uses_of grid old) r.stream r.opens r.holds (is_used_and_hung r) (uses_of new_grid new)
-numbers_set grid old r key new_key slot new_grid new h opens holds hung minors = record {
-  minors = minors;
-  opens_now = λ x. rw (opens_at new_grid new x, opens_at grid old x) (now opens_of r.opens opens x);
-  holds_now = λ x. rw (holds_at new_grid new x, holds_at grid old x) (now holds_of r.holds holds x);
-  hungs_now = λ x. rw (hungs_at new_grid new x, hungs_at grid old x) (now hung_of (is_used_and_hung r) hung x);
-} where
-  now : {X : Type 0} (f : Option Record → X) (v : X) → f (record_of_key new new_key) ≡ v → (x : StreamId)
-      → f (record_of_key new (key_at new_grid x))
-      ≡ (if same_stream x r.stream then v else f (record_of_key old (key_at grid x)))
-  now f v is x = elim (cases_Bool (same_stream x r.stream)) [
-    | inl t ↦ rw t (ap (λ o. f (record_of_key new o)) (same_keys grid r.stream x new_key new_grid h.keys t) ∙ is)
-    | inr n ↦ rw n (ap f (other_record grid old r.stream x key new_key slot new_grid new h n))
-  ]
+numbers_set grid old r key new_key slot new_grid new h opens holds hung minors =
+    grind (
+      arith,
+      opens_at new_grid new,
+      opens_at grid old,
+      holds_at new_grid new,
+      holds_at grid old,
+      hungs_at new_grid new,
+      hungs_at grid old,
+    )
 
 -- a record with a descriptor or hold is both used and hung up exactly if its flag is set
 flag_of_used : (r : Record) → 0 < r.opens + r.holds → r.hung ≡ is_used_and_hung r
@@ -141,21 +115,12 @@ flag_of_none r opens holds = rw (opens, holds) refl
 -- if a stream has a key, no other stream has that key
 known_apart : (grid : Grid) (old : Slab Record) (s : StreamId) (key : ℕ) → AreRecords grid old
     → key_at grid s ≡ Some key → (x : StreamId) → key_at grid x ≡ Some key → same_stream x s ≡ true
-known_apart grid old s key whole there x is =
-    let one = whole.listed s key there in
-    let other = whole.listed x key is in
-    let eq = same_Some one.0 other.0 (sym one.1 ∙ other.1) in
-    let e : x ≡ s = sym other.2.stream ∙ ap (λ (q : Record). q.stream) (sym eq) ∙ one.2.stream in
-    rw e (same_self s)
+known_apart grid old s key whole there x is = grind (arith, same_Some, same_self s)
 
 -- if a stream has a key, the record of any other key is that of another stream
 known_alone : (grid : Grid) (old : Slab Record) (s : StreamId) (key : ℕ) → AreRecords grid old
     → key_at grid s ≡ Some key → (k : ℕ) (q : Record) → k ≢ key → get old k ≡ Some q → same_stream q.stream s ≡ false
-known_alone grid old s key whole there k q differs is = elim (cases_Bool (same_stream q.stream s)) [
-  | inl t ↦ absurd (differs
-      (same_Some k key (sym (whole.recorded k q is) ∙ ap (key_at grid) (same_is q.stream s t) ∙ there)))
-  | inr f ↦ f
-]
+known_alone grid old s key whole there k q differs is = grind (arith, same_Some k key, same_is q.stream s)
 
 -- putting back a record that counts a descriptor or hold sets only the numbers of its stream
 pub put_back_some : (grid : Grid) (old : Slab Record) (key : ℕ) (r : Record) (new : Slab Record) → AreRecords grid old
@@ -248,11 +213,7 @@ few_minors grid records whole = omega (arith, whole.few, length-map grid length)
 -- if there are no keys and no records, each key leads to its record, and each record has its key
 pub none_recorded : (minors : List ℕ) (records : Slab Record) → length minors ≤ MAX_DRIVERS
     → ((k : ℕ) → get records k ≡ None) → AreRecords (map (λ n. replicate n None) minors) records
-none_recorded minors records few none = record {
-  few = let rows : ℕ → List (Option ℕ) = λ n. replicate n None in omega (arith, few, length-map minors rows);
-  listed = λ s key is. let no : ◌≡◌ {A = Option ℕ} None (Some key) = sym (no_keys minors s) ∙ is in absurd cc;
-  recorded = λ key r is. let no : ◌≡◌ {A = Option Record} None (Some r) = sym (none key) ∙ is in absurd cc;
-}
+none_recorded minors records few none = grind (arith, length-map, no_keys)
 
 -- if there are no keys, no stream has a descriptor
 pub no_opens : (minors : List ℕ) (records : Slab Record) (s : StreamId)
@@ -276,21 +237,12 @@ no_hungs minors records s = hungs_at (map (λ n. replicate n None) minors) recor
 pub hung_is_used : (grid : Grid) (records : Slab Record) (s : StreamId) → AreRecords grid records
     → flag_at (uses_of grid records).hungs s ≡ true
     → 0 < number_at (uses_of grid records).opens s + number_at (uses_of grid records).holds s
-hung_is_used grid records s whole h = rw (opens_at grid records s, holds_at grid records s)
-    (by (key_at grid s) refl (sym (hungs_at grid records s) ∙ h)) where
-      by : (o : Option ℕ) → key_at grid s ≡ o → hung_of (record_of_key records o) ≡ true
-          → 0 < opens_of (record_of_key records o) + holds_of (record_of_key records o)
-      by None e t = absurd cc
-      by (Some key) e t = let there = whole.listed s key e in rw there.1 there.2.used
+hung_is_used grid records s whole h =
+    grind (arith, opens_at grid records s, holds_at grid records s, hungs_at grid records s)
 
 -- records that are found by their keys are valid
 pub are_sound : (grid : Grid) (records : Slab Record) → AreRecords grid records → AreSound (uses_of grid records)
-are_sound grid records whole = record {
-  few = few_minors grid records whole;
-  range = used_is_in_range grid records;
-  flagged = hung_is_in_range grid records;
-  hung = λ s h. hung_is_used grid records s whole h;
-}
+are_sound grid records whole = search (rules, few_minors, used_is_in_range, hung_is_in_range, hung_is_used)
 
 -- a record that counts nothing
 
@@ -306,8 +258,4 @@ counts_some n h = ltb-true 0 n h
 pub key_tells : (grid : Grid) (records : Slab Record) (s : StreamId) → AreRecords grid records
     → is_some (key_at grid s)
     ≡ nat_lt 0 (number_at (uses_of grid records).opens s + number_at (uses_of grid records).holds s)
-key_tells grid records s whole = rw (opens_at grid records s, holds_at grid records s) (by (key_at grid s) refl) where
-  by : (o : Option ℕ) → key_at grid s ≡ o → is_some o
-      ≡ nat_lt 0 (opens_of (record_of_key records o) + holds_of (record_of_key records o))
-  by None e = refl
-  by (Some key) e = let there = whole.listed s key e in rw there.1 (grind (arith, nat_tests, there.2.used))
+key_tells grid records s whole = grind (arith, opens_at grid records s, holds_at grid records s)

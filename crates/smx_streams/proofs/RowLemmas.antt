@@ -1,7 +1,7 @@
 -- Descriptors as rows of streams by number: looked up, added and removed.
 use Rattle.smx_model.proofs.Common.{◌≡◌, ℕ, zero, suc, ◌+◌, ◌<◌, true, false, not, eqb, List, [], ◌∷◌, ◌++◌, length}
 use Rattle.smx_model.proofs.Common.{find, filter, get_or, Option, Some, None, refl, sym, ap, ◌∙◌, arith, list_any}
-use Rattle.smx_model.proofs.Common.{is_some, option_map, nat_tests, eq-eqb, ne_eqb, Descriptor, StreamId, is_fd}
+use Rattle.smx_model.proofs.Common.{is_some, nat_tests, eq-eqb, ne_eqb, Descriptor, StreamId, is_fd}
 use Rattle.smx_model.proofs.Common.{fd_before, pair_before, ComesBefore, with_inserted}
 use Rattle.std.proofs.Common.{set}
 use Rattle.std.proofs.lemmas.List.Elements.{filter-append}
@@ -38,8 +38,7 @@ find_other_row p n q k (Some s ∷ cells) h = rw (other_process p n q k s h) (fi
 find_lower : (p n k : ℕ) (cells : List (Option StreamId)) → n < k → find (is_fd p n) (row_from p k cells) ≡ None
 find_lower p n k [] h = refl
 find_lower p n k (None ∷ cells) h = find_lower p n (k + 1) cells (omega arith)
-find_lower p n k (Some s ∷ cells) h =
-    rw (other_fd p n k s (ne_eqb k n (λ e. absurd (omega arith)))) (find_lower p n (k + 1) cells (omega arith))
+find_lower p n k (Some s ∷ cells) h = grind (arith, other_fd p n k s, find_lower p n (k + 1) cells (omega arith))
 
 -- the descriptor, if there is a stream
 abbrev pub found : ℕ → ℕ → Option StreamId → Option Descriptor
@@ -51,19 +50,16 @@ find_in_row : (p n k i : ℕ) (cells : List (Option StreamId)) → n ≡ k + i
     → find (is_fd p n) (row_from p k cells) ≡ found p n (get_or cells i None)
 find_in_row p n k i [] e = refl
 find_in_row p n k zero (None ∷ cells) e = find_lower p n (k + 1) cells (omega (arith, e))
-find_in_row p n k zero (Some s ∷ cells) e =
-    let same : k ≡ n = omega (arith, e) in rw (same_fd p n k s same) (ap (λ m. Some (fd_of p m s)) same)
+find_in_row p n k zero (Some s ∷ cells) e = grind (arith, same_fd p n k s, fd_of p)
 find_in_row p n k (suc i) (None ∷ cells) e = find_in_row p n (k + 1) i cells (omega (arith, e))
 find_in_row p n k (suc i) (Some s ∷ cells)
-    e = rw (other_fd p n k s (ne_eqb k n (λ same. absurd (omega (arith, e, same)))))
-    (find_in_row p n (k + 1) i cells (omega (arith, e)))
+    e = grind (arith, other_fd p n k s, find_in_row p n (k + 1) i cells (omega (arith, e)))
 
 -- a search in the rows of later processes finds no descriptor of an earlier one
 find_later_rows : (p n q : ℕ) (rows : Rows) → p < q → find (is_fd p n) (rows_from q rows) ≡ None
 find_later_rows p n q [] h = refl
-find_later_rows p n q (row ∷ rows) h = find_past (is_fd p n) (row_from q 0 row) (rows_from (q + 1) rows)
-    (find_other_row p n q 0 row (ne_eqb q p (λ e. absurd (omega arith))))
-    ∙ find_later_rows p n (q + 1) rows (omega arith)
+find_later_rows p n q (row ∷ rows) h =
+    grind (arith, find_past, find_other_row, find_later_rows p n (q + 1) rows (omega arith))
 
 -- a search for a number of a process in the rows from a process on finds the stream in its cell
 find_rows : (p n q i : ℕ) (rows : Rows) → p ≡ q + i
@@ -78,9 +74,8 @@ find_rows p n q zero (row ∷ rows) e =
           ∙ sym (ap (found p n) is)
       here (Some s) is = find_front (is_fd p n) (row_from p 0 row) (rows_from (p + 1) rows) (fd_of p n s)
           (find_in_row p n 0 n row (omega arith) ∙ ap (found p n) is) ∙ sym (ap (found p n) is)
-find_rows p n q (suc i) (row ∷ rows) e = find_past (is_fd p n) (row_from q 0 row) (rows_from (q + 1) rows)
-    (find_other_row p n q 0 row (ne_eqb q p (λ same. absurd (omega (arith, e, same)))))
-    ∙ find_rows p n (q + 1) i rows (omega (arith, e))
+find_rows p n q (suc i) (row ∷ rows) e =
+    grind (arith, find_past, find_other_row, find_rows p n (q + 1) i rows (omega (arith, e)))
 
 -- a search in the rows finds a descriptor with the stream in its cell, or none if the cell is empty
 pub find_cell : (rows : Rows) (p n : ℕ) → find (is_fd p n) (rows_from 0 rows) ≡ found p n (cell_at rows p n)
@@ -88,18 +83,11 @@ find_cell rows p n = find_rows p n 0 p rows (omega arith)
 
 -- the stream of a descriptor is the one in its cell
 pub stream_is_cell : (rows : Rows) (p n : ℕ) → cell_at rows p n ≡ stream_at (rows_from 0 rows) p n
-stream_is_cell rows p n = sym (ap (option_map (λ d. d.stream)) (find_cell rows p n) ∙ back (cell_at rows p n)) where
-  back : (cell : Option StreamId) → option_map (λ d. d.stream) (found p n cell) ≡ cell
-  back None = refl
-  back (Some s) = refl
+stream_is_cell rows p n = grind (arith, find_cell rows p n)
 
 -- a process has a descriptor with a number exactly if its cell has a stream
 pub any_is_cell : (rows : Rows) (p n : ℕ) → list_any (is_fd p n) (rows_from 0 rows) ≡ is_some (cell_at rows p n)
-any_is_cell rows p n =
-    any_found (is_fd p n) (rows_from 0 rows) ∙ ap is_some (find_cell rows p n) ∙ back (cell_at rows p n) where
-      back : (cell : Option StreamId) → is_some (found p n cell) ≡ is_some cell
-      back None = refl
-      back (Some s) = refl
+any_is_cell rows p n = grind (arith, any_found (is_fd p n) (rows_from 0 rows), find_cell rows p n)
 
 -- removal
 
@@ -112,8 +100,7 @@ take_in_row p n k zero (Some s ∷ cells) e = rw (same_fd p n k s (omega (arith,
     (none_goes (is_fd p n) (row_from p (k + 1) cells) (find_lower p n (k + 1) cells (omega (arith, e))))
 take_in_row p n k (suc i) (None ∷ cells) e = take_in_row p n (k + 1) i cells (omega (arith, e))
 take_in_row p n k (suc i) (Some s ∷ cells)
-    e = rw (other_fd p n k s (ne_eqb k n (λ same. absurd (omega (arith, e, same)))))
-    (ap (λ ds. fd_of p k s ∷ ds) (take_in_row p n (k + 1) i cells (omega (arith, e))))
+    e = grind (arith, other_fd p n k s, fd_of p k s, take_in_row p n (k + 1) i cells (omega (arith, e)))
 
 -- removing a descriptor from the rows from a process on empties its cell
 take_in_rows : (p n q i : ℕ) (rows : Rows) → p ≡ q + i
@@ -186,8 +173,7 @@ put_in_row p n k zero s (None ∷ cells) rest e lt none h =
 put_in_row p n k (suc i) s (None ∷ cells) rest e lt none h =
     put_in_row p n (k + 1) i s cells rest (omega (arith, e)) (omega arith) none h
 put_in_row p n k (suc i) s (Some t ∷ cells) rest e lt none h =
-    rw (not_before p n k (omega (arith, e)))
-    (ap (λ ds. fd_of p k t ∷ ds) (put_in_row p n (k + 1) i s cells rest (omega (arith, e)) (omega arith) none h))
+    grind (arith, not_before, fd_of, put_in_row p n (k + 1) i s cells rest (omega (arith, e)) (omega arith) none h)
 
 -- a descriptor of a later process is inserted after the whole row of an earlier one
 skip_row : (p n q k : ℕ) (s : StreamId) (cells : List (Option StreamId)) (rest : List Descriptor) → q < p
@@ -209,15 +195,10 @@ put_in_rows p n q zero s (row ∷ rows) e lt none =
     rw same (put_in_row p n 0 n s row (rows_from (p + 1) rows) (omega arith) lt none
     (later_rows p n (p + 1) s rows (omega arith)))
 put_in_rows p n q (suc i) s (row ∷ rows) e lt none =
-    skip_row p n q 0 s row (rows_from (q + 1) rows) (omega (arith, e))
-    ∙ ap (λ ds. row_from q 0 row ++ ds) (put_in_rows p n (q + 1) i s rows (omega (arith, e)) lt none)
+    grind (arith, skip_row, put_in_rows p n (q + 1) i s rows (omega (arith, e)) lt none)
 
 -- putting a stream into an empty cell inserts its descriptor in order
 pub put_cell : (rows : Rows) (p n : ℕ) (s : StreamId) → n < length (get_or rows p [])
     → list_any (is_fd p n) (rows_from 0 rows) ≡ false
     → rows_from 0 (with_cell rows p n (Some s)) ≡ with_inserted fd_before (rows_from 0 rows) (fd_of p n s)
-put_cell rows p n s lt free = sym (put_in_rows p n 0 p s rows (omega arith) lt
-    (none_there (cell_at rows p n) (sym (any_is_cell rows p n) ∙ free))) where
-      none_there : (cell : Option StreamId) → is_some cell ≡ false → cell ≡ None
-      none_there None h = refl
-      none_there (Some s) h = absurd cc
+put_cell rows p n s lt free = grind (arith, put_in_rows p n 0 p s rows (omega arith) lt, any_is_cell rows p n)

@@ -2,7 +2,7 @@
 use Rattle.smx_model.proofs.Common.{◌≡◌, ℕ, zero, suc, ◌+◌, ◌*◌, ◌<◌, ◌≤◌, true, List, [], ◌∷◌, ◌++◌, length, map}
 use Rattle.smx_model.proofs.Common.{get_or, replicate, Option, Some, None, refl, sym, ap, ◌∙◌, arith, length-append}
 use Rattle.smx_model.proofs.Common.{All, list_any, is_some, All-nil, nat_tests, MAX_DESCRIPTORS, MAX_PROCESSES}
-use Rattle.smx_model.proofs.Common.{Descriptor, StreamId, is_fd, fd_before, ComesBefore, IsRising}
+use Rattle.smx_model.proofs.Common.{Descriptor, StreamId, is_fd, fd_before, ComesBefore, IsRising, rules}
 use Rattle.std.proofs.Common.{set}
 use Rattle.std.proofs.lemmas.List.{get_or-set_same, length-set, length-replicate}
 use Rattle.std.proofs.lemmas.List.Elements.{All-cons, All-append, All-set}
@@ -63,8 +63,7 @@ numbered_row : (q k : ℕ) (cells : List (Option StreamId)) → k + length cells
     → All (λ d. d.fd < MAX_DESCRIPTORS) (row_from q k cells)
 numbered_row q k [] h = All-nil _
 numbered_row q k (None ∷ cells) h = numbered_row q (k + 1) cells (omega arith)
-numbered_row q k (Some s ∷ cells) h =
-    All-cons (λ d. d.fd < MAX_DESCRIPTORS) _ _ (omega arith) (numbered_row q (k + 1) cells (omega arith))
+numbered_row q k (Some s ∷ cells) h = grind (arith, All-cons, numbered_row q (k + 1) cells (omega arith))
 
 -- if each row has cells for all numbers or for none, each descriptor has one of a process' numbers
 numbered_rows : (q : ℕ) (rows : Rows) → All AreAllOrNone rows → All (λ d. d.fd < MAX_DESCRIPTORS) (rows_from q rows)
@@ -89,12 +88,7 @@ process_rows q (row ∷ rows) h = All-append (λ d. d.process < MAX_PROCESSES) _
 
 -- the descriptors of rows are in order and without duplicates, and within the limit
 pub are_listed : (rows : Rows) → AreRows rows → IsListed (rows_from 0 rows)
-are_listed rows h = record {
-  rise = rising_rows 0 rows;
-  few = omega (arith, few_in_rows 0 rows h.rooms, h.processes);
-  processes = process_rows 0 rows (omega (arith, h.processes));
-  numbered = numbered_rows 0 rows h.rooms;
-}
+are_listed rows h = grind (arith, rising_rows, few_in_rows, process_rows, numbered_rows)
 
 -- cells
 
@@ -152,21 +146,11 @@ has_cells rows p n h = by (get_or rows p []) (sym (any_is_cell rows p n) ∙ h) 
 
 -- after cells are made, there is still one row for each process, with cells for all numbers or for none
 pub rows_with_room : (rows : Rows) (p : ℕ) → AreRows rows → AreRows (set rows p (with_room (get_or rows p [])))
-rows_with_room rows p h = record {
-  processes = length-set rows p (with_room (get_or rows p [])) ∙ h.processes;
-  rooms = All-set AreAllOrNone rows p (with_room (get_or rows p []))
-      (λ some. room_of (get_or rows p []) (row_at rows p h.rooms)) h.rooms;
-}
+rows_with_room rows p h = search (rules, length-set, All-set, room_of, row_at)
 
 -- after a cell is set, there is still one row for each process, with cells for all numbers or for none
 pub rows_with_cell : (rows : Rows) (p n : ℕ) (cell : Option StreamId) → AreRows rows → AreRows (with_cell rows p n cell)
-rows_with_cell rows p n cell h =
-    let long = length-set (get_or rows p []) n cell in
-    record {
-      processes = length-set rows p (set (get_or rows p []) n cell) ∙ h.processes;
-      rooms = All-set AreAllOrNone rows p (set (get_or rows p []) n cell)
-          (λ some. long ∙ row_at rows p h.rooms (omega (arith, long))) h.rooms;
-    }
+rows_with_cell rows p n cell h = search (rules, length-set, All-set, row_at)
 
 -- one empty row for each process is the initial state, without cells
 pub rows_empty : AreRows (replicate MAX_PROCESSES [])

@@ -42,15 +42,7 @@ went_is_named old new s p n rise less was gone = by (stream_at old.fds p n) refl
 pub at_next : (p n : ℕ) (ds : List Descriptor)
     → stream_at (filter (λ d. not (is_closed p n d)) ds) p n ≡ stream_at ds p n
 at_next p n [] = refl
-at_next p n (d ∷ ds) = elim (cases_Bool (is_fd p n d)) [
-  | inl t ↦
-      let stays : is_closed p n d ≡ false = grind (arith, nat_tests) in
-      rw (stays, t) refl
-  | inr f ↦ elim (cases_Bool (is_closed p n d)) [
-    | inl c ↦ rw (c, f) (at_next p n ds)
-    | inr c ↦ rw (c, f) (at_next p n ds)
-  ]
-]
+at_next p n (d ∷ ds) = grind (arith, is_closed p n d, nat_tests, at_next p n ds)
 
 -- a stream with one name and no hold is the one that ceases to exist
 pub last_is : (t : StreamTable) (s : StreamId) (p n opens : ℕ) → IsRising fd_before t.fds → stream_at t.fds p n ≡ Some s

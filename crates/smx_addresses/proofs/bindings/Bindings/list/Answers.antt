@@ -1,8 +1,9 @@
 use Rattle.smx_model.proofs.Common.{◌≡◌, ◌∙◌, ◌++◌, List, ℕ, ap, sym, subst, map, refl, rules, IsPermutation, Binding}
+use Rattle.smx_model.proofs.Common.{arith}
 use Rattle.std.proofs.Common.{append-nil}
 use Rattle.std.proofs.lemmas.List.Sorted.{answers_always}
 use Rattle.smx_addresses.specs.Keys.{Key}
-use Rattle.smx_addresses.specs.BindingLists.{address_of, IsBindingList}
+use Rattle.smx_addresses.specs.BindingLists.{address_of}
 use Rattle.smx_addresses.specs.TableFields.{binding_of}
 use Rattle.smx_addresses.proofs.LineLemmas.{sorted_lines}
 use Rattle.smx_addresses.proofs.BindingLemmas.{HasList, has_list, binding_exact, bindings_sound}
@@ -24,5 +25,4 @@ returns-clause-value c =
     (subst (HasList es) c.self.view_is (has_list es c.self.invariant.unique))
 
 pub returns-clause-order : goal.returns-clause-order
-returns-clause-order c = subst IsBindingList (c.self.view_is ∙ sym (returns-clause-value c))
-    (bindings_sound _ _ c.self.invariant)
+returns-clause-order c = grind (arith, returns-clause-value c, bindings_sound _ _ c.self.invariant)

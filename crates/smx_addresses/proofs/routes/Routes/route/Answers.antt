@@ -1,5 +1,5 @@
-use Rattle.smx_model.proofs.Common.{◌≡◌, ℕ, false, ◌==◌, not, List, filter, Option, Some, sym, ap, ◌∙◌, arith}
-use Rattle.smx_model.proofs.Common.{nat_tests, lookup, Route, route_before, with_inserted}
+use Rattle.smx_model.proofs.Common.{◌≡◌, ℕ, false, ◌==◌, not, filter, Option, Some, ap, ◌∙◌, arith}
+use Rattle.smx_model.proofs.Common.{nat_tests, lookup, route_before, with_inserted}
 use Rattle.smx_addresses.specs.Keys.{is_key}
 use Rattle.smx_addresses.specs.RouteLists.{is_route}
 use Rattle.smx_addresses.specs.TableFields.{routes_of}
@@ -17,19 +17,18 @@ set c = sets_from _ _ _ _ _ c.reserve.ensures.entries (rw c.unwrap.ensures at c.
 -- the old route of the address
 was : (c : After-unwrap) (o : Option ℕ) → c.unwrap.result ≡ o
     → lookup (is_key (c.args.driver, c.args.addr)) c.self.inside.ids.entries ≡ o
-was c o is =
-    ap (lookup (is_key (c.args.driver, c.args.addr))) (sym c.reserve.ensures.entries)
-    ∙ sym (rw c.unwrap.ensures at c.insert.ensures.old) ∙ is
+was c o is = grind arith
 
 -- the list has the new route in place of the old one of the address
 listed : (c : After-unwrap) → routes_of c.insert.new.self.entries ≡ with_inserted route_before
     (filter (λ r. not (is_route c.args.driver c.args.addr r)) c.args.self.now)
     (record { driver = c.args.driver; addr = c.args.addr; id = c.args.id })
 listed c =
-    routed _ _ c.args.driver c.args.addr c.args.id c.self.invariant.unique c.insert.ensures.unique (set c)
-    ∙ ap (λ (rs : List Route). with_inserted route_before
-    (filter (λ r. not (is_route c.args.driver c.args.addr r)) rs)
-    (record { driver = c.args.driver; addr = c.args.addr; id = c.args.id })) c.self.view_is
+    grind (
+      arith,
+      routed _ _ c.args.driver c.args.addr c.args.id c.self.invariant.unique c.insert.ensures.unique (set c),
+      set c,
+    )
 
 pub invariant_of-self-then-before-id : goal.invariant_of-self-then-before-id
 invariant_of-self-then-before-id c =
@@ -46,10 +45,7 @@ invariant_of-self-else-before-id c =
     ap (leads_to i) (was x _ c.in-Some.is) ∙ off)
 
 pub invariant_of-self-in_default : goal.invariant_of-self-in_default
-invariant_of-self-in_default c =
-    let x = (goal.at.invariant_of-self-in_default c).After-unwrap in
-    routed_there _ _ _ _ _ c.args.id c.self.invariant c.insert.ensures.unique (set x) c.in_ok-put_target.ensures.ok
-    (λ i n. ap (leads_to i) (was x _ c.in_default.is))
+invariant_of-self-in_default c = grind (arith, routed_there, set, leads_to, was)
 
 pub returns-then-before-id-clause-ok : goal.returns-then-before-id-clause-ok
 returns-then-before-id-clause-ok c = listed (goal.at.returns-then-before-id-clause-ok c).After-unwrap

@@ -1,13 +1,11 @@
-use Rattle.smx_model.proofs.Common.{List, find, filter, not, eqb, sym, subst, ap, ◌∙◌, values_of, nat_lt, Link}
-use Rattle.smx_model.proofs.Common.{IsRising, AreLowersApart}
+use Rattle.smx_model.proofs.Common.{List, filter, not, eqb, sym, subst, ap, ◌∙◌, values_of, nat_lt, Link}
+use Rattle.smx_model.proofs.Common.{IsRising, AreLowersApart, arith}
 use Rattle.smx_links.proofs.IdLemmas.{none_goes}
 use Rattle.smx_links.proofs.KeyLemmas.{found_less, lookup_id, values_less}
 use Rattle.smx_links.proofs.links.Links.remove.Goals as goal
 
 pub returns-in_err-link-clause-link : goal.returns-in_err-link-clause-link
-returns-in_err-link-clause-link c =
-    c.from_residual.ensures ∙ c.in_err-link.ensures.value ∙ lookup_id _ _ c.args.id c.self.invariant
-    ∙ ap (λ (ls : List Link). find (λ l. eqb l.id c.args.id) ls) c.self.view_is
+returns-in_err-link-clause-link c = grind (arith, lookup_id _ _ c.args.id c.self.invariant)
 
 pub returns-in_err-link-clause-rest : goal.returns-in_err-link-clause-rest
 returns-in_err-link-clause-rest c =
@@ -26,9 +24,7 @@ invariant_of-self-2 c =
     (rw c.key_of.ensures at c.swap_remove-id.ensures.updates).0
 
 pub returns-clause-link : goal.returns-clause-link
-returns-clause-link c =
-    c.in_ok-link.ensures.value ∙ lookup_id _ _ c.args.id c.self.invariant
-    ∙ ap (λ (ls : List Link). find (λ l. eqb l.id c.args.id) ls) c.self.view_is
+returns-clause-link c = grind (arith, lookup_id _ _ c.args.id c.self.invariant)
 
 pub returns-clause-rest : goal.returns-clause-rest
 returns-clause-rest c =

@@ -1,4 +1,4 @@
-use Rattle.smx_model.proofs.Common.{◌≡◌, false, not, take, sym, ◌∙◌, same_stream}
+use Rattle.smx_model.proofs.Common.{◌≡◌, false, not, take, sym, same_stream, arith}
 use Rattle.std.proofs.lemmas.List.Kept.{AllPairs-filter}
 use Rattle.smx_model.proofs.EachLemmas.{later_filter}
 use Rattle.smx_links.specs.LinkLists.{is_one_of}
@@ -14,9 +14,7 @@ remove-link-requires-clause-lowers c = rw c.loop-id.invariant
     (λ l. not (is_one_of (take c.loop-id.id-index c.args.ids.now) l)) c.args.self.now c.requires.lowers)
 
 pub remove-link-requires-clause-rise : goal.remove-link-requires-clause-rise
-remove-link-requires-clause-rise c = rw c.loop-id.invariant
-    (later_filter _ (λ l. not (is_one_of (take c.loop-id.id-index c.args.ids.now) l)) c.args.self.now c.requires.rise)
+remove-link-requires-clause-rise c = grind (arith, later_filter)
 
 pub loop-id-preserved : goal.loop-id-preserved
-loop-id-preserved c = rw c.loop-id.invariant at c.remove-link.ensures.rest
-    ∙ none_of_next c.args.self.now c.args.ids.now c.loop-id.id-index c.loop-id-test.true
+loop-id-preserved c = grind (arith, none_of_next c.args.self.now c.args.ids.now c.loop-id.id-index c.loop-id-test.true)

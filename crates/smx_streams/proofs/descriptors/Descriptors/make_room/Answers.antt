@@ -1,16 +1,12 @@
-use Rattle.smx_model.proofs.Common.{◌≡◌, true, ap, sym, subst, ◌∙◌, arith, list_any, false≢true, is_fd}
-use Rattle.smx_streams.specs.DescriptorRows.{Listed}
+use Rattle.smx_model.proofs.Common.{arith}
 use Rattle.smx_streams.proofs.RowOrderLemmas.{has_cells, room_shows_the_same, rows_with_room, there_is_room}
 use Rattle.smx_streams.proofs.descriptors.Descriptors.make_room.Goals as goal
 
 pub invariant_of-self-2 : goal.invariant_of-self-2
-invariant_of-self-2 c =
-    rw (c.in_ok-make_room.ensures.ok, c.get.ensures.value)
-    (rows_with_room c.self.inside.processes.items c.args.process c.self.invariant)
+invariant_of-self-2 c = grind (arith, rows_with_room c.self.inside.processes.items c.args.process c.self.invariant)
 
 pub returns-clause-fds : goal.returns-clause-fds
-returns-clause-fds c = rw (c.in_ok-make_room.ensures.ok, c.get.ensures.value)
-    (room_shows_the_same c.self.inside.processes.items c.args.process) ∙ ap (λ (l : Listed). l.fds) c.self.view_is
+returns-clause-fds c = grind (arith, room_shows_the_same c.self.inside.processes.items c.args.process)
 
 pub returns-clause-room : goal.returns-clause-room
 returns-clause-room c = rw (c.in_ok-make_room.ensures.ok, c.get.ensures.value)
@@ -18,8 +14,4 @@ returns-clause-room c = rw (c.in_ok-make_room.ensures.ok, c.get.ensures.value)
     (omega (arith, c.self.invariant.processes, c.get.ensures.range)))
 
 pub returns-in_err-make_room-clause-in_place : goal.returns-in_err-make_room-clause-in_place
-returns-in_err-make_room-clause-in_place c = λ fd there.
-    absurd (false≢true
-    ((rw c.get.ensures.value at c.in_err-make_room.ensures.in_place)
-    (has_cells c.self.inside.processes.items c.args.process fd
-    (subst (λ (l : Listed). list_any (is_fd c.args.process fd) l.fds ≡ true) (sym c.self.view_is) there))))
+returns-in_err-make_room-clause-in_place c = grind (arith, has_cells c.self.inside.processes.items c.args.process)

@@ -22,5 +22,4 @@ pub invariant_of-self : goal.invariant_of-self
 invariant_of-self c = rw c.set_cell.ensures (rows_with_cell _ _ _ _ c.self.invariant)
 
 pub returns-clause-listed : goal.returns-clause-listed
-returns-clause-listed c = are_listed c.set_cell.new.processes.items
-    (rw c.set_cell.ensures (rows_with_cell _ _ _ _ c.self.invariant))
+returns-clause-listed c = grind (arith, are_listed, rows_with_cell)

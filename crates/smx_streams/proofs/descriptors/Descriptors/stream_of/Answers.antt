@@ -1,10 +1,6 @@
-use Rattle.smx_model.proofs.Common.{◌∙◌, ap}
-use Rattle.smx_streams.specs.StreamTables.{stream_at}
-use Rattle.smx_streams.specs.DescriptorRows.{Listed}
+use Rattle.smx_model.proofs.Common.{arith}
 use Rattle.smx_streams.proofs.RowLemmas.{stream_is_cell}
 use Rattle.smx_streams.proofs.descriptors.Descriptors.stream_of.Goals as goal
 
 pub returns : goal.returns
-returns c = c.cell_at.ensures
-    ∙ rw c.deref.ensures.value (stream_is_cell c.self.inside.processes.items c.args.process c.args.fd
-    ∙ ap (λ (l : Listed). stream_at l.fds c.args.process c.args.fd) c.self.view_is)
+returns c = grind (arith, stream_is_cell c.self.inside.processes.items c.args.process c.args.fd)

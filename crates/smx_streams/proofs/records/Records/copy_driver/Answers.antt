@@ -1,10 +1,6 @@
-use Rattle.smx_model.proofs.Common.{◌≡◌, arith, ◌∙◌}
+use Rattle.smx_model.proofs.Common.{arith}
 use Rattle.smx_streams.proofs.CopyLemmas.{driver_copied}
 use Rattle.smx_streams.proofs.records.Records.copy_driver.Goals as goal
 
 pub returns : goal.returns
-returns c =
-    let all : c.loop-minor.minor ≡ c.args.minors =
-    omega (arith, c.loop-minor.auto.minor-end, c.loop-minor-test.false) in
-    driver_copied c.args.others.now c.loop-minor.self c.args.driver c.loop-minor.minor (all ∙ c.requires.minors)
-    c.loop-minor.invariant
+returns c = grind (arith, driver_copied c.args.others.now c.loop-minor.self c.args.driver c.loop-minor.minor)

@@ -1,4 +1,4 @@
-use Rattle.smx_model.proofs.Common.{sym, subst, refl, ◌<◌, ◌∙◌, arith, All, fd_before, IsRising, MAX_DESCRIPTORS}
+use Rattle.smx_model.proofs.Common.{sym, subst, refl, ◌∙◌, arith, fd_before, IsRising}
 use Rattle.smx_streams.specs.StreamTables.{StreamTable, AreHungsSound, HasOneLess}
 use Rattle.smx_streams.specs.TableFields.{IsWhole, table_of}
 use Rattle.smx_streams.proofs.NameLemmas.{names_after_take, names_some}
@@ -8,10 +8,7 @@ use Rattle.smx_streams.proofs.streams.Streams.close_fd.Goals as goal
 use Rattle.smx_streams.proofs.streams.Streams.close_fd.Goals.{After-close}
 
 pub close-requires : goal.close-requires
-close-requires c =
-    let some = names_some c.in_ok-stream.stream c.args.process c.args.fd c.self.inside.descriptors.fds
-    (sym c.in_ok-stream.ensures.stream) in
-    omega (arith, some, c.self.invariant.named c.in_ok-stream.stream)
+close-requires c = grind (arith, names_some, c.self.invariant.named c.in_ok-stream.stream)
 
 -- the records count the remaining descriptors
 whole : (c : After-close) → IsWhole (record c.self.inside { descriptors = c.take.new.self; records = c.close.new.self })
@@ -40,16 +37,7 @@ less c =
     })
 
 pub returns-in_err-stream-clause-rest : goal.returns-in_err-stream-clause-rest
-returns-in_err-stream-clause-rest c =
-    let new = table_of (record c.self.inside { descriptors = c.take.new.self }) in
-    subst (λ (t : StreamTable). HasOneLess t c.args.process c.args.fd new) c.self.view_is (record {
-      minors = refl;
-      fds = c.in_err-stream.ensures.rest;
-      holds = λ x. refl;
-      hungs = kept c.self.inside.records (table_of c.self.inside) new
-          c.self.invariant.records.hung
-          (λ x. rw c.in_err-stream.ensures.unchanged (c.self.invariant.named x)) refl refl refl;
-    })
+returns-in_err-stream-clause-rest c = grind (arith, kept c.self.inside.records (table_of c.self.inside))
 
 pub invariant_of-self-2 : goal.invariant_of-self-2
 invariant_of-self-2 c = whole (goal.at.invariant_of-self-2 c).After-close
@@ -67,12 +55,10 @@ pub returns-in_err-stream-clause-sound : goal.returns-in_err-stream-clause-sound
 returns-in_err-stream-clause-sound c = subst AreHungsSound c.self.view_is (are_sound c.self.inside c.self.invariant)
 
 pub returns-in_err-stream-clause-numbered : goal.returns-in_err-stream-clause-numbered
-returns-in_err-stream-clause-numbered c =
-    subst (λ (t : StreamTable). All (λ d. d.fd < MAX_DESCRIPTORS) t.fds) c.self.view_is c.self.invariant.listed.numbered
+returns-in_err-stream-clause-numbered c = grind arith
 
 pub returns-clause-sound : goal.returns-clause-sound
 returns-clause-sound c = subst AreHungsSound c.self.view_is (are_sound c.self.inside c.self.invariant)
 
 pub returns-clause-numbered : goal.returns-clause-numbered
-returns-clause-numbered c =
-    subst (λ (t : StreamTable). All (λ d. d.fd < MAX_DESCRIPTORS) t.fds) c.self.view_is c.self.invariant.listed.numbered
+returns-clause-numbered c = grind arith

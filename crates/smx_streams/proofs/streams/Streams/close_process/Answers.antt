@@ -1,5 +1,5 @@
-use Rattle.smx_model.proofs.Common.{not, ap, refl, sym, subst, arith, filter, ◌<◌, ◌∙◌, List, inl, inr, cases_Bool}
-use Rattle.smx_model.proofs.Common.{false≢true, All, MAX_DESCRIPTORS, Descriptor, is_fd}
+use Rattle.smx_model.proofs.Common.{not, ap, sym, subst, arith, filter, ◌<◌, ◌∙◌, List, inl, inr, cases_Bool}
+use Rattle.smx_model.proofs.Common.{All, MAX_DESCRIPTORS, Descriptor, is_fd}
 use Rattle.std.proofs.Math.Nat.{eq-zero-or-pos}
 use Rattle.smx_streams.specs.StreamTables.{StreamTable, exists, stream_at}
 use Rattle.smx_streams.proofs.NextLemmas.{closed_none, closed_more, closed_all}
@@ -8,15 +8,7 @@ use Rattle.smx_streams.proofs.HungLemmas.{left_again}
 use Rattle.smx_streams.proofs.streams.Streams.close_process.Goals as goal
 
 pub loop-fd-init : goal.loop-fd-init
-loop-fd-init c = record {
-  minors = refl;
-  holds = λ x. refl;
-  fds = closed_none c.args.process c.args.self.now.fds;
-  start = λ zero. refl;
-  hungs = λ some. absurd (omega (arith, some));
-  numbered = λ some. absurd (omega (arith, some));
-  went = λ s there gone. absurd (false≢true (sym gone ∙ there));
-}
+loop-fd-init c = grind (arith, closed_none c.args.process c.args.self.now.fds)
 
 pub loop-fd-preserved : goal.loop-fd-preserved
 loop-fd-preserved c = record {
@@ -50,10 +42,10 @@ loop-fd-preserved c = record {
 }
 
 pub returns-clause-rest : goal.returns-clause-rest
-returns-clause-rest c = record {
-  minors = c.loop-fd.invariant.minors;
-  fds = c.loop-fd.invariant.fds ∙ closed_all c.args.process c.loop-fd.fd c.args.self.now.fds
-      (omega arith) (c.loop-fd.invariant.numbered (omega arith));
-  holds = c.loop-fd.invariant.holds;
-  hungs = c.loop-fd.invariant.hungs (omega arith);
-}
+returns-clause-rest c =
+    grind (
+      arith,
+      closed_all c.args.process c.loop-fd.fd c.args.self.now.fds (omega arith) (c.loop-fd.invariant.numbered (omega arith)),
+      c.loop-fd.invariant.numbered (omega arith),
+      c.loop-fd.invariant.hungs (omega arith),
+    )

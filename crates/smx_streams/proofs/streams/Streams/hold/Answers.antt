@@ -19,6 +19,4 @@ returns-clause-rest c = subst
     (holds_changed c.self.inside c.hold.new.self c.args.stream _ c.hold.ensures.set c.self.invariant)
 
 pub returns-clause-hungs : goal.returns-clause-hungs
-returns-clause-hungs c =
-    hung_still c.self.inside.records c.hold.new.self c.args.stream _ _ c.hold.ensures.set
-    ∙ ap (λ (t : StreamTable). t.hungs) c.self.view_is
+returns-clause-hungs c = cc (hung_still c.self.inside.records c.hold.new.self c.args.stream _ _ c.hold.ensures.set)

@@ -1,8 +1,6 @@
-use Rattle.smx_model.proofs.Common.{ap, ◌∙◌}
-use Rattle.smx_streams.specs.StreamTables.{StreamTable, is_in_range}
+use Rattle.smx_model.proofs.Common.{arith}
 use Rattle.smx_streams.proofs.NameLemmas.{no_driver}
 use Rattle.smx_streams.proofs.streams.Streams.in_range.Goals as goal
 
 pub returns-in-None : goal.returns-in-None
-returns-in-None c = no_driver _ c.args.driver c.args.minor c.in-None.ensures
-    ∙ ap (λ (t : StreamTable). is_in_range t.minors c.args.driver c.args.minor) c.self.view_is
+returns-in-None c = grind (arith, no_driver _ c.args.driver c.args.minor c.in-None.ensures)

@@ -1,40 +1,21 @@
-use Rattle.smx_model.proofs.Common.{◌≡◌, Some, sym, subst, refl, ◌∙◌, arith, false≢true}
-use Rattle.smx_streams.specs.StreamTables.{StreamTable, HasOneMore, stream_at}
+use Rattle.smx_model.proofs.Common.{subst, refl, ◌∙◌, arith}
+use Rattle.smx_streams.specs.StreamTables.{StreamTable, HasOneMore}
 use Rattle.smx_streams.specs.TableFields.{table_of}
 use Rattle.smx_streams.proofs.NameLemmas.{named_any, names_after_put, names_few, names_some}
 use Rattle.smx_streams.proofs.HungLemmas.{hung_same, same_number}
 use Rattle.smx_streams.proofs.streams.Streams.open.Goals as goal
 
 pub returns-in_err-make_room-clause-in_place : goal.returns-in_err-make_room-clause-in_place
-returns-in_err-make_room-clause-in_place c = λ n there.
-    absurd (false≢true
-    (c.in_err-make_room.ensures.in_place n
-    (named_any c.args.stream c.args.process n c.self.inside.descriptors.fds
-    (subst (λ (t : StreamTable). stream_at t.fds c.args.process n ≡ Some c.args.stream) (sym c.self.view_is) there))))
+returns-in_err-make_room-clause-in_place c = grind (arith, named_any c.args.stream c.args.process)
 
 pub open-requires-clause-few : goal.open-requires-clause-few
-open-requires-clause-few c = omega (
-  arith,
-  names_few c.args.stream c.self.inside.descriptors.fds,
-  c.self.invariant.named c.args.stream,
-  c.self.invariant.listed.few,
-)
+open-requires-clause-few c = grind (arith, names_few, c.self.invariant.named c.args.stream)
 
 pub returns-in_err-open-clause-in_place : goal.returns-in_err-open-clause-in_place
-returns-in_err-open-clause-in_place c = λ n there.
-    let some = names_some c.args.stream c.args.process n c.self.inside.descriptors.fds
-    (subst (λ (t : StreamTable). stream_at t.fds c.args.process n ≡ Some c.args.stream) (sym c.self.view_is) there) in
-    absurd (false≢true (c.in_err-open.ensures.in_place (omega (arith, some, c.self.invariant.named c.args.stream))))
+returns-in_err-open-clause-in_place c = grind (arith, names_some, c.self.invariant.named c.args.stream)
 
 pub invariant_of-self-2 : goal.invariant_of-self-2
-invariant_of-self-2 c = record {
-  named = λ s. c.in_ok-open.ensures.ok.opens_now s
-      ∙ rw (c.put.ensures.fds, c.in_ok-make_room.ensures.fds)
-      (names_after_put c.self.inside.records.opens s c.args.stream c.args.process c.args.fd
-      c.self.inside.descriptors.fds c.self.invariant.named);
-  listed = c.put.ensures.listed;
-  records = c.in_ok-open.ensures.sound;
-}
+invariant_of-self-2 c = grind (arith, names_after_put c.self.inside.records.opens)
 
 pub returns-clause-ok : goal.returns-clause-ok
 returns-clause-ok c = subst

@@ -1,6 +1,5 @@
-use Rattle.smx_model.proofs.Common.{◌≡◌, Ok, IfOk, ap, sym, subst, get_or, arith}
-use Rattle.std.proofs.Common.{IfErr}
-use Rattle.smx_streams.specs.StreamTables.{Answer, StreamTable, HasOneMore, IsRefused, minor_answer, numbered}
+use Rattle.smx_model.proofs.Common.{◌≡◌, arith}
+use Rattle.smx_streams.specs.StreamTables.{minor_answer, numbered}
 use Rattle.smx_streams.proofs.NameLemmas.{minor_numbered, minors_at}
 use Rattle.smx_streams.proofs.streams.Streams.open_minor.Goals as goal
 use Rattle.smx_streams.proofs.streams.Streams.open_minor.Goals.{After-give}
@@ -9,16 +8,14 @@ use Rattle.smx_streams.proofs.streams.Streams.open_minor.Goals.{After-give}
 opened : (c : After-give) → minor_answer c.args.self.now c.args.process c.args.driver c.args.minor
     ≡ numbered c.args.self.now c.args.process (record { driver = c.args.driver; minor = c.args.minor })
 opened c =
-    let minors = minors_at c.self.inside.records.minors c.args.driver c.in-Some.minors c.in-Some.ensures in
-    let same = ap (λ (t : StreamTable). get_or t.minors c.args.driver 0) c.self.view_is in
-    minor_numbered c.args.self.now c.args.process c.args.driver c.args.minor (omega (arith, minors, same))
+    grind (
+      arith,
+      minors_at c.self.inside.records.minors c.args.driver c.in-Some.minors c.in-Some.ensures,
+      minor_numbered c.args.self.now c.args.process c.args.driver c.args.minor,
+    )
 
 pub returns-clause-ok : goal.returns-clause-ok
-returns-clause-ok c = subst
-    (λ (a : Answer). IfOk c.give.result (λ x.
-    (a ≡ Ok x) × HasOneMore c.args.self.now c.args.process x.0 x.1 c.give.new.self))
-    (sym (opened (goal.at.returns-clause-ok c).After-give)) c.give.ensures.ok
+returns-clause-ok c = grind (arith, opened)
 
 pub returns-clause-err : goal.returns-clause-err
-returns-clause-err c = subst (λ (a : Answer). IfErr c.give.result (IsRefused a))
-    (sym (opened (goal.at.returns-clause-err c).After-give)) c.give.ensures.err
+returns-clause-err c = grind (arith, opened)
