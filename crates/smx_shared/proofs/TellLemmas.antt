@@ -1,26 +1,20 @@
 -- The knowledge that a seat gains by each step.
-use Rattle.std.proofs.Common.{◌≡◌, ◌≢◌, ⊎_elim, ℕ, ◌+◌, ◌%◌, List, [], ◌∷◌, ◌++◌, Bool, true, false, Some, None, Result}
-use Rattle.std.proofs.Common.{Ok, Err, refl, sym, ap, ap₂, ◌∙◌, subst, arith, ◌<◌, ◌≤◌, true≢false}
-use Rattle.std.specs.Prelude.{IfOk, OnOk, OnErr}
+use Rattle.std.proofs.Common.{◌≡◌, ◌≢◌, ⊎_elim, ℕ, ◌+◌, ◌%◌, List, [], ◌∷◌, Bool, true, false, Some, None}
+use Rattle.std.proofs.Common.{refl, sym, ap, ap₂, ◌∙◌, subst, arith, ◌<◌, ◌≤◌, true≢false}
 use mathlib.Core.Option as maybe
 use mathlib.Core.Option.{none, some, some-injective}
 use lib.ListN.{get_elem?}
 use Rattle.atomic_table.specs.Table.{Final, Seen, State, step, rest}
-use Rattle.smx_types.specs.declared.command.Command.{Command}
 use Rattle.smx_types.specs.declared.command.Entry.{Entry}
 use Rattle.smx_types.specs.declared.driver.DriverSpec.{DriverSpec}
-use Rattle.smx_shared.specs.Calls.{AddsEntry, AnswersEntry}
 use Rattle.smx_shared.specs.Fronts.{front_of}
-use Rattle.smx_shared.specs.Recorded.{Recorded, IsSoundSystem, next_entry, with_entry}
-use Rattle.smx_shared.specs.Seats.{Known, entries_of, AreMetBy, GoesOnNamed, IsBeginningOf, HasMetAll}
-use Rattle.smx_shared.specs.SeatViews.{Mine, after_meeting, after_step, Shows, Looked, Taken, Published, history_in}
-use Rattle.smx_shared.specs.SeatViews.{known_of, system_of, IsAtRest, IsInformed, RestsAfter, HasTurn, HasGrown, HasMet}
-use Rattle.smx_shared.specs.SeatViews.{FoundWord, AddsFor}
+use Rattle.smx_shared.specs.Recorded.{Recorded, IsSoundSystem}
+use Rattle.smx_shared.specs.Seats.{entries_of, AreMetBy, GoesOnNamed, IsBeginningOf, HasMetAll}
+use Rattle.smx_shared.specs.SeatViews.{Mine, after_step, Shows, Looked, Taken}
+use Rattle.smx_shared.specs.SeatViews.{known_of, system_of, IsAtRest, RestsAfter, HasTurn, HasGrown, FoundWord, AddsFor}
 use Rattle.smx_shared.specs.TurnRule.{Slot, Turn, free, held, bit_of, home_of, system_with, IsNamed, TurnRule}
-use Rattle.smx_shared.specs.declared.shared_fault.ApplyFault.{ApplyFault}
 use Rattle.smx_shared.specs.declared.seat_view.SeatView.{SeatView}
-use Rattle.smx_shared.proofs.OwnEntryLemmas.{begins_trans, entries_append, entries_mine, adds_one}
-use Rattle.smx_shared.proofs.OwnEntryLemmas.{adds_begins, adds_none}
+use Rattle.smx_shared.proofs.OwnEntryLemmas.{begins_trans}
 use Rattle.smx_shared.proofs.FrontWordLemmas.{held_odd, free_even, front_and_bit}
 
 -- ---- growing
@@ -139,118 +133,9 @@ ready m m1 s n h named drivers limit more sound front is =
       front = front ∙ ap (λ (ds : List DriverSpec). front_of ds s.history) drivers;
     }
 
--- what the store shows the seat
-pub published : (m m1 m2 : Mine) (s : Recorded) (n : ℕ) → IsReady m m1 s n → Published (step 0 0 0 0 none) m1 n m2
-    → RestsAfter m.0 m2 × (m2.0.seen ≡ s.history) × (m2.0.looks ≡ m.0.looks + 1)
-published m m1 m2 s n r is =
-    let entries : history_in m1.1 ≡ s.history = ap history_in r.has.has in
-    let same : m2 ≡ (after_step m1.0 s.history n false (entries_of m1.0.process s.history), []) =
-    is.1
-    ∙ ap₂ (λ (h : List Entry) (c : List (ℕ × Slot)). (after_step m1.0 h n false (entries_of m1.0.process h), rest c))
-    entries r.has.has in
-    subst (λ (k : Mine). RestsAfter m.0 k × (k.0.seen ≡ s.history) × (k.0.looks ≡ m.0.looks + 1)) (sym same) (
-      (
-        (refl, refl, r.has.whole),
-        record {
-          drivers = ap (λ (v : SeatView). v.drivers) r.view;
-          limit = ap (λ (v : SeatView). v.limit) r.view;
-          met = ap (λ (v : SeatView). v.met) r.view;
-          spent = ap (λ (v : SeatView). v.spent) r.view;
-          named = ap (λ (v : SeatView). v.named) r.view;
-          process = ap (λ (v : SeatView). v.process) r.view;
-          seen = subst (λ (v : SeatView). IsBeginningOf v.seen s.history) r.view
-              (adds_begins m1.0.process m1.0.seen s.history r.more);
-        },
-        record { sound = r.sound; own = λ _. refl },
-      ),
-      refl,
-      ap (λ (v : SeatView). v.looks + 1) r.view,
-    )
-
 -- ---- a command
 
--- a command adds one entry of its process, or none
-pub adds_by : {A : Type 0} (r : Result A ApplyFault) (s s' : Recorded) (p q : ℕ) (seen : List Entry) (command : Command)
-    → OnOk r (s' ≡ with_entry s p command) → OnErr r (s' ≡ s)
-    → s.history ≡ seen → p ≡ q → AddsFor q seen s'.history
-adds_by (Ok x) s s' p q seen command ok err old same =
-    adds_one q seen s'.history (next_entry s p command) same
-    (ap (λ (x : Recorded). x.history) ok ∙ ap (λ (h : List Entry). h ++ next_entry s p command ∷ []) old)
-adds_by (Err f) s s' p q seen command ok err old same =
-    adds_none q seen s'.history (ap (λ (x : Recorded). x.history) err ∙ old)
-
--- if it added one, the seat knows it
-pub answers : (v w : SeatView) (s s' : Recorded) (p : ℕ) (command : Command) → s ≡ system_of v → IsInformed v
-    → v.named ≡ true → v.process ≡ p → HasGrown v w → IsInformed w → w.seen ≡ s'.history
-    → s' ≡ with_entry s p command → AnswersEntry (known_of v) (known_of w) command (next_entry s p command)
-answers v w s s' p command is known named process grown informed seen did =
-    let e : Entry = next_entry s p command in
-    let more : w.seen ≡ v.seen ++ e ∷ [] = seen ∙ ap (λ (x : Recorded). x.history) did
-    ∙ ap (λ (x : Recorded). x.history ++ e ∷ []) is in record {
-      call = ap (λ (q : ℕ). (q, command)) (sym process);
-      seen = (v.seen, more);
-      own = informed.own (grown.named ∙ named) ∙ ap₂ entries_of grown.process more
-          ∙ entries_append v.process v.seen (e ∷ [])
-          ∙ ap₂ (λ (xs ys : List Entry). xs ++ ys) (sym (known.own named)) (entries_mine v.process e (sym process));
-    }
-
--- if a call returns the entry that it added, the seat has seen it last, and has made it
-pub answers_if : (r : Result Entry ApplyFault) (v w : SeatView) (s s' : Recorded) (p : ℕ) (command : Command)
-    → s ≡ system_of v → IsInformed v → v.named ≡ true → v.process ≡ p → HasGrown v w → IsInformed w
-    → w.seen ≡ s'.history
-    → IfOk r (λ e. e ≡ next_entry s p command) → OnOk r (s' ≡ with_entry s p command)
-    → IfOk r (AnswersEntry (known_of v) (known_of w) command)
-answers_if (Ok e) v w s s' p command is known named process grown informed seen answer did =
-    subst (AnswersEntry (known_of v) (known_of w) command) (sym answer)
-    (answers v w s s' p command is known named process grown informed seen did)
-answers_if (Err f) v w s s' p command is known named process grown informed seen answer did = tt
-
--- if a call adds an entry without returning it, the seat knows it too
-pub adds_if : {A : Type 0} (r : Result A ApplyFault) (v w : SeatView) (s s' : Recorded) (p : ℕ) (command : Command)
-    → s ≡ system_of v → IsInformed v → v.named ≡ true → v.process ≡ p → HasGrown v w → IsInformed w
-    → w.seen ≡ s'.history → OnOk r (s' ≡ with_entry s p command)
-    → OnOk r (AddsEntry (known_of v) command (known_of w))
-adds_if (Ok x) v w s s' p command is known named process grown informed seen did =
-    (next_entry s p command, answers v w s s' p command is known named process grown informed seen did)
-adds_if (Err f) v w s s' p command is known named process grown informed seen did = tt
-
--- a seat that had made as much before knows as much of it
-pub adds_since : {A : Type 0} (r : Result A ApplyFault) (old taken new : Known) (command : Command)
-    → taken.process ≡ old.process → taken.own ≡ old.own
-    → OnOk r (AddsEntry taken command new) → OnOk r (AddsEntry old command new)
-adds_since (Ok x) old taken new command process own adds = (
-  adds.0,
-  record {
-    call = adds.1.call ∙ ap (λ (n : ℕ). (n, command)) process;
-    seen = adds.1.seen;
-    own = adds.1.own ∙ ap (λ (es : List Entry). es ++ adds.0 ∷ []) own;
-  },
-)
-adds_since (Err f) old taken new command process own adds = tt
-
 -- ---- a meeting
-
--- what a meeting and the load after it show
-pub met_all : (m m1 m2 : Mine) (w : SeatView) (n : ℕ) → IsAtRest m → m1 ≡ (after_meeting m.0 w, m.1)
-    → Looked (step 0 0 0 0 none) m1 n m2
-    → IsAtRest m2 × IsInformed m2.0 × HasMet m.0 w m2.0
-met_all m m1 m2 w n r join t =
-    let t' : Looked (step 0 0 0 0 none) (after_meeting m.0 w, m.1) n m2 = subst
-    (λ (y : Mine). Looked (step 0 0 0 0 none) y n m2) join t in
-    subst (λ (y : Mine). IsAtRest y × IsInformed y.0 × HasMet m.0 w y.0) (sym t'.4) (
-      (r.0, refl, r.2),
-      record { sound = t'.2.sound; own = t'.2.own },
-      record {
-        drivers = refl;
-        limit = refl;
-        named = refl;
-        process = refl;
-        own = refl;
-        seen = t'.2.grown;
-        met = refl;
-        all_met = t'.2.met;
-      },
-    )
 
 -- ---- the end
 

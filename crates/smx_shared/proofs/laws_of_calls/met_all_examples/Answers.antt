@@ -12,18 +12,3 @@ other_of_two (suc (suc p)) below apart = absurd (omega arith)
 -- one process is process 0
 first_of_one : (p : ℕ) → p < 1 → IsNotMet p [] → p ≡ 0
 first_of_one p below apart = omega arith
-
-pub returns-clause-all : goal.returns-clause-all
-returns-clause-all c = other_of_two
-
-pub returns-clause-alone : goal.returns-clause-alone
-returns-clause-alone c = first_of_one
-
-pub returns-clause-not_all : goal.returns-clause-not_all
-returns-clause-not_all c all = absurd (cc (all 2 (omega arith) ((λ is. absurd (cc is)), tt)))
-
-pub returns-clause-not_alone : goal.returns-clause-not_alone
-returns-clause-not_alone c all = absurd (cc (all 1 (omega arith) tt))
-
-pub returns-clause-not_by_its_own : goal.returns-clause-not_by_its_own
-returns-clause-not_by_its_own c all = absurd (cc (all 1 (omega arith) ((λ is. absurd (cc is)), tt)))

@@ -1,4 +1,4 @@
-use Rattle.std.proofs.Common.{◌≡◌, List, [], ◌∷◌, ◌++◌, ap, ◌∙◌, sym, arith}
+use Rattle.std.proofs.Common.{◌≡◌, List, [], ◌∷◌, ◌++◌, ap, arith}
 use Rattle.smx_types.specs.declared.command.Entry.{Entry}
 use Rattle.smx_shared.specs.WorkedCalls.{exited, opened}
 use Rattle.smx_shared.proofs.laws_of_calls.unanswered_call_examples.Goals as goal
@@ -11,10 +11,3 @@ not_the_last (a ∷ []) is =
     omega (arith, ap (λ (e : Entry). e.process) same)
 not_the_last (a ∷ b ∷ []) is = cc
 not_the_last (a ∷ b ∷ c ∷ before) is = cc
-
-pub returns-clause-not_before_another : goal.returns-clause-not_before_another
-returns-clause-not_before_another c adds =
-    let own : opened ∷ [] ≡ adds.0 ∷ [] = adds.1.own in
-    let same : opened ≡ adds.0 = cc in
-    not_the_last adds.1.seen.0
-    (adds.1.seen.1 ∙ ap (λ (e : Entry). adds.1.seen.0 ++ e ∷ []) (sym same))

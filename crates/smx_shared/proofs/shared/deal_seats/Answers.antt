@@ -1,25 +1,7 @@
-use Rattle.std.proofs.Common.{rules, ◌≡◌, ◌<◌, [], true, ap, ap₂, ◌∙◌}
+use Rattle.std.proofs.Common.{rules, ◌≡◌, [], true, ap, ap₂, ◌∙◌}
 use Rattle.smx_shared.specs.SeatViews.{Mine, unnamed, with_next_name, without_right, view_beside, seated_of}
 use Rattle.smx_shared.proofs.CallLemmas.{one_seat_more}
 use Rattle.smx_shared.proofs.shared.deal_seats.Goals as goal
-
-pub name-requires-clause-table : goal.name-requires-clause-table
-name-requires-clause-table g c = c.loop-number.invariant.table
-
-pub name-requires-clause-right : goal.name-requires-clause-right
-name-requires-clause-right g c =
-    let next = c.loop-number.invariant.next in
-    let below : c.loop-number.number < 64 = search rules in
-    rw next (search rules, below)
-
-pub name-requires-clause-one_of : goal.name-requires-clause-one_of
-name-requires-clause-one_of g c =
-    let is = c.requires.processes.0 in
-    let below : c.loop-number.number < c.args.processes = search rules in
-    rw (c.loop-number.invariant.next, is) below
-
-pub name-requires-clause-idle : goal.name-requires-clause-idle
-name-requires-clause-idle g c = rw c.loop-number.invariant.next (search rules)
 
 pub loop-number-preserved : goal.loop-number-preserved
 loop-number-preserved g c =

@@ -1,4 +1,3 @@
-use Rattle.std.proofs.Common.{arith}
 use Rattle.smx_shared.proofs.CallLemmas.{found_small, found_front, found_held, has_seen_more_by}
 use Rattle.smx_shared.proofs.shared.Shared.try_call.Goals as goal
 
@@ -21,9 +20,6 @@ pub returns-in_err-apply-clause-seen : goal.returns-in_err-apply-clause-seen
 returns-in_err-apply-clause-seen g c =
     let back = c.apply.ensures.rest in
     rw (← c.seat.view_is) (has_seen_more_by _ _ _ c.try_take.ensures.grown.0 back.1 back.2 c.seat.invariant.1)
-
-pub returns-clause-steps : goal.returns-clause-steps
-returns-clause-steps g c = rw (← c.seat.view_is) (omega (arith, c.apply.ensures.counted, c.try_take.ensures.counted))
 
 pub returns-clause-seen : goal.returns-clause-seen
 returns-clause-seen g c =

@@ -1,4 +1,4 @@
-use Rattle.std.proofs.Common.{◌≡◌, [], ◌∷◌, ◌++◌, ap, arith, length}
+use Rattle.std.proofs.Common.{◌≡◌, [], ◌∷◌, ◌++◌}
 use Rattle.smx_types.specs.declared.command.Entry.{Entry}
 use Rattle.smx_shared.proofs.RecordLemmas.{one_entry_more}
 use Rattle.smx_shared.proofs.system.System.apply.Goals as goal
@@ -17,8 +17,3 @@ invariant_of-self-2 g c =
 
 pub returns-clause-sound : goal.returns-clause-sound
 returns-clause-sound g c = (invariant_of-self-2 g c).sound
-
-pub add-requires-clause-few : goal.add-requires-clause-few
-add-requires-clause-few g c =
-    let made = c.in_ok-make_room.ensures in
-    omega (arith, made.below, c.self.invariant.sound.limited, ap length made.same)

@@ -1,12 +1,9 @@
-use Rattle.std.proofs.Common.{rules, None, ◌∙◌, ap, subst}
+use Rattle.std.proofs.Common.{rules, ◌∙◌, ap, subst}
 use Rattle.smx_shared.specs.Fronts.{front_of}
 use Rattle.smx_shared.specs.Recorded.{IsSoundSystem, Recorded}
 use Rattle.smx_shared.proofs.StepLemmas.{publishes}
-use Rattle.smx_shared.proofs.TellLemmas.{has_slot, ready, published}
+use Rattle.smx_shared.proofs.TellLemmas.{ready}
 use Rattle.smx_shared.proofs.turn_table.TurnTable.give_back.Goals as goal
-
-pub exchange-requires : goal.exchange-requires
-exchange-requires g c = (c.requires.table, (None, has_slot _ _ c.requires.turn.0))
 
 pub store-requires : goal.store-requires
 store-requires g c =
@@ -18,12 +15,3 @@ store-requires g c =
       search rules,
       publishes _ _ _ _ _ _ _ _ c.args.system.history is.has is.named is.more is.sound is.front,
     )
-
-pub returns : goal.returns
-returns g c =
-    let r = c.requires in
-    let sound = subst IsSoundSystem c.system.ensures c.front_word-front.ensures.sound in
-    let word = c.front_word-front.ensures.word ∙ ap (λ (s : Recorded). front_of s.drivers s.history) c.system.ensures in
-    let is = ready _ _ c.args.system _ r.turn.0 r.turn.1 r.same.0 r.same.1 r.more sound word c.exchange.ensures.3 in
-    let told = published _ _ _ _ _ is c.store.ensures.2 in
-    record { table = c.store.ensures.0 ∙ c.exchange.ensures.0; rest = told.0; seen = told.1; counted = told.2 }

@@ -1,7 +1,6 @@
 use Rattle.std.proofs.Common.{rules, ap, ◌∙◌}
 use Rattle.smx_shared.proofs.SeatStepLemmas.{meets}
 use Rattle.smx_shared.proofs.StepLemmas.{looks}
-use Rattle.smx_shared.proofs.TellLemmas.{met_all}
 use Rattle.smx_shared.proofs.turn_table.TurnTable.meet.Goals as goal
 
 pub join_seat-requires : goal.join_seat-requires
@@ -18,8 +17,3 @@ load-requires g c =
       looks _ _ _ _ _ _ _ (ap (λ m. m.0.spent) joined ∙ r.2)
           (ap (λ m. m.0.turn) joined ∙ r.1),
     )
-
-pub returns : goal.returns
-returns g c =
-    let told = met_all _ _ _ c.args.other.me.0 _ c.requires.rest.0 c.join_seat.ensures.2 c.load.ensures.2 in
-    record { table = c.load.ensures.0 ∙ c.join_seat.ensures.0; rest = (told.0, told.1); same = told.2 }

@@ -7,18 +7,10 @@ pub fetch_or-word-requires : goal.fetch_or-word-requires
 fetch_or-word-requires g c =
     (c.requires.table, search rules, takes_turn _ _ _ _ _ _ _ (c.requires.rest.2, c.requires.named) c.requires.rest.1)
 
-pub returns-then-word-eq0 : goal.returns-then-word-eq0
-returns-then-word-eq0 g c =
-    let told = taken_free _ _ _ c.requires.rest c.fetch_or-word.ensures.2 c.if-word-eq0.true in
-    record { table = c.fetch_or-word.ensures.0; grown = (told.1, told.2); taken = told.0; counted = told.3; held = tt }
+pub returns-then-word-eq0-clause-taken : goal.returns-then-word-eq0-clause-taken
+returns-then-word-eq0-clause-taken g c =
+    (taken_free _ _ _ c.requires.rest c.fetch_or-word.ensures.2 c.if-word-eq0.true).0
 
-pub returns-else-word-eq0 : goal.returns-else-word-eq0
-returns-else-word-eq0 g c =
-    let told = taken_held _ _ _ c.requires.rest c.fetch_or-word.ensures.2 c.if-word-eq0.false in
-    record {
-      table = c.fetch_or-word.ensures.0;
-      grown = (told.0.1, told.1.own);
-      taken = tt;
-      counted = told.1.looks;
-      held = told;
-    }
+pub returns-else-word-eq0-clause-held : goal.returns-else-word-eq0-clause-held
+returns-else-word-eq0-clause-held g c =
+    taken_held _ _ _ c.requires.rest c.fetch_or-word.ensures.2 c.if-word-eq0.false
