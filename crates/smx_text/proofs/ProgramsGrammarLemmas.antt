@@ -120,8 +120,12 @@ pub well_made : (version : Version) → IsWellMade (programs_grammar version)
 well_made version = made_by (reader version) (tells_apart version) tt (header_is_line version) (spelling version)
 
 -- the grammars of programs are well made in both versions, and their headers differ
-pub versions : AreVersions programs_grammar
-versions = record { made = well_made; differ = differ (codes "programs 1") (codes "programs 2") refl }
+abbrev pub versions : AreVersions programs_grammar
+versions = record {
+  version_of = λ v. v.version;
+  made = well_made;
+  differ = differ (codes "programs 1") (codes "programs 2") refl;
+}
 
 -- a text other than the end is that of a line that fits, or of no line of programs
 line_or_not : (version : Version) (lines : List Line) (text : List ℕ)

@@ -138,8 +138,12 @@ pub well_made : (version : Version) → IsWellMade (transcript_grammar version)
 well_made version = made_by (reader version) (tells_apart version) tt (header_is_line version) (spelling version)
 
 -- the grammars of transcripts are well made in both versions, and their headers differ
-pub versions : AreVersions transcript_grammar
-versions = record { made = well_made; differ = differ (codes "transcript 1") (codes "transcript 2") refl }
+abbrev pub versions : AreVersions transcript_grammar
+versions = record {
+  version_of = λ t. t.version;
+  made = well_made;
+  differ = differ (codes "transcript 1") (codes "transcript 2") refl;
+}
 
 -- ---- results for a parsed line are results for its text
 

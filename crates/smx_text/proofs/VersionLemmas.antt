@@ -19,6 +19,7 @@ use Rattle.smx_text.proofs.ReadingLemmas.{any_of, any_of_each, full_and, one_mor
 
 -- in each version a line's text determines the line, and the versions have different headers
 pub record AreVersions {V K : Type 0} (g : Version → Grammar V K) : Type 0 where
+  pub version_of : V → Version
   pub made : (version : Version) → IsWellMade (g version)
   pub differ : header (g V1) ≢ header (g V2)
 

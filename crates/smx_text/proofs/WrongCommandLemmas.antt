@@ -31,12 +31,13 @@ use Rattle.smx_words.proofs.NumberLemmas.{decimal_digits, own}
 use Rattle.smx_words.proofs.PlainLemmas.{some_command}
 use Rattle.smx_words.proofs.SameCommandLemmas.{verb_is, verb_of}
 use Rattle.smx_text.specs.declared.text_fault.Cause.TheVariants as cause
-use Rattle.smx_text.specs.Grammar.{IsNoLine, IsOneLine, Reaches}
+use Rattle.smx_text.specs.Grammar.{IsNoLine, IsOneLine}
 use Rattle.smx_text.specs.ProgramsText.{IsAllowed, body, programs_grammar}
 use Rattle.smx_text.specs.WorkedFaults.{AreWrongPrograms, with_line_4}
 use Rattle.smx_text.proofs.ProgramsGrammarLemmas.{no_line, not_verb}
-use Rattle.smx_text.proofs.LineWordLemmas.{first_word, differ}
-use Rattle.smx_text.proofs.WorkedFaultLemmas.{told, wrong_programs}
+use Rattle.smx_text.proofs.LineWordLemmas.{first_word, differ, told}
+use Rattle.smx_text.proofs.ProgramsGrammarLemmas.{versions}
+use Rattle.smx_text.proofs.WorkedFaultLemmas.{wrong_line}
 
 -- ---- line 4 of a text
 
@@ -49,16 +50,12 @@ before = program_lists (record { name = codes "ip"; kind = kind.Mux; minors = 4;
 pub before_allowed : IsAllowed V1 before
 before_allowed = search (rules, arith)
 
--- line 4 is whole, after the lines of the programs before it
-reaches : (text : List ℕ) → IsOneLine text → Reaches (programs_grammar V1) (with_line_4 text) (body before) text 4
-unfolding digits
-reaches text one =
-    record { begun = (before, [], before_allowed, refl); next = (codes "end\n", one, refl); numbered = refl }
-
 -- a text that spells no line which may follow these programs gives line 4 the fault `Form`
 pub wrong_at_4 : (text : List ℕ) → IsOneLine text → IsNoLine (programs_grammar V1) (body before) text
     → AreWrongPrograms (with_line_4 text) 4 cause.Form
-wrong_at_4 text one none = wrong_programs V1 refl (body before, text, reaches text one, none)
+unfolding digits
+wrong_at_4 text one none =
+    wrong_line versions V1 (body before) text (codes "end\n") cause.Form refl (before, [], before_allowed, refl) one none
 
 -- words of no command, driver or process, and not the end, spell no line after these programs
 no_words : (ws : List (List ℕ)) → AllByRecursion (IsFree SPACE) ws × (0 < length ws)
