@@ -1,10 +1,10 @@
 -- Facts about the words of lines that both texts use.
-use Rattle.std.proofs.Common.{◌≡◌, ◌≢◌, ℕ, ◌<◌, true, false, List, [], ◌∷◌, length, sym, ◌∙◌, arith, rules}
+use Rattle.std.proofs.Common.{◌≡◌, ◌≢◌, ℕ, ◌<◌, true, false, List, [], ◌∷◌, length, sym, ap, ◌∙◌, arith, rules}
 use Rattle.std.specs.Prelude.{codes}
 use Rattle.std.specs.Str.{bytes_eq}
 use Rattle.std.proofs.lemmas.Slice.Eq.{bytes_eq-Decides}
 use Rattle.smx_words.specs.Words.{AreWords, IsFree, LINE_FEED, SPACE, line_of}
-use Rattle.smx_words.proofs.LineLemmas.{line_free, same_free_words, same_words, words_free}
+use Rattle.smx_words.proofs.LineLemmas.{line_free, same_free_words, words_free}
 use Rattle.std.specs.List.{AllByRecursion}
 use Rattle.smx_text.specs.Grammar.{IsOneLine}
 
@@ -12,10 +12,6 @@ use Rattle.smx_text.specs.Grammar.{IsOneLine}
 abbrev pub first_word : List (List ℕ) → List ℕ
 first_word [] = []
 first_word (w ∷ ws) = w
-
--- two lists of words that make the same line are equal
-pub one_spelling : (ws vs : List (List ℕ)) → AreWords ws → AreWords vs → line_of ws ≡ line_of vs → ws ≡ vs
-one_spelling ws vs h k e = same_words ws vs h.0 k.0 e
 
 -- `config` is a word
 pub config_spelled : AreWords (codes "config" ∷ [])
@@ -40,3 +36,7 @@ differ w v other e =
 pub told : (ws vs : List (List ℕ)) → AllByRecursion (IsFree SPACE) ws × (0 < length ws) → AreWords vs
     → line_of ws ≡ line_of vs → ws ≡ vs
 told ws vs h k e = same_free_words ws vs h.0 (words_free SPACE (omega arith) vs k.0) h.1 k.1 e
+
+-- words with different first words are different
+pub other_first : (ws vs : List (List ℕ)) → bytes_eq (first_word ws) (first_word vs) ≡ false → ws ≢ vs
+other_first ws vs other e = differ (first_word ws) (first_word vs) other (ap first_word e)

@@ -12,7 +12,7 @@ use Rattle.smx_text.specs.declared.text_fault.TextFault.{TextFault}
 use Rattle.smx_text.specs.Grammar.{Grammar, IsOneLine, IsBegun, header, line_text, beginning, full_text, Reaches}
 use Rattle.smx_text.specs.Grammar.{IsFault, Reads, ReadsAny, last_line}
 use Rattle.smx_text.proofs.GrammarLemmas.{IsWellMade, Answers, Stops, Behind, refused, ended, beginning_and}
-use Rattle.smx_text.proofs.GrammarLemmas.{both_behind, line_behind}
+use Rattle.smx_text.proofs.GrammarLemmas.{both_behind, line_behind, one_line}
 use Rattle.smx_text.proofs.HasReadingLemmas.{HasReading}
 use Rattle.smx_text.proofs.LineLemmas.{not_one, one_cut}
 use Rattle.smx_text.proofs.ReadingLemmas.{any_of, any_of_each, full_and, one_more}
@@ -81,7 +81,7 @@ module _ {V K : Type 0} (g : Version → Grammar V K) (are : AreVersions g) wher
         (inr (
           end,
           after,
-          (are.made version).one_line _ (are.made version).fits_end,
+          one_line (are.made version) _ (are.made version).fits_end,
           refl,
           inr (inr (refl, v, allowed, refl, refl)),
         ))

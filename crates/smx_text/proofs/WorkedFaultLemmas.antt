@@ -1,14 +1,19 @@
 -- Worked examples of texts with a fault, for any kind of text.
-use Rattle.std.proofs.Common.{◌≡◌, ◌≢◌, ℕ, ◌+◌, Bool, true, false, List, ◌∷◌, ◌++◌, length, Result, Ok, Err, refl}
+use Rattle.std.proofs.Common.{◌≡◌, ◌≢◌, ℕ, ◌+◌, ◌<◌, Bool, true, false, List, ◌∷◌, ◌++◌, length, Result, Ok, Err, refl, sym, subst, ◌∙◌}
 use Rattle.smx_types.specs.declared.version.Version.{Version}
-use Rattle.smx_words.specs.Words.{LINE_FEED}
+use Rattle.std.specs.List.{AllByRecursion}
+use Rattle.std.specs.Str.{bytes_eq}
+use Rattle.smx_types.specs.declared.version.Version.TheVariants.{V1, V2}
+use Rattle.smx_words.specs.Words.{IsFree, LINE_FEED, SPACE, line_of}
 use Rattle.smx_text.specs.declared.text_fault.Cause.{Cause}
 use Rattle.smx_text.specs.declared.text_fault.Cause.TheVariants as cause
 use Rattle.smx_text.specs.declared.text_fault.TextFault.{TextFault}
-use Rattle.smx_text.specs.Grammar.{Grammar, IsBegun, IsFault, IsOneLine, ReadsAny, Spells, beginning, line_text}
+use Rattle.smx_text.specs.Grammar.{Grammar, IsBegun, IsFault, IsOneLine, ReadsAny, Spells, beginning, header, line_text}
 use Rattle.smx_text.specs.Reading.{Refuses}
 use Rattle.smx_text.proofs.MachineLemmas.{Machine, IsAt, misplaced, too_many}
-use Rattle.smx_text.proofs.ReadingLemmas.{any_of, any_of_each, refused, refuses}
+use Rattle.smx_text.proofs.GrammarLemmas.{one_line, refuses, tells_apart}
+use Rattle.smx_text.proofs.LineWordLemmas.{differ, told}
+use Rattle.smx_text.proofs.ReadingLemmas.{any_of, any_of_each, cut_at, refused}
 use Rattle.smx_text.proofs.VersionLemmas.{AreVersions, one_reading_of_all}
 
 -- the cause is neither out of memory nor a wrong header
@@ -44,10 +49,20 @@ module _ {V K : Type 0} {g : Version → Grammar V K} (are : AreVersions g) wher
   wrong_text version {bytes} {why = why} h fault = let not = not_header why h in
       wrong bytes _ not.0 (any_of g bytes version (Err _) fault not.1)
 
-  -- bytes with a wrong header in each version spell no value
-  pub wrong_header : {bytes : List ℕ} {n : ℕ} → ((version : Version) → IsFault (g version) bytes n cause.Header)
-      → AreWrong bytes n cause.Header
-  wrong_header {bytes} each = wrong bytes _ (λ e. cc) (any_of_each g bytes _ each)
+  -- a first line that is the header of no version is a fault
+  pub wrong_first : (text after : List ℕ) → IsOneLine text → bytes_eq text (header (g V1)) ≡ false
+      → bytes_eq text (header (g V2)) ≡ false → AreWrong (text ++ LINE_FEED ∷ after) 1 cause.Header
+  wrong_first text after one first second =
+      wrong _ (record { line = 1; cause = cause.Header }) (λ e. cc) (any_of_each g _ _ in_each) where
+        in_each : (version : Version) → IsFault (g version) (text ++ LINE_FEED ∷ after) 1 cause.Header
+        in_each V1 = (text, (after, one, refl), differ text (header (g V1)) first, refl)
+        in_each V2 = (text, (after, one, refl), differ text (header (g V2)) second, refl)
+
+  -- bytes that end within the line after a prefix of an allowed value's lines are cut there
+  pub cut_text : (version : Version) (ls : List K) (last : List ℕ) → IsBegun (g version) ls → IsOneLine last
+      → AreWrong (beginning (g version) ls ++ last) (length ls + 2) cause.Cut
+  cut_text version ls last begun one = wrong_text version refl
+      (cut_at (g version) _ last ls _ (record { begun = begun; parts = refl; numbered = refl }) one)
 
   -- a whole line after a prefix of an allowed value's lines that is refused is a fault
   pub wrong_line : (version : Version) (ls : List K) (text after : List ℕ) (why : Cause) → is_behind why ≡ true
@@ -57,20 +72,36 @@ module _ {V K : Type 0} {g : Version → Grammar V K} (are : AreVersions g) wher
       wrong_text version h (refused (g version) _ (text ++ LINE_FEED ∷ after) ls (length ls + 2) text after
       (record { begun = begun; parts = refl; numbered = refl }) (one, refl) why fault)
 
+  -- words that are those of no line that fits are a fault
+  pub wrong_words : (version : Version) (ls : List K) (ws : List (List ℕ)) (after : List ℕ) → IsBegun (g version) ls
+      → AllByRecursion (IsFree SPACE) ws × (0 < length ws) × IsOneLine (line_of ws)
+      → ((k : K) → (g version).FitsLine k → ws ≢ (g version).line_words k)
+      → AreWrong (beginning (g version) ls ++ (line_of ws ++ LINE_FEED ∷ after)) (length ls + 2) cause.Form
+  wrong_words version ls ws after begun (free, some, one) none =
+      wrong_line version ls (line_of ws) after cause.Form refl begun one (λ k fits may e.
+      none k fits (told ws ((g version).line_words k) (free, some) ((are.made version).are_words k fits) e))
+
+  -- a line of version 2 only is a fault in version 1, if lines of version 1 are also lines of version 2
+  pub later_line : ((k : K) → (g V1).FitsLine k → (g V2).FitsLine k × (line_text (g V2) k ≡ line_text (g V1) k))
+      → (ls : List K) (k : K) (after : List ℕ) → IsBegun (g V1) ls → (g V2).FitsLine k → ((g V1).FitsLine k → ⊥)
+      → AreWrong (beginning (g V1) ls ++ (line_text (g V2) k ++ LINE_FEED ∷ after)) (length ls + 2) cause.Form
+  later_line too ls k after begun fits later =
+      wrong_line V1 ls (line_text (g V2) k) after cause.Form refl begun (one_line (are.made V2) k fits) (λ l first may e.
+      let also = too l first in
+      later (subst (g V1).FitsLine (tells_apart (are.made V2) l k also.0 fits (also.1 ∙ sym e)) first))
+
   module _ (version : Version) {D : Type 0} {m : Machine V K D} {ls : List K} {d : D} (at : IsAt (g version) m ls d)
       (begun : IsBegun (g version) ls) (k : K) (fits : (g version).FitsLine k) (after : List ℕ) where
     -- a line that may not follow is a fault
     pub misplaced_line : m.takes d k ≡ false
         → AreWrong (beginning (g version) ls ++ (line_text (g version) k ++ LINE_FEED ∷ after)) (length ls + 2) cause.Form
     misplaced_line never =
-        let made = are.made version in
-        wrong_line version ls _ after cause.Form refl begun (made.one_line k fits)
-        (refuses (g version) made.tells_apart ls k _ fits refl cause.Form (misplaced at k never))
+        wrong_line version ls _ after cause.Form refl begun (one_line (are.made version) k fits)
+        (refuses (are.made version) ls k _ fits refl cause.Form (misplaced at k never))
 
     -- a line over the limit is a fault
     pub one_too_many : m.takes d k ≡ true → m.is_full d k ≡ true
         → AreWrong (beginning (g version) ls ++ (line_text (g version) k ++ LINE_FEED ∷ after)) (length ls + 2) cause.Many
     one_too_many may full =
-        let made = are.made version in
-        wrong_line version ls _ after cause.Many refl begun (made.one_line k fits)
-        (refuses (g version) made.tells_apart ls k _ fits refl cause.Many (too_many at k may full))
+        wrong_line version ls _ after cause.Many refl begun (one_line (are.made version) k fits)
+        (refuses (are.made version) ls k _ fits refl cause.Many (too_many at k may full))

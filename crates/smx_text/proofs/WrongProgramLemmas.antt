@@ -1,5 +1,5 @@
 -- Programs texts with a misplaced line, a missing line, or a line over the limit.
-use Rattle.std.proofs.Common.{◌≢◌, ℕ, zero, suc, List, [], ◌∷◌, ◌++◌, refl, sym, arith, rules, inl, inr}
+use Rattle.std.proofs.Common.{ℕ, zero, suc, List, [], ◌∷◌, ◌++◌, refl, sym, arith, rules, inl}
 use Rattle.std.specs.Fmt.{digits}
 use Rattle.std.specs.List.{AllByRecursion}
 use Rattle.std.specs.Prelude.{codes}
@@ -12,17 +12,16 @@ use Rattle.smx_types.specs.declared.version.Version.{Version}
 use Rattle.smx_types.specs.declared.version.Version.TheVariants.{V1, V2}
 use Rattle.smx_words.specs.Spellable.{FitsDriver}
 use Rattle.smx_text.specs.declared.text_fault.Cause.TheVariants as cause
-use Rattle.smx_text.specs.Grammar.{IsBegun, header}
+use Rattle.smx_text.specs.Grammar.{IsBegun}
 use Rattle.smx_text.specs.ProgramLines.{Line}
 use Rattle.smx_text.specs.ProgramLines as line
 use Rattle.smx_text.specs.ProgramsText.{IsAllowed, body, programs_grammar}
 use Rattle.smx_text.specs.WorkedFaults.{AreWrongPrograms, with_drivers, with_line_4, with_processes}
 use Rattle.smx_text.proofs.EachLemmas.{all_push}
-use Rattle.smx_text.proofs.LineWordLemmas.{differ}
 use Rattle.smx_text.proofs.MachineLemmas.{nothing_begun}
 use Rattle.smx_text.proofs.ProgramsGrammarLemmas.{versions}
 use Rattle.smx_text.proofs.ProgramsMachineLemmas.{reader, stands}
-use Rattle.smx_text.proofs.WorkedFaultLemmas.{wrong_text, wrong_header, misplaced_line, one_too_many}
+use Rattle.smx_text.proofs.WorkedFaultLemmas.{cut_text, misplaced_line, one_too_many, wrong_first, wrong_text}
 use Rattle.smx_text.proofs.WrongCommandLemmas.{before, before_allowed}
 
 -- ---- the header, and nothing after it
@@ -35,22 +34,17 @@ nothing = wrong_text versions V1 refl ([], [], inl (refl, refl), tt, refl)
 pub cut_header : AreWrongPrograms (codes "programs 1") 1 cause.Cut
 cut_header = wrong_text versions V1 refl ([], codes "programs 1", inl (refl, refl), search rules, refl)
 
--- `programs 3` is not the header of any version
-other_number : (version : Version) → codes "programs 3" ≢ header (programs_grammar version)
-other_number V1 = differ (codes "programs 3") (codes "programs 1") refl
-other_number V2 = differ (codes "programs 3") (codes "programs 2") refl
-
 -- programs of version 3 have a wrong header
 pub version_3 : AreWrongPrograms (codes "programs 3\n") 1 cause.Header
-version_3 = wrong_header versions (λ version. (codes "programs 3", ([], search rules, refl), other_number version, refl))
+version_3 = wrong_first versions (codes "programs 3") [] (search rules) refl refl
 
 -- a header of version 1 with nothing after it is cut at line 2
 pub header_alone : AreWrongPrograms (codes "programs 1\n") 2 cause.Cut
-header_alone = wrong_text versions V1 refl (codes "programs 1\n", [], inr ([], nothing_begun (reader V1), refl, refl), tt, refl)
+header_alone = cut_text versions V1 [] [] (nothing_begun (reader V1)) tt
 
 -- a header of version 2 with nothing after it is cut at line 2
 pub version_2_alone : AreWrongPrograms (codes "programs 2\n") 2 cause.Cut
-version_2_alone = wrong_text versions V2 refl (codes "programs 2\n", [], inr ([], nothing_begun (reader V2), refl, refl), tt, refl)
+version_2_alone = cut_text versions V2 [] [] (nothing_begun (reader V2)) tt
 
 -- ---- misplaced lines
 
@@ -95,26 +89,12 @@ no_command = program_lists [] ([] ∷ [])
 -- programs without the line `end` are cut at the line after their last one
 pub no_end : AreWrongPrograms (codes "programs 1\ndriver ip mux 4 8 3 16\nprocess 0\nclone ip\n") 5 cause.Cut
 unfolding digits
-no_end =
-    wrong_text versions V1 refl (
-      codes "programs 1\ndriver ip mux 4 8 3 16\nprocess 0\nclone ip\n",
-      [],
-      inr (body one_command, (one_command, [], search (rules, arith), refl), refl, refl),
-      tt,
-      refl,
-    )
+no_end = cut_text versions V1 (body one_command) [] (begun_by one_command (search (rules, arith))) tt
 
 -- a last line without its line feed is cut
 pub cut_line : AreWrongPrograms (codes "programs 1\ndriver ip mux 4 8 3 16\nprocess 0\nclone ip") 4 cause.Cut
 unfolding digits
-cut_line =
-    wrong_text versions V1 refl (
-      codes "programs 1\ndriver ip mux 4 8 3 16\nprocess 0\n",
-      codes "clone ip",
-      inr (body before, (before, [], before_allowed, refl), refl, refl),
-      search rules,
-      refl,
-    )
+cut_line = cut_text versions V1 (body before) (codes "clone ip") (begun_by before before_allowed) (search rules)
 
 -- nothing follows the end, not even a space
 pub a_space_behind : AreWrongPrograms (codes "programs 1\nprocess 0\nend\n ") 4 cause.Trailing

@@ -1,6 +1,6 @@
 -- Transcripts with a misplaced line, a line that spells nothing, or a missing line.
-use Rattle.std.proofs.Common.{◌≡◌, ◌≢◌, ℕ, ◌<◌, true, List, [], ◌∷◌, ◌++◌, length, map, refl, sym}
-use Rattle.std.proofs.Common.{ap, ◌∙◌, arith, rules, inr, None, Some}
+use Rattle.std.proofs.Common.{◌≡◌, ◌≢◌, ℕ, ◌<◌, List, [], ◌∷◌, ◌++◌, length, map, refl, sym}
+use Rattle.std.proofs.Common.{ap, ◌∙◌, arith, rules, None, Some}
 use Rattle.std.specs.List.{AllByRecursion}
 use Rattle.std.specs.Fmt.{decimal, digits}
 use Rattle.std.specs.Prelude.{codes}
@@ -15,14 +15,13 @@ use Rattle.smx_types.specs.declared.reply.Fault.{Fault}
 use Rattle.smx_types.specs.declared.reply.Fault.TheVariants as fault
 use Rattle.smx_types.specs.declared.reply.Reply.{Reply}
 use Rattle.smx_types.specs.declared.reply.Reply.TheVariants as reply
-use Rattle.smx_types.specs.Versions.{is_of_hangup}
 use Rattle.smx_types.specs.declared.stream.Side.TheVariants as side
 use Rattle.smx_types.specs.declared.transcript.Transcript.{Transcript}
 use Rattle.smx_types.specs.declared.version.Version.{Version}
 use Rattle.smx_types.specs.declared.version.Version.TheVariants.{V1, V2}
 use Rattle.smx_words.specs.declared.reading.verb.Verb.TheVariants as verb
-use Rattle.smx_words.specs.Spellable.{FitsDriver, FitsEntry, FitsEntryIn}
-use Rattle.smx_words.specs.Spelling.{command_words, entry_words, fault_words, reply_words}
+use Rattle.smx_words.specs.Spellable.{FitsDriver, FitsEntry}
+use Rattle.smx_words.specs.Spelling.{command_words, fault_words, reply_words}
 use Rattle.smx_words.specs.Words.{IsFree, SPACE, line_of}
 use Rattle.smx_words.proofs.NumberLemmas.{own}
 use Rattle.smx_words.proofs.SameCommandLemmas.{verb_first, verb_of}
@@ -32,7 +31,7 @@ use Rattle.smx_text.specs.declared.text_fault.Cause.TheVariants as cause
 use Rattle.smx_text.specs.declared.transcript.draft.Stage.TheVariants as stage
 use Rattle.smx_text.specs.declared.transcript.draft.TranscriptDraft.{TranscriptDraft}
 use Rattle.smx_text.specs.Drafts.{lines}
-use Rattle.smx_text.specs.Grammar.{IsBegun, IsNoLine, IsOneLine, header}
+use Rattle.smx_text.specs.Grammar.{IsBegun, IsOneLine}
 use Rattle.smx_text.specs.TranscriptLines.{TranscriptLine}
 use Rattle.smx_text.specs.TranscriptLines as line
 use Rattle.smx_text.specs.TranscriptText.{FitsLine, line_words, transcript_grammar}
@@ -40,14 +39,12 @@ use Rattle.smx_text.specs.WorkedFaults.{IsWrongTranscript, with_drivers, with_li
 use Rattle.smx_text.proofs.EachLemmas.{all_append}
 use Rattle.smx_text.proofs.MachineLemmas.{nothing_begun}
 use Rattle.smx_text.proofs.TranscriptDrafts.{draft, new_view}
-use Rattle.smx_text.proofs.TranscriptGrammarLemmas.{kind_at, kind_first, kind_of, versions}
-use Rattle.smx_text.proofs.TranscriptGrammarLemmas.{spelling}
+use Rattle.smx_text.proofs.TranscriptGrammarLemmas.{versions}
 use Rattle.smx_text.proofs.TranscriptMachineLemmas.{reader, stands}
-use Rattle.smx_text.proofs.LineWordLemmas.{first_word, differ, told}
-use Rattle.smx_text.proofs.WorkedFaultLemmas.{wrong_text, wrong_header, wrong_line, misplaced_line, one_too_many}
+use Rattle.smx_text.proofs.WorkedFaultLemmas.{cut_text, later_line, misplaced_line, one_too_many, wrong_first}
+use Rattle.smx_text.proofs.LineWordLemmas.{other_first}
+use Rattle.smx_text.proofs.WorkedFaultLemmas.{wrong_words}
 use Rattle.smx_text.proofs.WrongProgramLemmas.{all_same, ip, ip_fits, repeated}
-use Rattle.smx_words.proofs.DecidedCommandLemmas.{entry_has_words}
-use Rattle.smx_words.proofs.InVersionLemmas.{none_in}
 
 -- ---- the lines before the fault
 
@@ -96,13 +93,16 @@ config_begun = (nothing, line.Next 1 1 ∷ [], search (rules, arith), refl)
 abbrev behind_driver : TranscriptDraft
 behind_driver = draft stage.History one_driver
 
--- a text that spells no line which may follow one driver gives line 3 the fault `Form`
-wrong_at_3 : (text : List ℕ) → IsOneLine text → IsNoLine (transcript_grammar V1) (lines behind_driver) text
-    → IsWrongTranscript (with_line_3 text) 3 cause.Form
+-- the line of the driver is a prefix of an allowed transcript
+driver_begun : IsBegun (transcript_grammar V1) (lines behind_driver)
+driver_begun = (one_driver, line.Config ∷ line.Next 1 1 ∷ [], search (rules, arith), refl)
+
+-- words of no line give line 3 the fault `Form`
+wrong_at_3 : (ws : List (List ℕ)) → AllByRecursion (IsFree SPACE) ws × (0 < length ws) × IsOneLine (line_of ws)
+    → ((k : TranscriptLine) → FitsLine V1 k → ws ≢ line_words k) → IsWrongTranscript (with_line_3 (line_of ws)) 3 cause.Form
 unfolding digits
-wrong_at_3 text one none =
-    wrong_line versions V1 (lines behind_driver) text (codes "config\nnext 1 1\nend\n") cause.Form refl
-    (one_driver, line.Config ∷ line.Next 1 1 ∷ [], search (rules, arith), refl) one none
+wrong_at_3 ws plain none =
+    wrong_words versions V1 (lines behind_driver) ws (codes "config\nnext 1 1\nend\n") driver_begun plain none
 
 -- a transcript of which the line of one link was read, and no later group
 abbrev behind_link : TranscriptDraft
@@ -114,31 +114,17 @@ link_begun = (one_link, [], search (rules, arith), refl)
 
 -- ---- misplaced lines
 
--- `programs 1` is not the header of a transcript
-no_header : (version : Version) → codes "programs 1" ≢ header (transcript_grammar version)
-no_header V1 = differ (codes "programs 1") (codes "transcript 1") refl
-no_header V2 = differ (codes "programs 1") (codes "transcript 2") refl
-
 -- the header of programs is not that of a transcript
 pub other_header : IsWrongTranscript (codes "programs 1\nend\n") 1 cause.Header
-other_header =
-    wrong_header versions
-    (λ version. (codes "programs 1", (codes "end\n", search rules, refl), no_header version, refl))
-
--- `transcript 3` is not the header of any version
-other_number : (version : Version) → codes "transcript 3" ≢ header (transcript_grammar version)
-other_number V1 = differ (codes "transcript 3") (codes "transcript 1") refl
-other_number V2 = differ (codes "transcript 3") (codes "transcript 2") refl
+other_header = wrong_first versions (codes "programs 1") (codes "end\n") (search rules) refl refl
 
 -- transcripts of version 3 have a wrong header
 pub version_3 : IsWrongTranscript (codes "transcript 3\n") 1 cause.Header
-version_3 =
-    wrong_header versions (λ version. (codes "transcript 3", ([], search rules, refl), other_number version, refl))
+version_3 = wrong_first versions (codes "transcript 3") [] (search rules) refl refl
 
 -- a header of version 2 with nothing after it is cut at line 2
 pub version_2_alone : IsWrongTranscript (codes "transcript 2\n") 2 cause.Cut
-version_2_alone =
-    wrong_text versions V2 refl (codes "transcript 2\n", [], inr ([], nothing_begun (reader V2), refl, refl), tt, refl)
+version_2_alone = cut_text versions V2 [] [] (nothing_begun (reader V2)) tt
 
 -- the line of descriptor 0 of process 0, open on minor 0 of `ip`
 abbrev descriptor : TranscriptLine
@@ -178,13 +164,7 @@ late_descriptor =
 pub no_end : IsWrongTranscript (codes "transcript 1\nconfig\nnext 1 1\n") 4 cause.Cut
 unfolding digits
 no_end =
-    wrong_text versions V1 refl (
-      codes "transcript 1\nconfig\nnext 1 1\n",
-      [],
-      inr (line.Config ∷ line.Next 1 1 ∷ [], (nothing, [], search (rules, arith), refl), refl, refl),
-      tt,
-      refl,
-    )
+    cut_text versions V1 (line.Config ∷ line.Next 1 1 ∷ []) [] (nothing, [], search (rules, arith), refl) tt
 
 -- a transcript of version 2 with one hung-up stream, and nothing else
 abbrev one_hung : Transcript
@@ -246,25 +226,6 @@ driver_129_of_a_transcript =
 
 -- ---- lines that spell nothing of their kind
 
--- words that are no line of the kind that their first word names are no line of a transcript
-no_kind : (ls : List TranscriptLine) (n : ℕ) (ws : List (List ℕ)) → AllByRecursion (IsFree SPACE) ws × (0 < length ws)
-    → kind_at (first_word ws) ≡ n
-    → ((k : TranscriptLine) → FitsLine V1 k → ws ≡ line_words k → kind_of k ≡ n → ⊥)
-    → IsNoLine (transcript_grammar V1) ls (line_of ws)
-no_kind ls n ws free is none k fits may e =
-    let same = told ws (line_words k) free (spelling V1 k fits) e in
-    none k fits same (sym (kind_first V1 k fits)
-    ∙ ap (λ (vs : List (List ℕ)). kind_at (first_word vs)) (sym same) ∙ is)
-
--- words that begin like an entry but are no entry are no line after one driver
-no_entry : (ws : List (List ℕ)) → AllByRecursion (IsFree SPACE) ws × (0 < length ws)
-    → kind_at (first_word ws) ≡ 0 → ((e : AnyEntry) → FitsEntryIn V1 e → ws ≢ entry_words e)
-    → IsNoLine (transcript_grammar V1) (lines behind_driver) (line_of ws)
-no_entry ws free digit none = no_kind (lines behind_driver) 0 ws free digit by_kind where
-  by_kind : (k : TranscriptLine) → FitsLine V1 k → ws ≡ line_words k → kind_of k ≡ 0 → ⊥
-  by_kind (line.Entry x) fits same entry = none x fits same
-  by_kind k fits same entry = absurd (cc entry)
-
 -- the process of an entry is not 64
 process_wrong : (e : AnyEntry) → FitsEntry e → codes "64" ≢ decimal e.process
 process_wrong e fits is =
@@ -274,10 +235,12 @@ process_wrong e fits is =
 
 -- the processes of entries go up to 63
 pub process_64 : IsWrongTranscript (with_line_3 (codes "64 clone ip = fd 0 0")) 3 cause.Form
-process_64 =
-    wrong_at_3 (codes "64 clone ip = fd 0 0") (search rules)
-    (no_entry (codes "64" ∷ codes "clone" ∷ codes "ip" ∷ codes "=" ∷ codes "fd" ∷ codes "0" ∷ codes "0" ∷ [])
-    (search rules, omega arith) refl (λ e fits is. process_wrong e fits.0 (cc is)))
+process_64 = wrong_at_3 (codes "64" ∷ codes "clone" ∷ codes "ip" ∷ codes "=" ∷ codes "fd" ∷ codes "0" ∷ codes "0" ∷ [])
+    (search rules, omega arith, search rules) none where
+      none : (k : TranscriptLine) → FitsLine V1 k
+          → codes "64" ∷ codes "clone" ∷ codes "ip" ∷ codes "=" ∷ codes "fd" ∷ codes "0" ∷ codes "0" ∷ [] ≢ line_words k
+      none (line.Entry e) fits is = process_wrong e fits.0 (cc is)
+      none k fits is = other_first _ _ refl is
 
 -- `EINVAL` alone is not the words of a fault, which are two
 no_fault : (f : Fault) → codes "EINVAL" ∷ [] ≢ fault_words f
@@ -305,51 +268,48 @@ half_reply c r e = by_kind c (verb_first c verb.Clone _ _ e) e where
 -- `EINVAL` alone is not a reply: a second word names its cause
 pub half_a_fault : IsWrongTranscript (with_line_3 (codes "0 clone ip = EINVAL")) 3 cause.Form
 half_a_fault =
-    wrong_at_3 (codes "0 clone ip = EINVAL") (search rules)
-    (no_entry (codes "0" ∷ codes "clone" ∷ codes "ip" ∷ codes "=" ∷ codes "EINVAL" ∷ [])
-    (search rules, omega arith) refl (λ e fits is. half_reply e.command e.reply (cc is)))
+    wrong_at_3 (codes "0" ∷ codes "clone" ∷ codes "ip" ∷ codes "=" ∷ codes "EINVAL" ∷ [])
+    (search rules, omega arith, search rules) none where
+      none : (k : TranscriptLine) → FitsLine V1 k
+          → codes "0" ∷ codes "clone" ∷ codes "ip" ∷ codes "=" ∷ codes "EINVAL" ∷ [] ≢ line_words k
+      none (line.Entry e) fits is = half_reply e.command e.reply (cc is)
+      none k fits is = other_first _ _ refl is
 
 -- ---- lines of version 2 only
 
--- an entry of version 2 only, as line 3 of a text of version 1
-later_entry : (x : AnyEntry) → FitsEntry x → is_of_hangup x ≡ true
-    → AllByRecursion (IsFree SPACE) (entry_words x) × (0 < length (entry_words x)) → IsOneLine (line_of (entry_words x))
-    → kind_at (first_word (entry_words x)) ≡ 0 → IsWrongTranscript (with_line_3 (line_of (entry_words x))) 3 cause.Form
-later_entry x fits hangup free one digit =
-    wrong_at_3 (line_of (entry_words x)) one (no_entry (entry_words x) free digit (λ e told same.
-    none_in entry_has_words is_of_hangup V1 (line_of (entry_words x)) x fits refl (λ can. absurd (cc (can, hangup))) e
-    told (ap line_of same)))
+-- a line that fits version 1 fits version 2
+first_too : (k : TranscriptLine) → FitsLine V1 k → FitsLine V2 k × (line_of (line_words k) ≡ line_of (line_words k))
+first_too (line.Entry e) fits = ((fits.0, tt), refl)
+first_too (line.Hung h) fits = ((fits.0, tt), refl)
+first_too k fits = (fits, refl)
 
 -- version 1 has no entry of a hangup
 pub hangup_in_version_1 : IsWrongTranscript (with_line_3 (codes "0 hangup ip 0 = done")) 3 cause.Form
 unfolding digits
 hangup_in_version_1 =
-    later_entry (record { process = 0; command = command.Hangup (codes "ip") 0; reply = reply.Done [] })
-    (search (rules, arith)) refl (search rules, omega arith) (search rules) refl
+    later_line versions first_too (lines behind_driver)
+    (line.Entry (record { process = 0; command = command.Hangup (codes "ip") 0; reply = reply.Done [] }))
+    (codes "config\nnext 1 1\nend\n") driver_begun (search (rules, arith)) (λ fits. absurd (cc fits.1))
 
 -- version 1 has no reply `eof`
 pub end_of_file : IsWrongTranscript (with_line_3 (codes "0 read 0 = eof")) 3 cause.Form
 unfolding digits
 end_of_file =
-    later_entry (record { process = 0; command = command.Read 0; reply = reply.Eof })
-    (search (rules, arith)) refl (search rules, omega arith) (search rules) refl
+    later_line versions first_too (lines behind_driver)
+    (line.Entry (record { process = 0; command = command.Read 0; reply = reply.Eof }))
+    (codes "config\nnext 1 1\nend\n") driver_begun (search (rules, arith)) (λ fits. absurd (cc fits.1))
 
 -- version 1 has no refusal for a hangup
 pub refusal : IsWrongTranscript (with_line_3 (codes "0 read 0 = ENXIO hangup")) 3 cause.Form
 unfolding digits
 refusal =
-    later_entry (record { process = 0; command = command.Read 0; reply = reply.Fault fault.HungUp })
-    (search (rules, arith)) refl (search rules, omega arith) (search rules) refl
+    later_line versions first_too (lines behind_driver)
+    (line.Entry (record { process = 0; command = command.Read 0; reply = reply.Fault fault.HungUp }))
+    (codes "config\nnext 1 1\nend\n") driver_begun (search (rules, arith)) (λ fits. absurd (cc fits.1))
 
 -- version 1 has no hung-up stream in a view
 pub hung_up_stream : IsWrongTranscript (with_line_5 (codes "hung eth 0")) 5 cause.Form
 unfolding digits
 hung_up_stream =
-    wrong_line versions V1 (lines behind_link) (codes "hung eth 0") (codes "end\n") cause.Form refl link_begun
-    (search rules)
-    (no_kind (lines behind_link) 10 (codes "hung" ∷ codes "eth" ∷ codes "0" ∷ []) (search rules, omega arith) refl
-    by_kind) where
-      by_kind : (k : TranscriptLine) → FitsLine V1 k → codes "hung" ∷ codes "eth" ∷ codes "0" ∷ [] ≡ line_words k
-          → kind_of k ≡ 10 → ⊥
-      by_kind (line.Hung h) fits same hung = absurd (cc fits.1)
-      by_kind k fits same hung = absurd (cc hung)
+    later_line versions first_too (lines behind_link) (line.Hung (record { driver = codes "eth"; minor = 0 }))
+    (codes "end\n") link_begun (search (rules, arith)) (λ fits. absurd (cc fits.1))
