@@ -243,10 +243,10 @@ module _ {V K D : Type 0} {g : Grammar V K} {m : Machine V K D} {ls : List K} {d
       )
 
 -- an accepted line within the limit, other than the end, becomes the last line of a draft
-pub adds : {V K D : Type 0} {g : Grammar V K} {m : Machine V K D} {d : D} → IsAt g m (m.lines d) d → (e : D) (k : K)
+pub adds : {V K D : Type 0} {g : Grammar V K} {m : Machine V K D} {d e : D} → IsAt g m (m.lines d) d → (k : K)
     → e ≡ m.with_line d k → IsBegun g (m.lines d) → m.takes d k ≡ true → m.is_full d k ≡ false → g.FitsLine k
     → k ≢ g.end → AddsLine g (m.lines d) k (m.lines e)
-adds {g = g} {m = m} {d = d} at e k same begun may room fits other =
+adds {g = g} {m = m} {d = d} at k same begun may room fits other =
     let all = ap m.lines same ∙ at.reader.longer d k may other in
     (all, subst (IsBegun g) (sym all) (longer_begun at k begun may room fits other))
 

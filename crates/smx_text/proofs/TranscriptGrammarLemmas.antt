@@ -1,5 +1,5 @@
 -- In a transcript text, a line's text determines the line.
-use Rattle.std.proofs.Common.{false, ◌≡◌, ◌≢◌, ℕ, true, List}
+use Rattle.std.proofs.Common.{◌∙◌, true, false, ◌≡◌, ◌≢◌, ℕ, true, List}
 use Rattle.std.proofs.Common.{refl, sym, ap, arith, rules, inl, inr}
 use Rattle.std.specs.Prelude.{codes}
 use Rattle.std.specs.Str.{all_ascii_digits}
@@ -24,10 +24,19 @@ use Rattle.smx_text.specs.Grammar.{IsNoLine, IsOneLine, header, line_text}
 use Rattle.smx_text.specs.TranscriptLines.{TranscriptLine}
 use Rattle.smx_text.specs.TranscriptLines as line
 use Rattle.smx_text.specs.TranscriptText.{line_words, FitsHungIn, FitsLine, transcript_grammar}
-use Rattle.smx_text.proofs.GrammarLemmas.{IsWellMade}
+use Rattle.smx_text.proofs.GrammarLemmas.{IsWellMade, answers}
 use Rattle.smx_text.proofs.HasReadingLemmas.{HasReading, by_reading}
-use Rattle.smx_text.proofs.MachineLemmas.{IsLineOrNot, well_made as made_by, reads}
-use Rattle.smx_text.proofs.TranscriptMachineLemmas.{reader}
+use Rattle.smx_text.proofs.MachineLemmas.{IsLineOrNot, adds, longer_begun, misplaced, reads, well_made as made_by}
+use Rattle.smx_text.proofs.TranscriptMachineLemmas.{reader, stands}
+use Rattle.smx_text.proofs.TranscriptDrafts.{is_full, takes, with_line, with_view}
+use Rattle.smx_text.specs.Drafts.{grammar_of, lines}
+use Rattle.smx_text.specs.Reading.{AnswersLine, AnswersText}
+use Rattle.smx_text.specs.declared.text_fault.Cause.{Cause}
+use Rattle.smx_text.specs.declared.text_fault.Cause.TheVariants as cause
+use Rattle.smx_text.specs.declared.transcript.draft.TranscriptDraft.{TranscriptDraft}
+use Rattle.smx_types.specs.declared.view.ConfigView.{ConfigView}
+use Rattle.std.specs.Prelude.{Result, Ok, Err, OnOk, IfErr, if◌then◌else◌, Bool, ◌++◌, ◌∷◌, []}
+use Rattle.smx_text.specs.Grammar.{IsBegun}
 use Rattle.smx_text.proofs.VersionLemmas.{AreVersions}
 use Rattle.smx_text.proofs.LineWordLemmas.{config_spelled, differ, end_spelled, first_word, other_first}
 use Rattle.smx_words.specs.Words.{AreWords}
@@ -102,6 +111,25 @@ versions = record {
   made = well_made;
   differ = differ (codes "transcript 1") (codes "transcript 2") refl;
 }
+
+-- the result for the text of a line of a group, which has no limit: a function appends it to its group, if it may follow
+pub group_answers : {A X : Type 0} (d : TranscriptDraft) (k : TranscriptLine) (text : List ℕ)
+    → IsBegun (grammar_of d) (lines d) → is_full d k ≡ false → k ≢ line.End → (put : List X → ConfigView)
+    (old new : List X) (x : X) (may : Bool) → may ≡ takes d k → with_line d k ≡ with_view d (put (old ++ x ∷ []))
+    → FitsLine d.transcript.version k × (text ≡ line_text (grammar_of d) k) → (r : Result A Cause)
+    → OnOk r ((may ≡ true) × (new ≡ old ++ x ∷ []))
+    → IfErr r (λ why. why ≡ (if may then cause.NoMemory else cause.Form))
+    → AnswersText (grammar_of d) (lines d) text (lines (with_view d (put new))) r
+group_answers {A} d k text begun room other put old new x may takes_is is spelled r ok err =
+    answers (well_made d.transcript.version) (lines d) _ k text spelled r (by_result may r takes_is ok err) where
+      by_result : (may : Bool) (r : Result A Cause) → may ≡ takes d k → OnOk r ((may ≡ true) × (new ≡ old ++ x ∷ []))
+          → IfErr r (λ why. why ≡ (if may then cause.NoMemory else cause.Form))
+          → AnswersLine (grammar_of d) (lines d) k (lines (with_view d (put new))) r
+      by_result may (Ok u) takes_is ok err =
+          adds {e = with_view d (put new)} (stands d) k (rw ok.1 (sym is)) begun (sym takes_is ∙ ok.0) room spelled.0 other
+      by_result true (Err why) takes_is ok err =
+          rw err (longer_begun (stands d) k begun (sym takes_is) room spelled.0 other)
+      by_result false (Err why) takes_is ok err = rw err (misplaced (stands d) k (sym takes_is))
 
 -- a text that is no line of a transcript, kind by kind
 module _ (version : Version) (ls : List TranscriptLine) (text : List ℕ)

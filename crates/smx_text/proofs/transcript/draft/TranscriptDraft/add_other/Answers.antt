@@ -2,7 +2,7 @@ use Rattle.std.proofs.Common.{rules, refl, ◌≡◌, codes}
 use Rattle.smx_text.specs.declared.text_fault.Cause.TheVariants as cause
 use Rattle.smx_text.specs.TranscriptLines as line
 use Rattle.smx_text.proofs.GrammarLemmas.{answers, refuses}
-use Rattle.smx_text.proofs.TranscriptGrammarLemmas.{well_made}
+use Rattle.smx_text.proofs.TranscriptGrammarLemmas.{group_answers, well_made}
 use Rattle.smx_text.proofs.MachineLemmas.{longer_begun, misplaced}
 use Rattle.smx_text.proofs.TranscriptMachineLemmas.{stands}
 use Rattle.smx_text.proofs.transcript.draft.TranscriptDraft.add_other.Goals as goal
@@ -10,7 +10,9 @@ use Rattle.smx_text.proofs.transcript.draft.TranscriptDraft.add_other.Goals as g
 pub returns-in-Ok-Some-clause-answers : goal.returns-in-Ok-Some-clause-answers
 returns-in-Ok-Some-clause-answers c =
     let is = rw c.in-Ok-Some.field-0-is at c.in-Ok-Some.ensures.reading in
-    answers (well_made _) _ _ (line.Msg c.in-Ok-Some.message) _ is _ c.add_message.ensures.answers
+    group_answers c.args.self.now (line.Msg c.in-Ok-Some.message) _ c.requires.begun refl (λ e. cc)
+    (λ msgs. record c.args.self.now.transcript.view { msgs = msgs }) _ _ _ _ c.takes_msgs.ensures refl is
+    _ c.push_if.ensures.pushed c.push_if.ensures.refused
 
 pub returns-in-Err-clause-answers : goal.returns-in-Err-clause-answers
 returns-in-Err-clause-answers c =
@@ -23,10 +25,6 @@ returns-in-Err-2-clause-answers c =
     let some = c.in-Err-2.ensures.wanted in
     refuses (well_made _) _ (line.Msg some.0) _ some.1 some.2 cause.Form
     (misplaced (stands c.args.self.now) (line.Msg some.0) (search rules))
-
-pub add_message-requires-clause-fits : goal.add_message-requires-clause-fits
-add_message-requires-clause-fits c =
-    let is = rw c.in-Ok-Some.field-0-is at c.in-Ok-Some.ensures.reading in is.0
 
 pub add_to_group-requires-clause-no_message : goal.add_to_group-requires-clause-no_message
 add_to_group-requires-clause-no_message c =
