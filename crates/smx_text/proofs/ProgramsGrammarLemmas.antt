@@ -47,7 +47,8 @@ command_first c = (refl, refl, refl)
 -- two lines of programs that fit a version and have the same words are equal
 words_apart : (version : Version) (k l : Line) → FitsLine version k → FitsLine version l → line_words k ≡ line_words l
     → k ≡ l
-words_apart version (line.Driver d) (line.Driver e) fits also ws = ap line.Driver (driver_has_words.one d e fits also ws)
+words_apart version (line.Driver d) (line.Driver e) fits also ws =
+    ap line.Driver (driver_has_words.one d e fits also ws)
 words_apart version (line.Process n) (line.Process m) fits also ws =
     ap line.Process (process_has_words.one n m fits also ws)
 words_apart version (line.Command c) (line.Command d) fits also ws =

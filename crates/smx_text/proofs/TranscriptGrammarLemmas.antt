@@ -76,8 +76,10 @@ not_entry e fits ws is h =
 -- two lines of a transcript that fit a version and have the same words are equal
 words_apart : (version : Version) (k l : TranscriptLine) → FitsLine version k → FitsLine version l
     → line_words k ≡ line_words l → k ≡ l
-words_apart version (line.Driver d) (line.Driver e) fits also ws = ap line.Driver (driver_has_words.one d e fits also ws)
-words_apart version (line.Entry d) (line.Entry e) fits also ws = ap line.Entry (entry_has_words.one d e fits.0 also.0 ws)
+words_apart version (line.Driver d) (line.Driver e) fits also ws =
+    ap line.Driver (driver_has_words.one d e fits also ws)
+words_apart version (line.Entry d) (line.Entry e) fits also ws =
+    ap line.Entry (entry_has_words.one d e fits.0 also.0 ws)
 words_apart version line.Config line.Config fits also ws = refl
 words_apart version (line.Next id serial) (line.Next jd terial) fits also ws =
     ap (λ (p : ℕ × ℕ). line.Next p.0 p.1) (next_has_words.one (id, serial) (jd, terial) fits also ws)
@@ -112,7 +114,7 @@ versions = record {
   differ = differ (codes "transcript 1") (codes "transcript 2") refl;
 }
 
--- the result for the text of a line of a group, which has no limit: a function appends it to its group, if it may follow
+-- the result for the text of a line of a group, which has no limit: it is appended to its group, if it may follow
 pub group_answers : {A X : Type 0} (d : TranscriptDraft) (k : TranscriptLine) (text : List ℕ)
     → IsBegun (grammar_of d) (lines d) → is_full d k ≡ false → k ≢ line.End → (put : List X → ConfigView)
     (old new : List X) (x : X) (may : Bool) → may ≡ takes d k → with_line d k ≡ with_view d (put (old ++ x ∷ []))
@@ -126,7 +128,8 @@ group_answers {A} d k text begun room other put old new x may takes_is is spelle
           → IfErr r (λ why. why ≡ (if may then cause.NoMemory else cause.Form))
           → AnswersLine (grammar_of d) (lines d) k (lines (with_view d (put new))) r
       by_result may (Ok u) takes_is ok err =
-          adds {e = with_view d (put new)} (stands d) k (rw ok.1 (sym is)) begun (sym takes_is ∙ ok.0) room spelled.0 other
+          adds {e = with_view d (put new)} (stands d) k (rw ok.1 (sym is)) begun (sym takes_is ∙ ok.0) room
+          spelled.0 other
       by_result true (Err why) takes_is ok err =
           rw err (longer_begun (stands d) k begun (sym takes_is) room spelled.0 other)
       by_result false (Err why) takes_is ok err = rw err (misplaced (stands d) k (sym takes_is))

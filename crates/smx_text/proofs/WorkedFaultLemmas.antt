@@ -1,5 +1,6 @@
 -- Worked examples of texts with a fault, for any kind of text.
-use Rattle.std.proofs.Common.{◌≡◌, ◌≢◌, ℕ, ◌+◌, ◌<◌, Bool, true, false, List, ◌∷◌, ◌++◌, length, Result, Ok, Err, refl, sym, subst, ◌∙◌}
+use Rattle.std.proofs.Common.{◌≡◌, ◌≢◌, ℕ, ◌+◌, ◌<◌, Bool, true, false, List, ◌∷◌, ◌++◌, length, Result, Ok, Err}
+use Rattle.std.proofs.Common.{refl, sym, subst, ◌∙◌}
 use Rattle.smx_types.specs.declared.version.Version.{Version}
 use Rattle.std.specs.List.{AllByRecursion}
 use Rattle.std.specs.Str.{bytes_eq}
@@ -10,9 +11,9 @@ use Rattle.smx_text.specs.declared.text_fault.Cause.TheVariants as cause
 use Rattle.smx_text.specs.declared.text_fault.TextFault.{TextFault}
 use Rattle.smx_text.specs.Grammar.{Grammar, IsBegun, IsFault, IsOneLine, ReadsAny, Spells, beginning, header, line_text}
 use Rattle.smx_text.specs.Reading.{Refuses}
-use Rattle.smx_text.proofs.MachineLemmas.{Machine, IsAt, misplaced, too_many}
 use Rattle.smx_text.proofs.GrammarLemmas.{one_line, refuses, tells_apart}
 use Rattle.smx_text.proofs.LineWordLemmas.{differ, told}
+use Rattle.smx_text.proofs.MachineLemmas.{IsAt, Machine, misplaced, too_many}
 use Rattle.smx_text.proofs.ReadingLemmas.{any_of, any_of_each, cut_at, refused}
 use Rattle.smx_text.proofs.VersionLemmas.{AreVersions, one_reading_of_all}
 
@@ -86,22 +87,24 @@ module _ {V K : Type 0} {g : Version → Grammar V K} (are : AreVersions g) wher
       → (ls : List K) (k : K) (after : List ℕ) → IsBegun (g V1) ls → (g V2).FitsLine k → ((g V1).FitsLine k → ⊥)
       → AreWrong (beginning (g V1) ls ++ (line_text (g V2) k ++ LINE_FEED ∷ after)) (length ls + 2) cause.Form
   later_line too ls k after begun fits later =
-      wrong_line V1 ls (line_text (g V2) k) after cause.Form refl begun (one_line (are.made V2) k fits) (λ l first may e.
-      let also = too l first in
+      wrong_line V1 ls (line_text (g V2) k) after cause.Form refl begun (one_line (are.made V2) k fits)
+      (λ l first may e. let also = too l first in
       later (subst (g V1).FitsLine (tells_apart (are.made V2) l k also.0 fits (also.1 ∙ sym e)) first))
 
   module _ (version : Version) {D : Type 0} {m : Machine V K D} {ls : List K} {d : D} (at : IsAt (g version) m ls d)
       (begun : IsBegun (g version) ls) (k : K) (fits : (g version).FitsLine k) (after : List ℕ) where
+    -- these lines, this line and more bytes
+    abbrev with_this : List ℕ
+    with_this = beginning (g version) ls ++ (line_text (g version) k ++ LINE_FEED ∷ after)
+
     -- a line that may not follow is a fault
-    pub misplaced_line : m.takes d k ≡ false
-        → AreWrong (beginning (g version) ls ++ (line_text (g version) k ++ LINE_FEED ∷ after)) (length ls + 2) cause.Form
+    pub misplaced_line : m.takes d k ≡ false → AreWrong with_this (length ls + 2) cause.Form
     misplaced_line never =
         wrong_line version ls _ after cause.Form refl begun (one_line (are.made version) k fits)
         (refuses (are.made version) ls k _ fits refl cause.Form (misplaced at k never))
 
     -- a line over the limit is a fault
-    pub one_too_many : m.takes d k ≡ true → m.is_full d k ≡ true
-        → AreWrong (beginning (g version) ls ++ (line_text (g version) k ++ LINE_FEED ∷ after)) (length ls + 2) cause.Many
+    pub one_too_many : m.takes d k ≡ true → m.is_full d k ≡ true → AreWrong with_this (length ls + 2) cause.Many
     one_too_many may full =
         wrong_line version ls _ after cause.Many refl begun (one_line (are.made version) k fits)
         (refuses (are.made version) ls k _ fits refl cause.Many (too_many at k may full))

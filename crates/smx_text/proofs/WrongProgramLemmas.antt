@@ -1,5 +1,5 @@
 -- Programs texts with a misplaced line, a missing line, or a line over the limit.
-use Rattle.std.proofs.Common.{ℕ, zero, suc, List, [], ◌∷◌, ◌++◌, refl, sym, arith, rules, inl}
+use Rattle.std.proofs.Common.{length, map, ◌≤◌, ℕ, zero, suc, List, [], ◌∷◌, ◌++◌, refl, sym, arith, rules, inl}
 use Rattle.std.specs.Fmt.{digits}
 use Rattle.std.specs.List.{AllByRecursion}
 use Rattle.std.specs.Prelude.{codes}
@@ -8,6 +8,7 @@ use Rattle.smx_types.specs.ProgramLists.{ProgramLists, program_lists}
 use Rattle.smx_types.specs.declared.command.Command.TheVariants as command
 use Rattle.smx_types.specs.declared.driver.DriverKind.TheVariants as kind
 use Rattle.smx_types.specs.declared.driver.DriverSpec.{DriverSpec}
+use Rattle.smx_types.specs.Versions.{most_drivers}
 use Rattle.smx_types.specs.declared.version.Version.{Version}
 use Rattle.smx_types.specs.declared.version.Version.TheVariants.{V1, V2}
 use Rattle.smx_words.specs.Spellable.{FitsDriver}
@@ -15,9 +16,9 @@ use Rattle.smx_text.specs.declared.text_fault.Cause.TheVariants as cause
 use Rattle.smx_text.specs.Grammar.{IsBegun}
 use Rattle.smx_text.specs.ProgramLines.{Line}
 use Rattle.smx_text.specs.ProgramLines as line
-use Rattle.smx_text.specs.ProgramsText.{IsAllowed, body, programs_grammar}
+use Rattle.smx_text.specs.ProgramsText.{FitsLine, IsAllowed, body, programs_grammar}
 use Rattle.smx_text.specs.WorkedFaults.{AreWrongPrograms, with_drivers, with_line_4, with_processes}
-use Rattle.smx_text.proofs.EachLemmas.{all_push}
+use Rattle.smx_text.proofs.EachLemmas.{all_map, all_push}
 use Rattle.smx_text.proofs.MachineLemmas.{nothing_begun}
 use Rattle.smx_text.proofs.ProgramsGrammarLemmas.{versions}
 use Rattle.smx_text.proofs.ProgramsMachineLemmas.{reader, stands}
@@ -136,26 +137,33 @@ ip_fits = search (rules, arith)
 abbrev drivers : Version → ℕ → ProgramLists
 drivers version n = record { version = version; drivers = repeated ip n; programs = [] }
 
+-- programs with the driver `ip` at most as often as a version allows are allowed in it
+drivers_begun : (version : Version) (n : ℕ) → length (drivers version n).drivers ≤ most_drivers version
+    → IsBegun (programs_grammar version) (body (drivers version n))
+drivers_begun version n few = (
+  drivers version n,
+  [],
+  record {
+    version_is = refl;
+    drivers = few;
+    programs = omega arith;
+    commands = omega arith;
+    fits = rw (append-nil (map line.Driver (repeated ip n)))
+        (all_map (FitsLine version) line.Driver (repeated ip n) (all_same FitsDriver ip n ip_fits));
+  },
+  sym (append-nil (body (drivers version n))),
+)
+
 -- in programs of version 1, a 65th driver is over the limit
 pub driver_65 : AreWrongPrograms (with_drivers (codes "programs 1\n") 65) 66 cause.Many
 unfolding digits
 driver_65 =
-    one_too_many versions V1 (stands (drivers V1 64)) (begun_by (drivers V1 64) (record {
-      version_is = refl;
-      drivers = omega arith;
-      programs = omega arith;
-      commands = omega arith;
-      fits = all_same FitsDriver ip 64 ip_fits;
-    })) (line.Driver ip) ip_fits (codes "end\n") refl refl
+    one_too_many versions V1 (stands (drivers V1 64)) (drivers_begun V1 64 (omega arith)) (line.Driver ip) ip_fits
+    (codes "end\n") refl refl
 
 -- in programs of version 2, a 129th driver is over the limit
 pub driver_129 : AreWrongPrograms (with_drivers (codes "programs 2\n") 129) 130 cause.Many
 unfolding digits
 driver_129 =
-    one_too_many versions V2 (stands (drivers V2 128)) (begun_by (drivers V2 128) (record {
-      version_is = refl;
-      drivers = omega arith;
-      programs = omega arith;
-      commands = omega arith;
-      fits = all_same FitsDriver ip 128 ip_fits;
-    })) (line.Driver ip) ip_fits (codes "end\n") refl refl
+    one_too_many versions V2 (stands (drivers V2 128)) (drivers_begun V2 128 (omega arith)) (line.Driver ip) ip_fits
+    (codes "end\n") refl refl

@@ -1,5 +1,5 @@
 -- Transcripts with a misplaced line, a line that spells nothing, or a missing line.
-use Rattle.std.proofs.Common.{◌≡◌, ◌≢◌, ℕ, ◌<◌, List, [], ◌∷◌, ◌++◌, length, map, refl, sym}
+use Rattle.std.proofs.Common.{◌≤◌, ◌≡◌, ◌≢◌, ℕ, ◌<◌, List, [], ◌∷◌, ◌++◌, length, map, refl, sym}
 use Rattle.std.proofs.Common.{ap, ◌∙◌, arith, rules, None, Some}
 use Rattle.std.specs.List.{AllByRecursion}
 use Rattle.std.specs.Fmt.{decimal, digits}
@@ -17,6 +17,7 @@ use Rattle.smx_types.specs.declared.reply.Reply.{Reply}
 use Rattle.smx_types.specs.declared.reply.Reply.TheVariants as reply
 use Rattle.smx_types.specs.declared.stream.Side.TheVariants as side
 use Rattle.smx_types.specs.declared.transcript.Transcript.{Transcript}
+use Rattle.smx_types.specs.Versions.{most_drivers}
 use Rattle.smx_types.specs.declared.version.Version.{Version}
 use Rattle.smx_types.specs.declared.version.Version.TheVariants.{V1, V2}
 use Rattle.smx_words.specs.declared.reading.verb.Verb.TheVariants as verb
@@ -36,14 +37,14 @@ use Rattle.smx_text.specs.TranscriptLines.{TranscriptLine}
 use Rattle.smx_text.specs.TranscriptLines as line
 use Rattle.smx_text.specs.TranscriptText.{FitsLine, line_words, transcript_grammar}
 use Rattle.smx_text.specs.WorkedFaults.{IsWrongTranscript, with_drivers, with_line_3, with_line_5}
-use Rattle.smx_text.proofs.EachLemmas.{all_append}
+use Rattle.smx_text.proofs.EachLemmas.{all_append, all_map}
 use Rattle.smx_text.proofs.MachineLemmas.{nothing_begun}
 use Rattle.smx_text.proofs.TranscriptDrafts.{draft, new_view}
 use Rattle.smx_text.proofs.TranscriptGrammarLemmas.{versions}
 use Rattle.smx_text.proofs.TranscriptMachineLemmas.{reader, stands}
 use Rattle.smx_text.proofs.WorkedFaultLemmas.{cut_text, later_line, misplaced_line, one_too_many, wrong_first}
-use Rattle.smx_text.proofs.LineWordLemmas.{other_first}
 use Rattle.smx_text.proofs.WorkedFaultLemmas.{wrong_words}
+use Rattle.smx_text.proofs.LineWordLemmas.{other_first}
 use Rattle.smx_text.proofs.WrongProgramLemmas.{all_same, ip, ip_fits, repeated}
 
 -- ---- the lines before the fault
@@ -99,7 +100,8 @@ driver_begun = (one_driver, line.Config ∷ line.Next 1 1 ∷ [], search (rules,
 
 -- words of no line give line 3 the fault `Form`
 wrong_at_3 : (ws : List (List ℕ)) → AllByRecursion (IsFree SPACE) ws × (0 < length ws) × IsOneLine (line_of ws)
-    → ((k : TranscriptLine) → FitsLine V1 k → ws ≢ line_words k) → IsWrongTranscript (with_line_3 (line_of ws)) 3 cause.Form
+    → ((k : TranscriptLine) → FitsLine V1 k → ws ≢ line_words k)
+    → IsWrongTranscript (with_line_3 (line_of ws)) 3 cause.Form
 unfolding digits
 wrong_at_3 ws plain none =
     wrong_words versions V1 (lines behind_driver) ws (codes "config\nnext 1 1\nend\n") driver_begun plain none
@@ -134,7 +136,8 @@ descriptor = line.Fd (record { process = 0; fd = 0; driver = codes "ip"; minor =
 pub missing_next : IsWrongTranscript (codes "transcript 1\nconfig\nfd 0 0 ip 0\nend\n") 3 cause.Form
 unfolding digits
 missing_next =
-    misplaced_line versions V1 (stands below_config) config_begun descriptor (search (rules, arith)) (codes "end\n") refl
+    misplaced_line versions V1 (stands below_config) config_begun descriptor (search (rules, arith))
+    (codes "end\n") refl
 
 -- the next id and serial may not be missing after `config`
 pub end_too_early : IsWrongTranscript (codes "transcript 1\nconfig\nend\n") 3 cause.Form
@@ -144,21 +147,23 @@ end_too_early = misplaced_line versions V1 (stands below_config) config_begun li
 pub two_nexts : IsWrongTranscript (with_line_5 (codes "next 2 1")) 5 cause.Form
 unfolding digits
 two_nexts =
-    misplaced_line versions V1 (stands behind_link) link_begun (line.Next 2 1) (search (rules, arith)) (codes "end\n") refl
+    misplaced_line versions V1 (stands behind_link) link_begun (line.Next 2 1) (search (rules, arith))
+    (codes "end\n") refl
 
 -- no entry comes after `config`
 pub late_entry : IsWrongTranscript (with_line_5 (codes "0 exit = done")) 5 cause.Form
 unfolding digits
 late_entry =
     misplaced_line versions V1 (stands behind_link) link_begun
-    (line.Entry (record { process = 0; command = command.CloseAll; reply = reply.Done [] }))
-    (search (rules, arith)) (codes "end\n") refl
+    (line.Entry (record { process = 0; command = command.CloseAll; reply = reply.Done [] })) (search (rules, arith))
+    (codes "end\n") refl
 
 -- no descriptor comes after a link
 pub late_descriptor : IsWrongTranscript (with_line_5 (codes "fd 0 0 ip 0")) 5 cause.Form
 unfolding digits
 late_descriptor =
-    misplaced_line versions V1 (stands behind_link) link_begun descriptor (search (rules, arith)) (codes "end\n") refl
+    misplaced_line versions V1 (stands behind_link) link_begun descriptor (search (rules, arith))
+    (codes "end\n") refl
 
 -- a transcript without the line `end` is cut at the line after its last one
 pub no_end : IsWrongTranscript (codes "transcript 1\nconfig\nnext 1 1\n") 4 cause.Cut
@@ -181,8 +186,8 @@ pub late_full_place : IsWrongTranscript
 unfolding digits
 late_full_place =
     misplaced_line versions V2 (stands (draft stage.View one_hung)) (one_hung, [], search (rules, arith), refl)
-    (line.Full (record { driver = codes "eth"; minor = 0; side = side.Read })) (search (rules, arith)) (codes "end\n")
-    refl
+    (line.Full (record { driver = codes "eth"; minor = 0; side = side.Read })) (search (rules, arith))
+    (codes "end\n") refl
 
 -- ---- one driver over the limit
 
@@ -190,39 +195,36 @@ late_full_place =
 abbrev drivers : Version → ℕ → Transcript
 drivers version n = record { version = version; drivers = repeated ip n; entries = []; view = new_view 1 1 }
 
+-- the lines of the driver `ip` at most as often as a version allows are a prefix of an allowed transcript
+drivers_begun : (version : Version) (n : ℕ) → length (drivers version n).drivers ≤ most_drivers version
+    → IsBegun (transcript_grammar version) (map line.Driver (repeated ip n))
+drivers_begun version n few = (
+  drivers version n,
+  line.Config ∷ line.Next 1 1 ∷ [],
+  record {
+    version_is = refl;
+    drivers = few;
+    entries = omega arith;
+    fits = all_append (FitsLine version) (map line.Driver (repeated ip n)) (line.Config ∷ line.Next 1 1 ∷ [])
+        (all_map (FitsLine version) line.Driver (repeated ip n) (all_same FitsDriver ip n ip_fits))
+        (search (rules, arith));
+  },
+  refl,
+)
+
 -- in a transcript of version 1, a 65th driver is over the limit
 pub driver_65_of_a_transcript : IsWrongTranscript (with_drivers (codes "transcript 1\n") 65) 66 cause.Many
 unfolding digits
 driver_65_of_a_transcript =
-    one_too_many versions V1 (stands (draft stage.History (drivers V1 64))) (
-      drivers V1 64,
-      line.Config ∷ line.Next 1 1 ∷ [],
-      record {
-        version_is = refl;
-        drivers = omega arith;
-        entries = omega arith;
-        fits = all_append (FitsLine V1) (map line.Driver (repeated ip 64)) (line.Config ∷ line.Next 1 1 ∷ [])
-            (all_same FitsDriver ip 64 ip_fits) (search (rules, arith));
-      },
-      refl,
-    ) (line.Driver ip) ip_fits (codes "end\n") refl refl
+    one_too_many versions V1 (stands (draft stage.History (drivers V1 64))) (drivers_begun V1 64 (omega arith))
+    (line.Driver ip) ip_fits (codes "end\n") refl refl
 
 -- in a transcript of version 2, a 129th driver is over the limit
 pub driver_129_of_a_transcript : IsWrongTranscript (with_drivers (codes "transcript 2\n") 129) 130 cause.Many
 unfolding digits
 driver_129_of_a_transcript =
-    one_too_many versions V2 (stands (draft stage.History (drivers V2 128))) (
-      drivers V2 128,
-      line.Config ∷ line.Next 1 1 ∷ [],
-      record {
-        version_is = refl;
-        drivers = omega arith;
-        entries = omega arith;
-        fits = all_append (FitsLine V2) (map line.Driver (repeated ip 128)) (line.Config ∷ line.Next 1 1 ∷ [])
-            (all_same FitsDriver ip 128 ip_fits) (search (rules, arith));
-      },
-      refl,
-    ) (line.Driver ip) ip_fits (codes "end\n") refl refl
+    one_too_many versions V2 (stands (draft stage.History (drivers V2 128))) (drivers_begun V2 128 (omega arith))
+    (line.Driver ip) ip_fits (codes "end\n") refl refl
 
 -- ---- lines that spell nothing of their kind
 

@@ -17,7 +17,8 @@ returns c = record {
   missing_word = wrong_at_4 (codes "link" ∷ codes "0" ∷ []) (search (rules, arith)) missing_word;
   capitals = wrong_at_4 (codes "unlink" ∷ codes "0" ∷ codes "ALL" ∷ []) (search (rules, arith)) capitals;
   sides_turned = wrong_at_4 (codes "flush" ∷ codes "0" ∷ codes "wr" ∷ []) (search (rules, arith)) sides_turned;
-  capital_digits = wrong_at_4 (codes "write" ∷ codes "0" ∷ codes "5" ∷ codes "AA" ∷ []) (search (rules, arith)) capital_digits;
+  capital_digits = wrong_at_4 (codes "write" ∷ codes "0" ∷ codes "5" ∷ codes "AA" ∷ []) (search (rules, arith))
+      capital_digits;
   odd_digits = wrong_at_4 (codes "write" ∷ codes "0" ∷ codes "5" ∷ codes "aab" ∷ []) (search (rules, arith)) odd_digits;
   missing_bytes = wrong_at_4 (codes "write" ∷ codes "0" ∷ codes "5" ∷ []) (search (rules, arith)) missing_bytes;
   no_word = wrong_at_4 ([] ∷ []) (search (rules, arith)) no_word;

@@ -24,7 +24,8 @@ pub returns-in_ok-room_for_entry-in-Err-clause-answers : goal.returns-in_ok-room
 returns-in_ok-room_for_entry-in-Err-clause-answers c =
     let some = c.in-Err.ensures.wanted in
     refuses (well_made _) _ (line.Entry some.0) _ some.1 some.2 cause.NoMemory
-    (longer_begun (stands c.args.self.now) (line.Entry some.0) c.requires.begun (search rules) (search rules) some.1 (λ e. cc))
+    (longer_begun (stands c.args.self.now) (line.Entry some.0) c.requires.begun (search rules) (search rules) some.1
+    (λ e. cc))
 
 pub add_entry-requires-clause-fits : goal.add_entry-requires-clause-fits
 add_entry-requires-clause-fits c =
