@@ -5,20 +5,23 @@ use Rattle.std.proofs.Common.{ap, subst, ◌∙◌, append_assoc, arith, inl, in
 use Rattle.std.specs.List.{AllByRecursion}
 use Rattle.std.specs.Prelude.{◌⊎◌}
 use Rattle.std.proofs.lemmas.List.{length-append}
-use Rattle.smx_words.specs.Words.{LINE_FEED, text_of}
+use Rattle.smx_words.specs.Words.{AreWords, LINE_FEED, text_of}
+use Rattle.smx_words.proofs.LineLemmas.{same_words}
 use Rattle.smx_text.specs.declared.text_fault.Cause.{Cause}
 use Rattle.smx_text.specs.declared.text_fault.Cause.TheVariants as cause
 use Rattle.smx_text.specs.declared.text_fault.TextFault.{TextFault}
 use Rattle.smx_text.specs.Grammar.{Grammar, IsOneLine, header, line_text, beginning}
-use Rattle.smx_text.specs.Grammar.{IsBegun, GoesOn, IsNoLine, IsOneTooMany, last_line}
+use Rattle.smx_text.specs.Grammar.{IsBegun, GoesOn, MayFollow, IsNoLine, IsOneTooMany, last_line}
+use Rattle.smx_text.specs.Reading.{AnswersLine, AnswersText, Refuses, RefusesLine}
 use Rattle.smx_text.proofs.EachLemmas.{all_left, all_right}
+use Rattle.smx_text.proofs.LineWordLemmas.{one_line_of}
 use Rattle.smx_text.proofs.LineLemmas.{not_one, one_cut}
 
 -- A kind of text in which a line's text determines the line, and whose last line differs from all lines before it.
 pub record IsWellMade {V K : Type 0} (g : Grammar V K) : Type 0 where
   pub header_line : IsOneLine (header g)
-  pub one_line : (k : K) → g.FitsLine k → IsOneLine (line_text g k)
-  pub tells_apart : (k l : K) → g.FitsLine k → g.FitsLine l → line_text g k ≡ line_text g l → k ≡ l
+  pub are_words : (k : K) → g.FitsLine k → AreWords (g.line_words k)
+  pub words_apart : (k l : K) → g.FitsLine k → g.FitsLine l → g.line_words k ≡ g.line_words l → k ≡ l
   pub fits : (v : V) → g.IsAllowed v → AllByRecursion g.FitsLine (g.body v)
   pub fits_end : g.FitsLine g.end
   pub end_is_last : (v : V) (lines more : List K) → g.body v ≡ lines ++ g.end ∷ more → ⊥
@@ -85,6 +88,30 @@ module _ {V K : Type 0} (g : Grammar V K) where
   end_may v lines e = ([], ap (λ (ls : List K). ls ++ g.end ∷ []) e)
 
 module _ {V K : Type 0} {g : Grammar V K} (made : IsWellMade g) where
+  -- a line that fits contains no line feed
+  pub one_line : (k : K) → g.FitsLine k → IsOneLine (line_text g k)
+  one_line k fits = one_line_of (g.line_words k) (made.are_words k fits)
+
+  -- two lines that fit and have the same text are equal
+  pub tells_apart : (k l : K) → g.FitsLine k → g.FitsLine l → line_text g k ≡ line_text g l → k ≡ l
+  tells_apart k l fits also same = made.words_apart k l fits also
+      (same_words (g.line_words k) (g.line_words l) (made.are_words k fits).0 (made.are_words l also).0 same)
+
+  -- the cause for which a line is refused is one for which its text is refused
+  pub refuses : (lines : List K) (k : K) (text : List ℕ) → g.FitsLine k → text ≡ line_text g k → (why : Cause)
+      → RefusesLine g lines k why → Refuses g lines text why
+  refuses lines k text fits is cause.Form h = λ l also may same.
+      h (subst (MayFollow g lines) (tells_apart l k also fits (sym same ∙ is)) may)
+  refuses lines k text fits is cause.Many h = (k, is, fits, h.0, h.1)
+  refuses lines k text fits is cause.NoMemory h = (k, is, h)
+  refuses lines k text fits is why h = absurd h
+
+  -- a result for a parsed line is a result for its text
+  pub answers : {A : Type 0} (lines longer : List K) (k : K) (text : List ℕ) → g.FitsLine k × (text ≡ line_text g k)
+      → (r : Result A Cause) → AnswersLine g lines k longer r → AnswersText g lines text longer r
+  answers lines longer k text (fits, is) (Ok x) h = (k, is, h.0, h.1)
+  answers lines longer k text (fits, is) (Err why) h = refuses lines k text fits is why h
+
   -- if two lists of lines start the same bytes, one has more lines, or the lists and the rests are equal
   pub compare : (ls ms : List K) (r s : List ℕ) → AreFit g ls → AreFit g ms → texts g ls ++ r ≡ texts g ms ++ s
       → ((ls ≡ ms) × (r ≡ s)) ⊎ (HasMore g ls r ms ⊎ HasMore g ms s ls)
@@ -92,9 +119,9 @@ module _ {V K : Type 0} {g : Grammar V K} (made : IsWellMade g) where
   compare [] (m ∷ ms) r s h k e = inr (inl (m, ms, texts g ms ++ s, refl, e ∙ texts_cons g m ms s))
   compare (l ∷ ls) [] r s h k e = inr (inr (l, ls, texts g ls ++ r, refl, sym e ∙ texts_cons g l ls r))
   compare (l ∷ ls) (m ∷ ms) r s h k e =
-      let t = one_cut (line_text g l) (line_text g m) (texts g ls ++ r) (texts g ms ++ s) (made.one_line l h.0)
-      (made.one_line m k.0) (sym (texts_cons g l ls r) ∙ e ∙ texts_cons g m ms s) in
-      let same : l ≡ m = made.tells_apart l m h.0 k.0 t.0 in
+      let t = one_cut (line_text g l) (line_text g m) (texts g ls ++ r) (texts g ms ++ s) (one_line l h.0)
+      (one_line m k.0) (sym (texts_cons g l ls r) ∙ e ∙ texts_cons g m ms s) in
+      let same : l ≡ m = tells_apart l m h.0 k.0 t.0 in
       elim (compare ls ms r s h.1 k.1 t.1) [
         | inl (all, rest) ↦ inl (cc (same, all), rest)
         | inr (inl (x, more, after, is, rest)) ↦ inr (inl (x, more, after, cc (same, is), rest))
@@ -105,7 +132,7 @@ module _ {V K : Type 0} {g : Grammar V K} (made : IsWellMade g) where
   no_many : (v : V) (lines : List K) (text : List ℕ) → g.IsAllowed v → g.body v ≡ lines
       → text ≡ line_text g g.end → IsOneTooMany g lines text → ⊥
   no_many v lines text allowed e end (k, is, fits, may, full) =
-      let same : g.end ≡ k = made.tells_apart g.end k made.fits_end fits (sym end ∙ is) in
+      let same : g.end ≡ k = tells_apart g.end k made.fits_end fits (sym end ∙ is) in
       full v allowed (subst (GoesOn g v lines) same (end_may g v lines e))
 
   -- a whole line after these lines has at most one result
@@ -132,10 +159,10 @@ module _ {V K : Type 0} {g : Grammar V K} (made : IsWellMade g) where
       → Answers g lines text after r → ⊥
   no_stop lines more k v text after r allowed e fits is (inl (h, _)) = h k fits (v, goes_on g lines more k v e) is
   no_stop lines more k v text after r allowed e fits is (inr (inl ((l, is', fits', _, full), _))) =
-      let same : k ≡ l = made.tells_apart k l fits fits' (sym is ∙ is') in
+      let same : k ≡ l = tells_apart k l fits fits' (sym is ∙ is') in
       full v allowed (subst (GoesOn g v lines) same (goes_on g lines more k v e))
   no_stop lines more k v text after r allowed e fits is (inr (inr (end, _, _, _, _))) =
-      let same : k ≡ g.end = made.tells_apart k g.end fits made.fits_end (sym is ∙ end) in
+      let same : k ≡ g.end = tells_apart k g.end fits made.fits_end (sym is ∙ end) in
       made.end_is_last v lines more (e ∙ ap (λ (x : K). lines ++ x ∷ more) same)
 
   -- if these bytes are left, there is at most one result
@@ -166,7 +193,7 @@ module _ {V K : Type 0} {g : Grammar V K} (made : IsWellMade g) where
       let whole : g.body v ≡ lines ++ k ∷ (more ++ others) = all ∙ ap (λ (ls : List K). ls ++ others) is
       ∙ append_assoc lines (k ∷ more) others in
       let fits = (all_right g.FitsLine lines (k ∷ (more ++ others)) (subst (AreFit g) whole (made.fits v allowed))).0 in
-      let t = one_cut text (line_text g k) after' after one (made.one_line k fits) (sym e' ∙ e) in
+      let t = one_cut text (line_text g k) after' after one (one_line k fits) (sym e' ∙ e) in
       no_stop lines (more ++ others) k v text after' r allowed whole fits t.0 a
 
   -- bytes have at most one result after the header

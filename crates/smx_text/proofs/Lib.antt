@@ -22,4 +22,3 @@ pub mod WorkedFaultLemmas
 pub mod WrongCommandLemmas
 pub mod WrongProgramLemmas
 pub mod WrongTranscriptLemmas
-pub mod WrongCountLemmas

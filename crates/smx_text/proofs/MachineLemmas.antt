@@ -10,10 +10,8 @@ use Rattle.smx_text.specs.declared.text_fault.Cause.TheVariants as cause
 use Rattle.smx_text.specs.Grammar.{Grammar, IsOneLine, header, line_text, IsBegun, GoesOn, IsNoLine}
 use Rattle.smx_text.specs.Reading.{AddsLine, RefusesLine}
 use Rattle.smx_text.proofs.EachLemmas.{all_left, all_push}
-use Rattle.smx_text.proofs.GrammarLemmas.{IsWellMade}
+use Rattle.smx_text.proofs.GrammarLemmas.{IsWellMade, refuses}
 use Rattle.smx_text.proofs.HasReadingLemmas.{Decision, HasReading, has_reading}
-use Rattle.smx_text.proofs.LineWordLemmas.{one_line_of}
-use Rattle.smx_text.proofs.ReadingLemmas.{refuses}
 
 -- A machine that reads lines of K. Its drafts, of type D, are what was read so far of a value of V.
 pub record Machine (V K D : Type 0) : Type 1 where
@@ -245,10 +243,10 @@ module _ {V K D : Type 0} {g : Grammar V K} {m : Machine V K D} {ls : List K} {d
       )
 
 -- an accepted line within the limit, other than the end, becomes the last line of a draft
-pub adds : {V K D : Type 0} {g : Grammar V K} {m : Machine V K D} {d : D} → IsAt g m (m.lines d) d → (e : D) (k : K)
+pub adds : {V K D : Type 0} {g : Grammar V K} {m : Machine V K D} {d e : D} → IsAt g m (m.lines d) d → (k : K)
     → e ≡ m.with_line d k → IsBegun g (m.lines d) → m.takes d k ≡ true → m.is_full d k ≡ false → g.FitsLine k
     → k ≢ g.end → AddsLine g (m.lines d) k (m.lines e)
-adds {g = g} {m = m} {d = d} at e k same begun may room fits other =
+adds {g = g} {m = m} {d = d} at k same begun may room fits other =
     let all = ap m.lines same ∙ at.reader.longer d k may other in
     (all, subst (IsBegun g) (sym all) (longer_begun at k begun may room fits other))
 
@@ -258,15 +256,14 @@ adds {g = g} {m = m} {d = d} at e k same begun may room fits other =
 abbrev pub IsLineOrNot : {V K : Type 0} → Grammar V K → List K → List ℕ → Type 0
 IsLineOrNot {V} {K} g ls text = ((k : K) × g.FitsLine k × (text ≡ line_text g k)) ⊎ IsNoLine g ls text
 
-module _ {V K D : Type 0} {g : Grammar V K} {m : Machine V K D} (of : IsReader g m)
-    (tells_apart : (k l : K) → g.FitsLine k → g.FitsLine l → line_text g k ≡ line_text g l → k ≡ l)
-    (fits_end : g.FitsLine g.end) where
-  -- the text is well made: a line's text determines it, each is one line, and lines determine the value
-  pub well_made : IsOneLine (header g) → ((k : K) → g.FitsLine k → AreWords (g.line_words k)) → IsWellMade g
-  well_made header_line spelling = record {
+module _ {V K D : Type 0} {g : Grammar V K} {m : Machine V K D} (of : IsReader g m) where
+  -- the text is well made if its words determine a line: its lines determine the value
+  pub well_made : IsOneLine (header g) → ((k : K) → g.FitsLine k → AreWords (g.line_words k)) → g.FitsLine g.end
+      → ((k l : K) → g.FitsLine k → g.FitsLine l → g.line_words k ≡ g.line_words l → k ≡ l) → IsWellMade g
+  well_made header_line are_words fits_end words_apart = record {
     header_line = header_line;
-    one_line = λ k fits. one_line_of (g.line_words k) (spelling k fits);
-    tells_apart = tells_apart;
+    are_words = are_words;
+    words_apart = words_apart;
     fits = of.fits;
     fits_end = fits_end;
     end_is_last = λ v ls more e.
@@ -278,9 +275,9 @@ module _ {V K D : Type 0} {g : Grammar V K} {m : Machine V K D} (of : IsReader g
     again v allowed = ap m.shortest (of.leads v).1 ∙ of.value v allowed
 
   -- after a prefix of the lines of an allowed value, any text is decided
-  decides : ((ls : List K) (text : List ℕ) → text ≢ line_text g g.end → IsLineOrNot g ls text)
+  decides : IsWellMade g → ((ls : List K) (text : List ℕ) → text ≢ line_text g g.end → IsLineOrNot g ls text)
       → (ls : List K) → IsBegun g ls → (text : List ℕ) → Decision g ls text
-  decides read ls begun text = elim (same_or_not text (line_text g g.end)) [
+  decides made read ls begun text = elim (same_or_not text (line_text g g.end)) [
     | inl end ↦ at_end (m.takes d g.end) refl end
     | inr other ↦ elim (read ls text other) [
       | inl (k, fits, is) ↦
@@ -301,11 +298,11 @@ module _ {V K D : Type 0} {g : Grammar V K} {m : Machine V K D} (of : IsReader g
     }
 
     no_line : (k : K) → g.FitsLine k → text ≡ line_text g k → m.takes d k ≡ false → IsNoLine g ls text
-    no_line k fits is never = refuses g tells_apart ls k text fits is cause.Form (misplaced at k never)
+    no_line k fits is never = refuses made ls k text fits is cause.Form (misplaced at k never)
 
     at_end : (b : Bool) → m.takes d g.end ≡ b → text ≡ line_text g g.end → Decision g ls text
     at_end true may end = let all = finished at begun may in inr (inr (inr (end, m.shortest d, all.0, all.1)))
-    at_end false never end = inr (inl (no_line g.end fits_end end never))
+    at_end false never end = inr (inl (no_line g.end made.fits_end end never))
 
     judged : (k : K) → g.FitsLine k → text ≡ line_text g k → k ≢ g.end → (b c : Bool) → m.takes d k ≡ b
         → m.is_full d k ≡ c → Decision g ls text
@@ -317,4 +314,4 @@ module _ {V K D : Type 0} {g : Grammar V K} {m : Machine V K D} (of : IsReader g
   -- any bytes spell a value, or have a first fault other than out of memory
   pub reads : IsWellMade g → ((ls : List K) (text : List ℕ) → text ≢ line_text g g.end → IsLineOrNot g ls text)
       → (bytes : List ℕ) → HasReading g bytes
-  reads made read bytes = has_reading g made (decides read) (nothing_begun of) bytes
+  reads made read bytes = has_reading g made (decides made read) (nothing_begun of) bytes

@@ -1,6 +1,6 @@
 -- A programs text is read by a machine that accepts one line after another.
-use Rattle.std.proofs.Common.{◌≡◌, ◌≢◌, ◌+◌, ◌-◌, ◌<◌, ◌≤◌, ◌==◌, Bool, true, false, nat_le, nat_lt, List, [], ◌∷◌, ◌++◌}
-use Rattle.std.proofs.Common.{length, get_or, refl, sym, ap, subst, append_assoc, arith, rules}
+use Rattle.std.proofs.Common.{◌≡◌, ◌≢◌, ◌+◌, ◌-◌, ◌<◌, ◌≤◌, ◌==◌, Bool, true, false, nat_le, nat_lt, List, []}
+use Rattle.std.proofs.Common.{◌∷◌, ◌++◌, length, get_or, refl, sym, ap, subst, append_assoc, arith, rules}
 use Rattle.std.specs.List.{sum_by}
 use Rattle.std.proofs.Math.ListN.{set}
 use Rattle.std.proofs.Math.Seq.{get_or-append_seam, set-append_seam}
@@ -154,8 +154,8 @@ behind version v line.End h room w = w
 
 -- a command appended to the last program
 last_seam : (ps : List (List Command)) (cs : List Command) (c : Command)
-    → set (ps ++ cs ∷ []) (length (ps ++ cs ∷ []) - 1) (get_or (ps ++ cs ∷ []) (length (ps ++ cs ∷ []) - 1) [] ++ c ∷ [])
-    ≡ ps ++ (cs ++ c ∷ []) ∷ []
+    → set (ps ++ cs ∷ []) (length (ps ++ cs ∷ []) - 1)
+    (get_or (ps ++ cs ∷ []) (length (ps ++ cs ∷ []) - 1) [] ++ c ∷ []) ≡ ps ++ (cs ++ c ∷ []) ∷ []
 last_seam ps cs c =
     let last : length (ps ++ cs ∷ []) - 1 ≡ length ps = omega (arith, length-append ps (cs ∷ [])) in
     rw (last, get_or-append_seam ps cs [] [], set-append_seam) refl
@@ -184,7 +184,7 @@ leads : (version : Version) (v : ProgramLists)
 leads version v =
     group (machine version) line.End line.Driver
     (λ (ds : List DriverSpec). record { version = version; drivers = ds; programs = [] })
-    (λ ds d. (refl, (λ e. cc), refl)) v.drivers (program_lines 0 v.programs) _ (leads_on version v.drivers [] v.programs)
+    (λ ds d. (refl, (λ e. cc), refl)) v.drivers _ _ (leads_on version v.drivers [] v.programs)
 
 -- the machine reads the programs text
 pub reader : (version : Version) → IsReader (programs_grammar version) (machine version)

@@ -2,7 +2,6 @@
 use Rattle.std.proofs.Common.{◌≡◌, ◌≢◌, ◌<◌, Bool, true, false, eqb, ◌&&◌, List, [], ◌∷◌, ◌++◌, length}
 use Rattle.std.proofs.Common.{map, refl, sym, ap, ◌∙◌, append_assoc, arith, rules}
 use Rattle.std.specs.List.{AllByRecursion}
-use Rattle.std.specs.Prelude.{Result, Ok, Err, OnOk, IfErr, if◌then◌else◌}
 use Rattle.std.proofs.lemmas.Bool.{and_parts}
 use Rattle.std.proofs.lemmas.Bool.Decides.{nat_tests}
 use Rattle.std.proofs.lemmas.List.{append-nil, length-append, map-append, nil_from_length}
@@ -20,21 +19,17 @@ use Rattle.smx_types.specs.declared.view.HungLine.{HungLine}
 use Rattle.smx_types.specs.declared.view.LinkLine.{LinkLine}
 use Rattle.smx_types.specs.declared.view.MessageLine.{MessageLine}
 use Rattle.smx_types.specs.declared.view.RouteLine.{RouteLine}
-use Rattle.smx_text.specs.declared.text_fault.Cause.{Cause}
-use Rattle.smx_text.specs.declared.text_fault.Cause.TheVariants as cause
 use Rattle.smx_text.specs.declared.transcript.draft.Stage.{Stage}
 use Rattle.smx_text.specs.declared.transcript.draft.Stage.TheVariants as stage
 use Rattle.smx_text.specs.declared.transcript.draft.TranscriptDraft.{TranscriptDraft}
 use Rattle.smx_text.specs.Drafts.{grammar_of, lines, is_view, takes_links, takes_binds, takes_routes, takes_msgs}
 use Rattle.smx_text.specs.Drafts.{takes_fulls, takes_hungs}
-use Rattle.smx_text.specs.Grammar.{IsBegun}
-use Rattle.smx_text.specs.Reading.{AnswersLine}
 use Rattle.smx_text.specs.TranscriptLines.{TranscriptLine}
 use Rattle.smx_text.specs.TranscriptLines as line
 use Rattle.smx_text.specs.TranscriptText.{FitsLine, body, transcript_grammar, view_body}
 use Rattle.smx_text.proofs.EachLemmas.{all_append}
-use Rattle.smx_text.proofs.MachineLemmas.{IsReader, IsAt, Leads, each, group, misplaced, longer_begun, adds}
-use Rattle.smx_text.proofs.TranscriptDrafts.{new_view, draft, takes, is_full, with_view, with_line, IsWithin, seen}
+use Rattle.smx_text.proofs.MachineLemmas.{IsReader, IsAt, Leads, each, group}
+use Rattle.smx_text.proofs.TranscriptDrafts.{new_view, draft, takes, is_full, with_line, IsWithin, seen}
 use Rattle.smx_text.proofs.TranscriptDrafts.{completed, still, machine}
 
 -- ---- one more line
@@ -265,19 +260,3 @@ stands d = let all = leads_to d.stage d.transcript in record {
   value_is = ap completed all.1
       ∙ ap (λ (v : ConfigView). record d.transcript { view = v }) (same_seen d.stage d.transcript.view);
 }
-
--- ---- lines of the groups of a view
-
--- the result for a line of a group, which has no limit: a function appends it to its group, if it may follow
-pub group_answers : {A X : Type 0} (d : TranscriptDraft) (k : TranscriptLine) → IsBegun (grammar_of d) (lines d)
-    → is_full d k ≡ false → k ≢ line.End → (put : List X → ConfigView) (old new : List X) (x : X) (takes_it : Bool)
-    → takes_it ≡ takes d k → with_line d k ≡ with_view d (put (old ++ x ∷ [])) → FitsLine d.transcript.version k
-    → (r : Result A Cause) → OnOk r ((takes_it ≡ true) × (new ≡ old ++ x ∷ []))
-    → IfErr r (λ why. why ≡ (if takes_it then cause.NoMemory else cause.Form))
-    → AnswersLine (grammar_of d) (lines d) k (lines (with_view d (put new))) r
-group_answers d k begun room other put old new x takes_it may is fits (Ok u) ok err =
-    adds (stands d) (with_view d (put new)) k (rw ok.1 (sym is)) begun (sym may ∙ ok.0) room fits other
-group_answers d k begun room other put old new x true may is fits (Err why) ok err =
-    rw err (longer_begun (stands d) k begun (sym may) room fits other)
-group_answers d k begun room other put old new x false may is fits (Err why) ok err =
-    rw err (misplaced (stands d) k (sym may))

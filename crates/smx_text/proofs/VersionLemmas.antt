@@ -12,13 +12,14 @@ use Rattle.smx_text.specs.declared.text_fault.TextFault.{TextFault}
 use Rattle.smx_text.specs.Grammar.{Grammar, IsOneLine, IsBegun, header, line_text, beginning, full_text, Reaches}
 use Rattle.smx_text.specs.Grammar.{IsFault, Reads, ReadsAny, last_line}
 use Rattle.smx_text.proofs.GrammarLemmas.{IsWellMade, Answers, Stops, Behind, refused, ended, beginning_and}
-use Rattle.smx_text.proofs.GrammarLemmas.{both_behind, line_behind}
+use Rattle.smx_text.proofs.GrammarLemmas.{both_behind, line_behind, one_line}
 use Rattle.smx_text.proofs.HasReadingLemmas.{HasReading}
 use Rattle.smx_text.proofs.LineLemmas.{not_one, one_cut}
 use Rattle.smx_text.proofs.ReadingLemmas.{any_of, any_of_each, full_and, one_more}
 
 -- in each version a line's text determines the line, and the versions have different headers
 pub record AreVersions {V K : Type 0} (g : Version → Grammar V K) : Type 0 where
+  pub version_of : V → Version
   pub made : (version : Version) → IsWellMade (g version)
   pub differ : header (g V1) ≢ header (g V2)
 
@@ -67,7 +68,8 @@ module _ {V K : Type 0} (g : Version → Grammar V K) (are : AreVersions g) wher
     at_line : (lines : List K) (text : List ℕ) (n : ℕ) (c : Cause) → Reaches (g version) bytes lines text n
         → ((after : List ℕ) → Answers (g version) lines text after (refused (g version) (length lines + 2) c))
         → Place bytes (refused (g version) n c)
-    at_line lines text n c at answers = rw at.numbered (stands lines (text ++ LINE_FEED ∷ at.next.0) _ at.begun at.next.2
+    at_line lines text n c at answers =
+        rw at.numbered (stands lines (text ++ LINE_FEED ∷ at.next.0) _ at.begun at.next.2
         (inr (text, at.next.0, at.next.1, refl, answers at.next.0)))
 
     -- the result at the last line of an allowed value has one of these places
@@ -80,7 +82,7 @@ module _ {V K : Type 0} (g : Version → Grammar V K) (are : AreVersions g) wher
         (inr (
           end,
           after,
-          (are.made version).one_line _ (are.made version).fits_end,
+          one_line (are.made version) _ (are.made version).fits_end,
           refl,
           inr (inr (refl, v, allowed, refl, refl)),
         ))
@@ -120,7 +122,8 @@ module _ {V K : Type 0} (g : Version → Grammar V K) (are : AreVersions g) wher
   in_version version bytes rest r is (inl (one, _)) =
       absurd (not_one (header (g version)) rest (subst IsOneLine is one))
   in_version version bytes rest r is (inr (inl (text, after, one, e, none, _))) =
-      absurd (none version (one_cut text (header (g version)) after rest one (are.made version).header_line (sym e ∙ is)).0)
+      absurd (none version
+      (one_cut text (header (g version)) after rest one (are.made version).header_line (sym e ∙ is)).0)
   in_version version bytes rest r is (inr (inr (v, (lines, others, begun, e, stops)))) =
       let same = same_version v version (one_cut (header (g v)) (header (g version)) _ rest (are.made v).header_line
       (are.made version).header_line (sym e ∙ is)).0 in

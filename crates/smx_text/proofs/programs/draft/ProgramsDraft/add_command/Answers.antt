@@ -35,5 +35,5 @@ returns-clause-answers c =
     let same : more ≡ with_line c.args.self.now (line.Command c.args.command) =
     ap (λ (ps : List (List Command)). record more { programs = ps }) last
     ∙ ap (λ (v : ProgramLists). with_line v (line.Command c.args.command)) now in
-    adds (stands c.args.self.now) more (line.Command c.args.command) same c.requires.begun
+    adds {e = more} (stands c.args.self.now) (line.Command c.args.command) same c.requires.begun
     (search rules) (search rules) c.requires.fits (λ e. cc)

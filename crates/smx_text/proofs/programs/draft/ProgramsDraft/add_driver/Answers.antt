@@ -27,5 +27,5 @@ returns-clause-answers c =
       drivers = c.push.new.self.items;
       programs = c.self.inside.programs.items;
     } in
-    adds (stands c.args.self.now) more (line.Driver c.args.driver) (search rules)
+    adds {e = more} (stands c.args.self.now) (line.Driver c.args.driver) (search rules)
     c.requires.begun (search rules) (search rules) c.requires.fits (λ e. cc)

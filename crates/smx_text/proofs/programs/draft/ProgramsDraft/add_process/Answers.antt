@@ -27,5 +27,5 @@ returns-clause-answers c =
       drivers = c.self.inside.drivers.items;
       programs = c.push.new.self.items;
     } in
-    adds (stands c.args.self.now) more (line.Process c.args.number) (search rules)
+    adds {e = more} (stands c.args.self.now) (line.Process c.args.number) (search rules)
     c.requires.begun (search rules) (search rules) c.ranges.number.fits (λ e. cc)

@@ -1,6 +1,5 @@
 use Rattle.std.proofs.Common.{rules, refl}
 use Rattle.smx_text.specs.TranscriptLines as line
-use Rattle.smx_text.proofs.TranscriptDrafts.{with_line}
 use Rattle.smx_text.proofs.MachineLemmas.{misplaced, adds}
 use Rattle.smx_text.proofs.TranscriptMachineLemmas.{stands}
 use Rattle.smx_text.proofs.transcript.draft.TranscriptDraft.add_config.Goals as goal
@@ -10,5 +9,4 @@ returns-then-ne-clause-answers c = misplaced (stands c.args.self.now) line.Confi
 
 pub returns-clause-answers : goal.returns-clause-answers
 returns-clause-answers c =
-    adds (stands c.args.self.now) (with_line c.args.self.now line.Config) line.Config refl c.requires.begun (search rules)
-    refl tt (λ e. cc)
+    adds (stands c.args.self.now) line.Config refl c.requires.begun (search rules) refl tt (λ e. cc)

@@ -1,6 +1,5 @@
 use Rattle.std.proofs.Common.{rules, refl}
 use Rattle.smx_text.specs.TranscriptLines as line
-use Rattle.smx_text.proofs.TranscriptDrafts.{with_line}
 use Rattle.smx_text.proofs.MachineLemmas.{adds, longer_begun}
 use Rattle.smx_text.proofs.TranscriptMachineLemmas.{stands}
 use Rattle.smx_text.proofs.transcript.draft.TranscriptDraft.add_entry.Goals as goal
@@ -11,8 +10,8 @@ returns-in_err-room_for_entry-clause-answers c = let why =
 
 pub returns-clause-answers : goal.returns-clause-answers
 returns-clause-answers c =
-    rw c.in_ok-push.ensures.ok (adds (stands c.args.self.now) (with_line c.args.self.now (line.Entry c.args.entry)) (line.Entry c.args.entry) refl c.requires.begun (search rules) (search rules) c.requires.fits
-    (λ e. cc))
+    rw c.in_ok-push.ensures.ok (adds (stands c.args.self.now) (line.Entry c.args.entry) refl c.requires.begun
+    (search rules) (search rules) c.requires.fits (λ e. cc))
 
 pub returns-in_err-push-clause-answers : goal.returns-in_err-push-clause-answers
 returns-in_err-push-clause-answers c =

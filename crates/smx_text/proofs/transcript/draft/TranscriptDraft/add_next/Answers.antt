@@ -1,6 +1,5 @@
 use Rattle.std.proofs.Common.{rules, refl}
 use Rattle.smx_text.specs.TranscriptLines as line
-use Rattle.smx_text.proofs.TranscriptDrafts.{with_line}
 use Rattle.smx_text.proofs.MachineLemmas.{misplaced, adds}
 use Rattle.smx_text.proofs.TranscriptMachineLemmas.{stands}
 use Rattle.smx_text.proofs.transcript.draft.TranscriptDraft.add_next.Goals as goal
@@ -11,6 +10,5 @@ returns-then-ne-clause-answers c =
 
 pub returns-clause-answers : goal.returns-clause-answers
 returns-clause-answers c =
-    rw c.new_view.ensures
-    (adds (stands c.args.self.now) (with_line c.args.self.now (line.Next c.args.next_id c.args.next_serial)) (line.Next c.args.next_id c.args.next_serial) refl c.requires.begun (search rules) refl
-    (c.ranges.next_id.fits, c.ranges.next_serial.fits) (λ e. cc))
+    rw c.new_view.ensures (adds (stands c.args.self.now) (line.Next c.args.next_id c.args.next_serial) refl
+    c.requires.begun (search rules) refl (c.ranges.next_id.fits, c.ranges.next_serial.fits) (λ e. cc))

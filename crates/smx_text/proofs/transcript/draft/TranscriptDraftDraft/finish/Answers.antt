@@ -8,13 +8,14 @@ use Rattle.smx_text.specs.Reading.{EndsAs}
 use Rattle.smx_text.specs.TranscriptLines as line
 use Rattle.smx_text.proofs.MachineLemmas.{finished, misplaced}
 use Rattle.smx_text.proofs.TranscriptDrafts.{seen}
-use Rattle.smx_text.proofs.TranscriptGrammarLemmas.{refused_line}
+use Rattle.smx_text.proofs.GrammarLemmas.{refuses}
+use Rattle.smx_text.proofs.TranscriptGrammarLemmas.{well_made}
 use Rattle.smx_text.proofs.TranscriptMachineLemmas.{stands}
 use Rattle.smx_text.proofs.transcript.draft.TranscriptDraftDraft.finish.Goals as goal
 
 pub returns-then-ne : goal.returns-then-ne
 returns-then-ne c =
-    refused_line _ _ line.End _ tt refl cause.Form (misplaced (stands c.args.self) line.End (search rules))
+    refuses (well_made _) _ line.End _ tt refl cause.Form (misplaced (stands c.args.self) line.End (search rules))
 
 pub returns : goal.returns
 returns c =
