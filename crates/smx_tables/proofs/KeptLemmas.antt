@@ -5,11 +5,6 @@ use Rattle.smx_types.specs.declared.stream.StreamId.{StreamId}
 use Rattle.smx_streams.specs.StreamTables.{StreamTable, number_at}
 use Rattle.smx_tables.specs.ExistingStreams.{AreHeld}
 
--- equal links and equal streams have the same holds
-pub held_again : (links same : List Link) (t u : StreamTable) → AreHeld links t → same ≡ links → u ≡ t → AreHeld same u
-held_again links same t u h e f =
-    subst (λ (ls : List Link). AreHeld ls u) (sym e) (subst (λ (x : StreamTable). AreHeld links x) (sym f) h)
-
 -- without links and holds, each stream below a link is held
 pub held_at_first : (links : List Link) (t : StreamTable) → links ≡ [] → ((s : StreamId) → number_at t.holds s ≡ 0)
     → AreHeld links t

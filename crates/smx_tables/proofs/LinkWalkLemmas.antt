@@ -1,9 +1,8 @@
 -- Walks over the links of a table, from the first on.
-use Rattle.std.proofs.Common.{◌≡◌, ℕ, ◌+◌, ◌<◌, List, [], ◌∷◌, ◌++◌, length}
-use Rattle.std.proofs.Common.{take, get_or, Some, sym, ap, ◌∙◌}
+use Rattle.std.proofs.Common.{◌≡◌, ℕ, ◌<◌, List, length}
+use Rattle.std.proofs.Common.{get_or, Some, sym, ap, ◌∙◌}
 use Rattle.std.specs.Prelude.{slice_get}
-use Rattle.std.proofs.lemmas.List.{take_more}
-use Rattle.std.proofs.lemmas.Option.{get_or_from_slice_get, slice_get-get_or, slice_get_within}
+use Rattle.std.proofs.lemmas.Option.{slice_get-get_or}
 use Rattle.smx_types.specs.declared.link.Link.{Link}
 use Rattle.smx_types.specs.declared.link.LinkKind.TheVariants as kind
 use Rattle.smx_types.specs.declared.stream.StreamId.{StreamId}
@@ -17,9 +16,3 @@ link_at links i = get_or links i (record { id = 0; ctl = none; lower = none; kin
 -- this link is in the table, and so in an equal list of links
 pub one_at : (xs ys : List Link) (i : ℕ) → ys ≡ xs → i < length ys → Some (link_at ys i) ≡ slice_get xs i
 one_at xs ys i same lt = sym (slice_get-get_or ys i _ lt) ∙ ap (λ (zs : List Link). slice_get zs i) same
-
--- the items before an index, and the one there, are the items before the next index
-pub take_one_more : {X : Type 0} (xs : List X) (i : ℕ) (x : X) → Some x ≡ slice_get xs i
-    → take (i + 1) xs ≡ take i xs ++ x ∷ []
-take_one_more {X = X} xs i x e = take_more xs i x (slice_get_within xs i x (sym e))
-    ∙ ap (λ (y : X). take i xs ++ y ∷ []) (get_or_from_slice_get xs i x x (sym e))

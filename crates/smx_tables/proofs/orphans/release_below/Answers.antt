@@ -106,8 +106,8 @@ loop-link-preserved c =
                 (sym w.push_reserved-then-is_loose_by.ensures.capacity)
                 (one_released c.args.links.now.links c.loop-link.link-index _ link c.loop-link.streams
                 w.release-gone.new.self c.loop-link.gone.items w.push_reserved-then-is_loose_by.new.self.items
-                c.requires.sound.sound.lowers at loose (c.loop-link.invariant.releasing 0) w.release-gone.ensures.rest
-                w.push_reserved-then-is_loose_by.ensures.items less c.loop-link.invariant.gone);
+                c.requires.sound.sound.lowers c.requires.sound.ids.rise at loose
+                (c.loop-link.invariant.releasing 0) w.release-gone.ensures.rest w.push_reserved-then-is_loose_by.ensures.items less c.loop-link.invariant.gone);
           })
       | else-is_loose_by w ↦
           let at = one_at c.args.links.now.links c.args.listed.now c.loop-link.link-index
