@@ -1,6 +1,6 @@
 -- Removing what belongs to dead streams from a configuration, stream by stream.
-use Rattle.std.proofs.Common.{◌≡◌, ℕ, ◌+◌, Bool, true, false, ◌&&◌, ◌||◌, not, eqb, List, [], ◌∷◌, ◌++◌, filter, take, refl}
-use Rattle.std.proofs.Common.{sym, ap, ◌∙◌, arith, inl, inr}
+use Rattle.std.proofs.Common.{◌≡◌, ℕ, ◌+◌, Bool, true, false, ◌&&◌, ◌||◌, not, eqb, List, [], ◌∷◌, ◌++◌, filter, take}
+use Rattle.std.proofs.Common.{refl, sym, ap, ◌∙◌, arith, inl, inr}
 use Rattle.std.proofs.Math.Bool.{and-false, and-true, not-not}
 use Rattle.std.proofs.lemmas.Bool.{cases_Bool}
 use Rattle.std.proofs.lemmas.Bool.Decides.{nat_tests}
@@ -49,7 +49,8 @@ same_parts c xs bs hs gs ps qs a b d = cc
 
 -- a test that no stream passes removes nothing
 none_goes : (c : Configuration) (f : StreamId → Bool) → ((x : StreamId) → f x ≡ false) → c ≡ without_streams c f
-none_goes c f h = sym (same_parts c _ c.binds _ c.flow _ c.fulls (none_passes (λ b. f (bound b)) c.binds (λ b. h (bound b)))
+none_goes c f h = sym (same_parts c _ c.binds _ c.flow _ c.fulls
+    (none_passes (λ b. f (bound b)) c.binds (λ b. h (bound b)))
     (none_passes (λ m. f (queued m)) c.flow (λ m. h (queued m)))
     (none_passes (λ p. f (marked p)) c.fulls (λ p. h (marked p))))
 
@@ -59,7 +60,8 @@ goes_more : (c : Configuration) (f g both : StreamId → Bool) → ((x : StreamI
 goes_more c f g both h = same_parts c _ _ _ _ _ _
     (tests_less (λ b. f (bound b)) (λ b. g (bound b)) (λ b. both (bound b)) c.binds _ _ (λ b. h (bound b)) refl refl)
     (tests_less (λ m. f (queued m)) (λ m. g (queued m)) (λ m. both (queued m)) c.flow _ _ (λ m. h (queued m)) refl refl)
-    (tests_less (λ p. f (marked p)) (λ p. g (marked p)) (λ p. both (marked p)) c.fulls _ _ (λ p. h (marked p)) refl refl)
+    (tests_less (λ p. f (marked p)) (λ p. g (marked p)) (λ p. both (marked p)) c.fulls _ _ (λ p. h (marked p)) refl
+    refl)
 
 -- ---- one stream
 

@@ -1,6 +1,6 @@
 -- Collecting the ids of links whose lower streams are released.
-use Rattle.std.proofs.Common.{◌≡◌, ℕ, ◌-◌, ◌<◌, ◌≤◌, Bool, true, false, ◌||◌, not, eqb, List, [], ◌∷◌, ◌++◌}
-use Rattle.std.proofs.Common.{length, length-append, find, Option, Some, None, if◌then◌else◌, refl, sym, ap, subst, ◌∙◌, arith}
+use Rattle.std.proofs.Common.{◌≡◌, ℕ, ◌-◌, ◌<◌, ◌≤◌, Bool, true, false, ◌||◌, not, eqb, List, [], ◌∷◌, ◌++◌, length}
+use Rattle.std.proofs.Common.{length-append, find, Option, Some, None, if◌then◌else◌, refl, sym, ap, subst, ◌∙◌, arith}
 use Rattle.std.specs.Prelude.{nat_lt, slice_get}
 use Rattle.std.specs.List.{list_any}
 use Rattle.std.specs.Option.{option_map_or}
@@ -67,8 +67,9 @@ id_more links t new ids i l apart rise at h was id =
       own : option_map_or (λ k. same_stream k.lower l.lower) (find (λ k. eqb k.id id) links) false ≡ eqb l.id id
       own = sym (above_with_id links id l.lower apart rise) ∙ rw (found_at links i l apart at) refl
 
-      by : (o : Option Link) → (option_map_or (λ k. not (is_held t k)) o false
-          || option_map_or (λ k. same_stream k.lower l.lower) o false) ≡ option_map_or (λ k. not (is_held new k)) o false
+      by : (o : Option Link)
+          → (option_map_or (λ k. not (is_held t k)) o false || option_map_or (λ k. same_stream k.lower l.lower) o false)
+          ≡ option_map_or (λ k. not (is_held new k)) o false
       by None = refl
       by (Some k) = sym (held_less t new l.lower k h)
 
