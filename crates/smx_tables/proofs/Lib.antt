@@ -20,4 +20,3 @@ pub mod DropLemmas
 pub mod DriverNameLemmas
 pub mod DriverListLemmas
 pub mod WalkLemmas
-pub mod KeptLemmas

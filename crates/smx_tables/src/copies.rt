@@ -60,7 +60,6 @@ fn minors_of_each(alloc: Global, drivers: &[DriverSpec]) -> Result<Vec<u8>, NoMe
 }
 
 /// Makes empty tables for these drivers. Fails only if out of memory.
-#[tactic(auto, using(crate::proofs::KeptLemmas::held_at_first))]
 pub fn empty_lists(alloc: Global, drivers: &[DriverSpec]) -> Result<Lists, NoMemory>
     requires { IsDriverList drivers.now }
     ensures value { IfOk result (λ l. configuration_of l ≡ empty) }

@@ -2,6 +2,7 @@ use Rattle.std.proofs.Common.{◌∙◌, List, ap, refl, arith}
 use Rattle.std.proofs.lemmas.List.{take_more}
 use Rattle.std.proofs.lemmas.List.{take_all}
 use Rattle.smx_types.specs.declared.stream.StreamId.{StreamId}
+use Rattle.smx_model.specs.Configuration.{Configuration}
 use Rattle.smx_tables.specs.ModelOfLists.{configuration_of}
 use Rattle.smx_tables.specs.TouchedStreams.{is_dead, without_streams}
 use Rattle.smx_tables.proofs.DeadStreamLemmas.{all_gone, none_gone_yet, one_more_gone}
@@ -40,3 +41,9 @@ returns-clause-value c = λ drivers told.
     ∙ ap (λ (ss : List StreamId). without_streams (configuration_of old) (is_dead old.streams ss)) seen
     ∙ all_gone drivers (configuration_of old) old.streams c.args.seen.now told c.requires.seen
     c.requires.hungs
+
+pub returns-clause-kept : goal.returns-clause-kept
+returns-clause-kept c = record {
+  held = rw (ap (λ (x : Configuration). x.links) c.loop-stream.invariant.value, c.loop-stream.invariant.streams)
+      c.requires.kept.held;
+}
