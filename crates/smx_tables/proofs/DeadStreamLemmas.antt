@@ -1,8 +1,9 @@
 -- Removing what belongs to dead streams from a configuration, stream by stream.
-use Rattle.std.proofs.Common.{◌≡◌, ℕ, ◌+◌, Bool, true, false, ◌&&◌, not, eqb, List, [], ◌∷◌, ◌++◌, filter, take, refl}
-use Rattle.std.proofs.Common.{sym, ap, ◌∙◌}
-use Rattle.std.proofs.Math.Bool.{and-true, not-not}
-use Rattle.std.proofs.lemmas.List.Elements.{filter_agree}
+use Rattle.std.proofs.Common.{◌≡◌, ℕ, ◌+◌, Bool, true, false, ◌&&◌, ◌||◌, not, eqb, List, [], ◌∷◌, ◌++◌, filter, take}
+use Rattle.std.proofs.Common.{refl, sym, ap, ◌∙◌, arith, inl, inr}
+use Rattle.std.proofs.Math.Bool.{and-false, and-true, not-not}
+use Rattle.std.proofs.lemmas.Bool.{cases_Bool}
+use Rattle.std.proofs.lemmas.Bool.Decides.{nat_tests}
 use Rattle.smx_types.specs.declared.driver.DriverSpec.{DriverSpec}
 use Rattle.smx_types.specs.declared.link.Binding.{Binding}
 use Rattle.smx_types.specs.declared.stream.Place.{Place}
@@ -11,11 +12,15 @@ use Rattle.smx_model.specs.Configuration.{Configuration, QueuedMessage, same_str
 use Rattle.smx_model.specs.Hangups.{is_hung}
 use Rattle.smx_model.specs.Removal.{without_dead_streams}
 use Rattle.smx_model.specs.Standing.{exists}
+use Rattle.smx_model.proofs.EachLemmas.{each_of_list_all}
 use Rattle.smx_streams.specs.StreamTables.{StreamTable, exists as is_there}
 use Rattle.smx_tables.specs.ExistingStreams.{TellsExisting}
-use Rattle.smx_tables.specs.TouchedStreams.{is_dead, without_streams, IsTouched}
-use Rattle.smx_tables.proofs.DeadLemmas.{dead_are_gone, none_dead, none_of_one, one_dead, stream_less}
+use Rattle.smx_tables.specs.TouchedStreams.{is_dead, is_there_or_touched, without_streams, IsTouched}
+use Rattle.smx_tables.proofs.AboveLemmas.{stream_is}
+use Rattle.smx_tables.proofs.BelowLemmas.{tests_less}
 use Rattle.smx_tables.proofs.HungLemmas.{all_pass}
+use Rattle.smx_tables.proofs.RemovalLemmas.{kept_alike, none_passes, same_kept}
+use Rattle.smx_tables.proofs.WatchLemmas.{listed_more}
 
 -- ---- the stream of each item
 
@@ -42,6 +47,24 @@ same_parts : (c : Configuration) (xs bs : List Binding) (hs gs : List QueuedMess
     → xs ≡ bs → hs ≡ gs → ps ≡ qs → parts c xs hs ps ≡ parts c bs gs qs
 same_parts c xs bs hs gs ps qs a b d = cc
 
+-- a test that no stream passes removes nothing
+none_goes : (c : Configuration) (f : StreamId → Bool) → ((x : StreamId) → f x ≡ false) → c ≡ without_streams c f
+none_goes c f h = sym (same_parts c _ c.binds _ c.flow _ c.fulls
+    (none_passes (λ b. f (bound b)) c.binds (λ b. h (bound b)))
+    (none_passes (λ m. f (queued m)) c.flow (λ m. h (queued m)))
+    (none_passes (λ p. f (marked p)) c.fulls (λ p. h (marked p))))
+
+-- removing the streams of one test and then those of another removes the streams of either
+goes_more : (c : Configuration) (f g both : StreamId → Bool) → ((x : StreamId) → both x ≡ (f x || g x))
+    → without_streams (without_streams c f) g ≡ without_streams c both
+goes_more c f g both h = same_parts c _ _ _ _ _ _
+    (tests_less (λ b. f (bound b)) (λ b. g (bound b)) (λ b. both (bound b)) c.binds _ _ (λ b. h (bound b)) refl refl)
+    (tests_less (λ m. f (queued m)) (λ m. g (queued m)) (λ m. both (queued m)) c.flow _ _ (λ m. h (queued m)) refl refl)
+    (tests_less (λ p. f (marked p)) (λ p. g (marked p)) (λ p. both (marked p)) c.fulls _ _ (λ p. h (marked p)) refl
+    refl)
+
+-- ---- one stream
+
 -- a stream that is not in the table loses its binding, and the messages and full marks of both its sides
 pub one_gone : (c : Configuration) (t : StreamTable) (s : StreamId)
     (binds : List Binding) (flow : List QueuedMessage) (fulls : List Place)
@@ -50,22 +73,28 @@ pub one_gone : (c : Configuration) (t : StreamTable) (s : StreamId)
     → fulls ≡ filter (λ p. not (same_stream p.stream s && true)) c.fulls
     → parts c binds flow fulls ≡ without_streams c (is_dead t (s ∷ []))
 one_gone c t s binds flow fulls gone no_bind no_message no_mark = same_parts c _ _ _ _ _ _
-    (one_dead bound (λ b. same_stream (bound b) s) t s c.binds binds gone (λ b. refl) no_bind)
-    (one_dead queued (λ h. same_stream (queued h) s && true) t s c.flow flow gone
-    (λ h. and-true (same_stream (queued h) s)) no_message)
-    (one_dead marked (λ p. same_stream (marked p) s && true) t s c.fulls fulls gone
-    (λ p. and-true (same_stream (marked p) s)) no_mark)
+    (no_bind ∙ same_kept _ (λ b. is_dead t (s ∷ []) (bound b)) c.binds (λ b. dead (bound b)))
+    (no_message ∙ same_kept _ (λ m. is_dead t (s ∷ []) (queued m)) c.flow (λ m. and-true _ ∙ dead (queued m)))
+    (no_mark ∙ same_kept _ (λ p. is_dead t (s ∷ []) (marked p)) c.fulls (λ p. and-true _ ∙ dead (marked p))) where
+      dead : (x : StreamId) → same_stream x s ≡ is_dead t (s ∷ []) x
+      dead x = elim (cases_Bool (same_stream x s)) [
+        | inl same ↦ rw (same, ap (is_there t) (stream_is x s same) ∙ gone) refl
+        | inr other ↦ rw other (sym (and-false (not (is_there t x))))
+      ]
 
 -- a stream in the table loses nothing
 pub none_gone : (c : Configuration) (t : StreamTable) (s : StreamId) → is_there t s ≡ true
     → c ≡ without_streams c (is_dead t (s ∷ []))
-none_gone c t s there = same_parts c c.binds _ c.flow _ c.fulls _
-    (none_of_one bound t s c.binds there) (none_of_one queued t s c.flow there) (none_of_one marked t s c.fulls there)
+none_gone c t s there = none_goes c (is_dead t (s ∷ [])) (λ x. elim (cases_Bool (same_stream x s)) [
+  | inl same ↦ rw (ap (is_there t) (stream_is x s same) ∙ there) refl
+  | inr other ↦ rw other (and-false (not (is_there t x)))
+])
+
+-- ---- all streams
 
 -- no stream has been examined, so nothing is removed
 pub none_gone_yet : (c : Configuration) (t : StreamTable) → c ≡ without_streams c (is_dead t [])
-none_gone_yet c t = same_parts c c.binds _ c.flow _ c.fulls _
-    (none_dead bound t c.binds) (none_dead queued t c.flow) (none_dead marked t c.fulls)
+none_gone_yet c t = none_goes c (is_dead t []) (λ x. and-false (not (is_there t x)))
 
 -- what is left after one more stream
 pub one_more_gone : (old c new : Configuration) (t u : StreamTable) (seen : List StreamId) (i : ℕ) (s : StreamId)
@@ -73,24 +102,23 @@ pub one_more_gone : (old c new : Configuration) (t u : StreamTable) (seen : List
     → new ≡ without_streams c (is_dead u (s ∷ [])) → new ≡ without_streams old (is_dead t (take (i + 1) seen))
 one_more_gone old c new t u seen i s here taken_one e f =
     f ∙ ap (λ (x : StreamTable). without_streams c (is_dead x (s ∷ []))) here
-    ∙ ap (λ (x : Configuration). without_streams x (is_dead t (s ∷ []))) e ∙ same_parts old _ _ _ _ _ _
-    (stream_less bound t seen i s old.binds _ _ taken_one refl refl)
-    (stream_less queued t seen i s old.flow _ _ taken_one refl refl)
-    (stream_less marked t seen i s old.fulls _ _ taken_one refl refl)
+    ∙ ap (λ (x : Configuration). without_streams x (is_dead t (s ∷ []))) e
+    ∙ goes_more old (is_dead t (take i seen)) (is_dead t (s ∷ [])) (is_dead t (take (i + 1) seen)) more where
+      more : (x : StreamId) → is_dead t (take (i + 1) seen) x ≡ (is_dead t (take i seen) x || is_dead t (s ∷ []) x)
+      more x = ap (λ (ss : List StreamId). is_dead t ss x) taken_one
+          ∙ ap (λ (b : Bool). not (is_there t x) && b) (listed_more x (take i seen) s) ∙ grind (arith, nat_tests)
 
 -- if all streams that ceased to exist were seen, what belongs to streams that don't exist is removed
 pub all_gone : (drivers : List DriverSpec) (c : Configuration) (t : StreamTable) (seen : List StreamId)
     → TellsExisting drivers c t → IsTouched t seen c → ((x : StreamId) → is_hung c.hungs x ≡ true → is_there t x ≡ true)
     → without_streams c (is_dead t seen) ≡ without_dead_streams drivers c
 all_gone drivers c t seen told touched hung = same_parts c _ _ _ _ _ _
-    (dead_are_gone bound t seen c.binds touched.binds
-    ∙ filter_agree (λ b. not (not (is_there t (bound b)))) (λ b. exists drivers c (bound b))
-    (λ b. not-not _ ∙ told (bound b)) c.binds)
-    (dead_are_gone queued t seen c.flow touched.flow
-    ∙ filter_agree (λ h. not (not (is_there t (queued h)))) (λ h. not (not (exists drivers c (queued h))))
-    (λ h. ap (λ (b : Bool). not (not b)) (told (queued h))) c.flow)
-    (dead_are_gone marked t seen c.fulls touched.fulls
-    ∙ filter_agree (λ p. not (not (is_there t (marked p)))) (λ p. not (not (exists drivers c (marked p))))
-    (λ p. ap (λ (b : Bool). not (not b)) (told (marked p))) c.fulls)
+    (kept_alike _ _ c.binds (each_of_list_all _ _ c.binds (λ b. stays (bound b)) touched.binds))
+    (kept_alike _ _ c.flow (each_of_list_all _ _ c.flow (λ m h. stays (queued m) h ∙ sym (not-not _)) touched.flow))
+    (kept_alike _ _ c.fulls (each_of_list_all _ _ c.fulls (λ p h. stays (marked p) h ∙ sym (not-not _)) touched.fulls))
     ∙ ap (λ (hs : List StreamId). record (without_dead_streams drivers c) { hungs = hs })
-    (all_pass (exists drivers c) c.hungs (λ x up. sym (told x) ∙ hung x up))
+    (all_pass (exists drivers c) c.hungs (λ x up. sym (told x) ∙ hung x up)) where
+      stays : (x : StreamId) → is_there_or_touched t seen x ≡ true → not (is_dead t seen x) ≡ exists drivers c x
+      stays x h = left ∙ told x where
+        left : not (is_dead t seen x) ≡ is_there t x
+        left = grind (arith, nat_tests)

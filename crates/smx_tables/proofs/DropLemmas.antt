@@ -63,8 +63,9 @@ dropped_more old flow new p dropped more fewer longer h =
     let fails = filter (λ x. not (h.keep x)) old in
     let here : serials (filter (is_at p) (filter h.keep old)) ≡ map (λ (m : Message). m.serial) (queue flow p) =
     ap (λ (hs : List QueuedMessage). serials (filter (is_at p) hs)) (sym h.left) ∙ serials_at flow p in
-    let parts : serials (fails ++ filter (is_at p) (filter h.keep old)) ≡ serials fails ++ map (λ m. m.serial) (queue flow p)
-    = map-append (λ (x : QueuedMessage). x.message.serial) fails (filter (is_at p) (filter h.keep old))
+    let parts : serials (fails ++ filter (is_at p) (filter h.keep old))
+    ≡ serials fails ++ map (λ (m : Message). m.serial) (queue flow p) =
+    map-append (λ (x : QueuedMessage). x.message.serial) fails (filter (is_at p) (filter h.keep old))
     ∙ ap (λ (ns : List ℕ). serials fails ++ ns) here in
     record {
       keep = λ x. h.keep x && not (is_at p x);

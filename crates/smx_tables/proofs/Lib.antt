@@ -17,9 +17,6 @@ pub mod RemovalLemmas
 pub mod HungSweepLemmas
 pub mod BelowLemmas
 pub mod DropLemmas
-pub mod DeadLemmas
-pub mod LinesLemmas
-pub mod QueueLemmas
 pub mod DriverNameLemmas
 pub mod DriverListLemmas
 pub mod WalkLemmas

@@ -1,8 +1,9 @@
 -- Collecting the ids of links whose lower streams are released.
-use Rattle.std.proofs.Common.{◌≡◌, ℕ, ◌-◌, ◌<◌, ◌≤◌, Bool, true, false, ◌&&◌, ◌||◌, not, eqb, List, [], ◌∷◌, ◌++◌}
-use Rattle.std.proofs.Common.{length, length-append, find, Some, if◌then◌else◌, refl, sym, ap, subst, ◌∙◌, arith}
+use Rattle.std.proofs.Common.{◌≡◌, ℕ, ◌-◌, ◌<◌, ◌≤◌, Bool, true, false, ◌||◌, not, eqb, List, [], ◌∷◌, ◌++◌, length}
+use Rattle.std.proofs.Common.{length-append, find, Option, Some, None, if◌then◌else◌, refl, sym, ap, subst, ◌∙◌, arith}
 use Rattle.std.specs.Prelude.{nat_lt, slice_get}
 use Rattle.std.specs.List.{list_any}
+use Rattle.std.specs.Option.{option_map_or}
 use Rattle.std.proofs.lemmas.Option.{slice_get_within}
 use Rattle.std.proofs.lemmas.Bool.Decides.{nat_tests}
 use Rattle.smx_types.specs.declared.link.Link.{Link}
@@ -13,12 +14,12 @@ use Rattle.smx_streams.specs.StreamTables.{StreamTable, HasHolds, number_at}
 use Rattle.smx_tables.specs.ExistingStreams.{AreHeld, IsReleasing, holds_below, is_held, is_loose}
 use Rattle.smx_tables.specs.ListedLinks.{is_listed, AreIdsOf}
 use Rattle.smx_tables.specs.TouchedStreams.{AreReleased}
-use Rattle.smx_tables.proofs.AboveLemmas.{any_once, eqb_swap, once_below, stream_self}
+use Rattle.smx_tables.proofs.AboveLemmas.{above_with_id, eqb_swap, once_below, stream_self, IsIdsRising}
 use Rattle.smx_tables.proofs.ExistingLemmas.{holds_few}
 use Rattle.smx_tables.proofs.FoundLinkLemmas.{found_itself}
 use Rattle.smx_tables.proofs.ReleaseLemmas.{loose_held, this_one}
 use Rattle.smx_tables.proofs.ReleasedIdLemmas.{listed_one_more, released_once}
-use Rattle.smx_tables.proofs.RemovalLemmas.{any_kept}
+use Rattle.smx_tables.proofs.RemovalLemmas.{kept_with_id}
 use Rattle.smx_tables.proofs.TouchLemmas.{few_below, none_free}
 
 -- ---- at first: each stream below a link is held
@@ -44,15 +45,6 @@ found_at links i l apart at =
     (ap (λ (k : Link). same_stream k.lower l.lower) here ∙ stream_self l.lower)
     ∙ ap Some here
 
--- only the link at the index is above its lower stream, so an id is that of a link above it exactly if it is the link's
--- own
-own_id : (links : List Link) (i : ℕ) (l : Link) (id : ℕ) → AreLowersApart links → Some l ≡ slice_get links i
-    → list_any (λ k. same_stream k.lower l.lower && eqb k.id id) links ≡ eqb l.id id
-own_id links i l id apart at =
-    any_once (λ k. same_stream k.lower l.lower) (λ k. eqb k.id id)
-    (λ k. same_stream k.lower l.lower && eqb k.id id) links (once_below l.lower links apart) (λ k. refl)
-    ∙ rw (found_at links i l apart at) refl
-
 -- after the release of a stream, a link's lower stream is free if it was free before, or is this stream
 held_less : (t new : StreamTable) (s : StreamId) (k : Link) → HasHolds t s 0 new
     → not (is_held new k) ≡ (not (is_held t k) || same_stream k.lower s)
@@ -62,38 +54,36 @@ held_less t new s k h = by (same_stream k.lower s) (h.holds k.lower) where
   by true e = ap (λ (n : ℕ). not (nat_lt 0 n)) e ∙ grind (arith, nat_tests)
   by false e = ap (λ (n : ℕ). not (nat_lt 0 n)) e ∙ grind (arith, nat_tests)
 
--- the ids of links with free lower streams are those from before the release, and those of links above the stream
-either_id : (t new : StreamTable) (s : StreamId) (id : ℕ) (ls : List Link) → HasHolds t s 0 new
-    → list_any (λ k. eqb k.id id && not (is_held new k)) ls
-    ≡ (list_any (λ k. eqb k.id id && not (is_held t k)) ls || list_any (λ k. same_stream k.lower s && eqb k.id id) ls)
-either_id t new s id [] h = refl
-either_id t new s id (k ∷ ks) h = ap (λ (b : Bool). (eqb k.id id && b)
-    || list_any (λ k. eqb k.id id && not (is_held new k)) ks) (held_less t new s k h)
-    ∙ ap (λ (b : Bool). (eqb k.id id && (not (is_held t k) || same_stream k.lower s)) || b) (either_id t new s id ks h)
-    ∙ grind (arith, nat_tests)
-
 -- if one more lower stream is released, the ids of the released links have one more, the id of its link
 id_more : (links : List Link) (t new : StreamTable) (ids : List ℕ) (i : ℕ) (l : Link) → AreLowersApart links
-    → Some l ≡ slice_get links i → HasHolds t l.lower 0 new
+    → IsIdsRising links → Some l ≡ slice_get links i → HasHolds t l.lower 0 new
     → AreIdsOf (λ k. not (is_held t k)) links ids → AreIdsOf (λ k. not (is_held new k)) links (ids ++ l.id ∷ [])
-id_more links t new ids i l apart at h was id =
+id_more links t new ids i l apart rise at h was id =
     listed_one_more ids l.id id
-    ∙ ap (λ (b : Bool). b || eqb id l.id) (was id ∙ any_kept (λ k. eqb k.id id) (λ k. not (is_held t k)) links)
-    ∙ ap (λ (b : Bool). list_any (λ k. eqb k.id id && not (is_held t k)) links || b)
-    (eqb_swap id l.id ∙ sym (own_id links i l id apart at))
-    ∙ sym (any_kept (λ k. eqb k.id id) (λ k. not (is_held new k)) links ∙ either_id t new l.lower id links h)
+    ∙ ap (λ (b : Bool). b || eqb id l.id) (was id ∙ kept_with_id (λ k. not (is_held t k)) id links rise)
+    ∙ ap (λ (b : Bool). option_map_or (λ k. not (is_held t k)) (find (λ k. eqb k.id id) links) false || b)
+    (eqb_swap id l.id ∙ sym own)
+    ∙ by (find (λ k. eqb k.id id) links) ∙ sym (kept_with_id (λ k. not (is_held new k)) id links rise) where
+      own : option_map_or (λ k. same_stream k.lower l.lower) (find (λ k. eqb k.id id) links) false ≡ eqb l.id id
+      own = sym (above_with_id links id l.lower apart rise) ∙ rw (found_at links i l apart at) refl
+
+      by : (o : Option Link)
+          → (option_map_or (λ k. not (is_held t k)) o false || option_map_or (λ k. same_stream k.lower l.lower) o false)
+          ≡ option_map_or (λ k. not (is_held new k)) o false
+      by None = refl
+      by (Some k) = sym (held_less t new l.lower k h)
 
 -- the ids after one more loose link, whose lower stream is released
 pub one_released : (links : List Link) (i room : ℕ) (l : Link) (t new : StreamTable) (ids more : List ℕ)
-    → AreLowersApart links → Some l ≡ slice_get links i → is_loose t l ≡ true
+    → AreLowersApart links → IsIdsRising links → Some l ≡ slice_get links i → is_loose t l ≡ true
     → IsReleasing links 0 t → HasHolds t l.lower (number_at t.holds l.lower - 1) new → more ≡ ids ++ l.id ∷ []
     → holds_below links new < holds_below links t → AreReleased links t ids room
     → AreReleased links new more room
-one_released links i room l t new ids more apart at loose releasing h longer less was =
+one_released links i room l t new ids more apart rise at loose releasing h longer less was =
     let few : number_at t.holds l.lower ≤ 1 = omega (arith, releasing.once l.lower, holds_few links l.lower) in
     let none = released_once t new l.lower few (loose_held t l loose) h in
     record {
       same = subst (AreIdsOf (λ k. not (is_held new k)) links) (sym longer)
-          (id_more links t new ids i l apart at none was.same);
+          (id_more links t new ids i l apart rise at none was.same);
       enough = omega (arith, less, ap length longer, length-append ids (l.id ∷ []), was.enough);
     }

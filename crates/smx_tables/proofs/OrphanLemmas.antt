@@ -42,16 +42,19 @@ pub released_are_orphaned : (drivers : List DriverSpec) (c : Configuration) (t :
     → t.fds ≡ c.fds → IsReleasing c.links (length drivers) t → list_any (is_loose t) c.links ≡ false
     → AllByRecursion (λ l. not (is_held t l) ≡ is_orphaned c.fds c.links (length drivers) l) c.links
 released_are_orphaned drivers c t sound known same h none =
-    let tight = all_tight t c.links none in
     each_map _ _ c.links by (each_both _ _ c.links (recursion_from_All _ c.links h.orphaned) tight) where
+      tight : AllByRecursion (IsTight t) c.links
+      tight = all_tight t c.links none
+
       by : (l : Link) → (is_held t l ≡ false → is_orphaned t.fds c.links (length drivers) l ≡ true) × IsTight t l
           → not (is_held t l) ≡ is_orphaned c.fds c.links (length drivers) l
       by l p = elim (cases_Bool (is_held t l)) [
         | inl held ↦ rw held (elim (cases_Bool (is_persistent l)) [
           | inl q ↦ rw q refl
           | inr o ↦
-              let there : stands_within c.fds c.links (length drivers) l.ctl ≡ true = there_exists drivers c t l.ctl sound
-              known same (λ x up. held_below c.links (length drivers) t x h up) (all_tight t c.links none) (p.1 held o) in
+              let there : stands_within c.fds c.links (length drivers) l.ctl ≡ true =
+              there_exists drivers c t l.ctl sound known same (λ x up. held_below c.links (length drivers) t x h up)
+              tight (p.1 held o) in
               rw (o, there) refl
         ])
         | inr free ↦

@@ -55,7 +55,8 @@ below_less links ids id x apart rise =
       left : (js : List ℕ) → is_below (others_of js links) x
           ≡ option_map_or (λ l. not (is_one_of js l)) (find (λ l. same_stream l.lower x) links) false
       left js = any_kept (λ l. same_stream l.lower x) (λ l. not (is_one_of js l)) links
-          ∙ any_once (λ l. same_stream l.lower x) (λ l. not (is_one_of js l)) _ links (once_below x links apart) (λ l. refl)
+          ∙ any_once (λ l. same_stream l.lower x) (λ l. not (is_one_of js l)) _ links (once_below x links apart)
+          (λ l. refl)
 
       by : (o : Option Link) → option_map_or (λ l. not (is_one_of (ids ++ id ∷ []) l)) o false
           ≡ (option_map_or (λ l. not (is_one_of ids l)) o false && not (option_map_or (λ l. eqb l.id id) o false))

@@ -30,12 +30,13 @@ ids_of goes ls = map (λ l. l.id) (filter goes ls)
 abbrev pub IsListOf : (Link → Bool) → List ℕ → List Link → Type 0
 IsListOf goes ids ls = AllByRecursion (λ l. is_listed ids l.id ≡ goes l) ls
 
--- two tests that agree on each link keep the same links
-pub kept_alike : (p q : Link → Bool) (ls : List Link) → AllByRecursion (λ k. p k ≡ q k) ls → filter p ls ≡ filter q ls
+-- two tests that agree on each item of a list keep the same items
+pub kept_alike : {X : Type 0} (p q : X → Bool) (xs : List X) → AllByRecursion (λ x. p x ≡ q x) xs
+    → filter p xs ≡ filter q xs
 kept_alike p q [] h = refl
-kept_alike p q (k ∷ ks) h = elim (cases_Bool (q k)) [
-  | inl t ↦ rw (h.0, t) (ap (λ (xs : List Link). k ∷ xs) (kept_alike p q ks h.1))
-  | inr f ↦ rw (h.0, f) (kept_alike p q ks h.1)
+kept_alike p q (x ∷ xs) h = elim (cases_Bool (q x)) [
+  | inl t ↦ rw (h.0, t) (ap (λ (ys : List _). x ∷ ys) (kept_alike p q xs h.1))
+  | inr f ↦ rw (h.0, f) (kept_alike p q xs h.1)
 ]
 
 -- two tests that agree on each link leave the same links
@@ -64,6 +65,11 @@ any_kept key goes (l ∷ ls) = elim (cases_Bool (goes l)) [
   | inr n ↦ rw (n, and-false (key l)) (any_kept key goes ls)
 ]
 
+-- if ids rise, some link that is kept has an id exactly if the link that is found by this id is kept
+pub kept_with_id : (goes : Link → Bool) (id : ℕ) (ls : List Link) → IsIdsRising ls
+    → list_any (λ k. eqb k.id id) (filter goes ls) ≡ option_map_or goes (find (λ k. eqb k.id id) ls) false
+kept_with_id goes id ls rise = any_kept (λ k. eqb k.id id) goes ls ∙ any_with_id goes id ls rise
+
 -- the link above a stream is listed exactly if the stream is below a link that goes
 below_listed : (goes : Link → Bool) (ids : List ℕ) (ls : List Link) (s : StreamId) → AreLowersApart ls
     → IsListOf goes ids ls
@@ -81,7 +87,7 @@ read_listed goes ids ls p apart h =
     ap (λ (x : Bool). same_side p.side side.Read && x) (below_listed goes ids ls p.stream apart h)
 
 -- two tests that agree on each item remove the same items
-same_kept : {X : Type 0} (f g : X → Bool) (xs : List X) → ((x : X) → f x ≡ g x)
+pub same_kept : {X : Type 0} (f g : X → Bool) (xs : List X) → ((x : X) → f x ≡ g x)
     → filter (λ x. not (f x)) xs ≡ filter (λ x. not (g x)) xs
 same_kept f g xs h = filter_agree (λ x. not (f x)) (λ x. not (g x)) (λ x. ap not (h x)) xs
 
@@ -94,7 +100,7 @@ pub listed_any : (goes : Link → Bool) (ls : List Link) (ids : List ℕ) → Is
     → IsListOf goes ids ls
 listed_any goes ls ids rise h = recursion_from_All (λ l. is_listed ids l.id ≡ goes l) ls (λ i d lt.
     let l = get_or ls i d in
-    h l.id ∙ any_kept (λ k. eqb k.id l.id) goes ls ∙ any_with_id goes l.id ls rise
+    h l.id ∙ kept_with_id goes l.id ls rise
     ∙ rw (found_itself (λ k. eqb k.id l.id) ls i d (once_id l.id ls rise) lt (eq-eqb l.id l.id refl)) refl)
 
 -- the configuration without the links with these ids, the routes to them, and the messages and full marks of their

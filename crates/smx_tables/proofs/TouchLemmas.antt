@@ -150,11 +150,6 @@ seen_more u v left rest now seen s x last on h = elim (cases_Bool (is_there_or_t
   | inr f ↦ let was = rw last at h in grind (arith, nat_tests, listed_more x rest s, listed_more x seen s)
 ]
 
--- when no touched stream is left, each stream is in the table or was seen
-pub all_seen : (u : StreamTable) (left seen : List StreamId) (x : StreamId) → left ≡ []
-    → (is_there_or_touched u left x || list_any (same_stream x) seen) ≡ true → is_there_or_touched u seen x ≡ true
-all_seen u left seen x none h = let k = rw none at h in grind (arith, nat_tests)
-
 -- ---- before the cascade
 
 -- if each stream below a link is held, there are at most as many holds below links as links

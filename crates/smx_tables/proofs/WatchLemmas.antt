@@ -1,12 +1,11 @@
 -- Loose links, and the streams that may have ceased to exist.
-use Rattle.std.proofs.Common.{◌≡◌, ℕ, zero, suc, ◌+◌, ◌-◌, ◌<◌, ◌≤◌, Bool, true, false, ◌&&◌, ◌||◌, not, eqb, List, []}
-use Rattle.std.proofs.Common.{◌∷◌, ◌++◌, length, take, get_or, Some, refl, sym, ap, subst, ◌∙◌, arith, inl, inr}
+use Rattle.std.proofs.Common.{◌≡◌, ℕ, ◌+◌, ◌-◌, ◌≤◌, Bool, true, false, ◌&&◌, ◌||◌, not, eqb, List, []}
+use Rattle.std.proofs.Common.{◌∷◌, ◌++◌, take, Some, refl, sym, ap, subst, ◌∙◌, arith, inl, inr}
 use Rattle.std.proofs.Math.Bool.{or-false}
 use Rattle.std.specs.Prelude.{nat_lt, slice_get}
 use Rattle.std.specs.List.{list_any, list_all}
 use Rattle.std.proofs.lemmas.Bool.{cases_Bool, and_parts, and_from, or_cases, or_left, or_right, eq-eqb, false≢true}
-use Rattle.std.proofs.lemmas.List.{take_all}
-use Rattle.std.proofs.lemmas.List.Folds.{list_any-append}
+use Rattle.std.proofs.lemmas.List.Folds.{list_all_at, list_all_more, list_any-append}
 use Rattle.std.proofs.lemmas.Bool.Decides.{nat_tests}
 use Rattle.std.proofs.lemmas.Option.{slice_get_within}
 use Rattle.smx_types.specs.declared.link.Link.{Link}
@@ -14,7 +13,6 @@ use Rattle.smx_types.specs.declared.stream.Descriptor.{Descriptor}
 use Rattle.smx_types.specs.declared.stream.StreamId.{StreamId}
 use Rattle.smx_model.specs.Configuration.{same_stream}
 use Rattle.smx_model.specs.Standing.{is_named}
-use Rattle.smx_model.proofs.TestLemmas.{all_push}
 use Rattle.smx_links.specs.LinkLists.{is_upper}
 use Rattle.smx_streams.specs.StreamTables.{StreamTable, HasHolds, number_at, exists as is_there}
 use Rattle.smx_tables.specs.ExistingStreams.{holds_of, is_held, is_loose}
@@ -22,7 +20,6 @@ use Rattle.smx_tables.specs.TouchedStreams.{is_watched}
 use Rattle.smx_tables.proofs.AboveLemmas.{stream_is, stream_self}
 use Rattle.smx_tables.proofs.ExistingLemmas.{all_weaker, holds_few}
 use Rattle.smx_tables.proofs.ReleaseLemmas.{not_more_held, this_one}
-use Rattle.smx_tables.proofs.LinkWalkLemmas.{take_one_more}
 
 -- ---- streams in a list
 
@@ -44,28 +41,20 @@ listed_last ss s = listed_more s ss s ∙ or_right _ _ (stream_self s)
 
 -- ---- tests of the links before an index
 
--- if all links pass a test, the link that is read at an index passes it
-all_get : (test : Link → Bool) (ls : List Link) (i : ℕ) (d : Link) → i < length ls → list_all test ls ≡ true
-    → test (get_or ls i d) ≡ true
-all_get test [] i d lt h = absurd (omega arith)
-all_get test (l ∷ ls) zero d lt h = (and_parts (test l) (list_all test ls) h).0
-all_get test (l ∷ ls) (suc i) d lt h = all_get test ls i d (omega arith) (and_parts (test l) (list_all test ls) h).1
-
 -- if all links pass a test, the link at an index passes it
 pub all_at : (test : Link → Bool) (ls : List Link) (i : ℕ) (l : Link) → Some l ≡ slice_get ls i
     → list_all test ls ≡ true → test l ≡ true
-all_at test ls i l at h =
-    subst (λ (k : Link). test k ≡ true) (this_one ls i l at) (all_get test ls i l (slice_get_within ls i l (sym at)) h)
+all_at test ls i l at h = elim (cases_Bool (test l)) [
+  | inl t ↦ t
+  | inr f ↦ absurd (false≢true (sym (list_all_at test ls i l (slice_get_within ls i l (sym at))
+      (ap test (this_one ls i l at) ∙ f)) ∙ h))
+]
 
 -- if the links before an index and the link there pass a test, all links before the next index do
 pub all_more : (test : Link → Bool) (ls : List Link) (i : ℕ) (l : Link) → Some l ≡ slice_get ls i
     → list_all test (take i ls) ≡ true → test l ≡ true → list_all test (take (i + 1) ls) ≡ true
-all_more test ls i l at h t = ap (list_all test) (take_one_more ls i l at) ∙ all_push test (take i ls) l t h
-
--- if the links before an index pass a test, and no link is at it or after it, all links do
-pub all_in_all : (test : Link → Bool) (ls : List Link) (i : ℕ) → length ls ≤ i → list_all test (take i ls) ≡ true
-    → list_all test ls ≡ true
-all_in_all test ls i past h = ap (list_all test) (sym (take_all i ls past)) ∙ h
+all_more test ls i l at h t = list_all_more test ls i l (slice_get_within ls i l (sym at))
+    ∙ and_from _ _ h (ap test (this_one ls i l at) ∙ t)
 
 -- ---- releasing a stream
 

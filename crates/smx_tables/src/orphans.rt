@@ -47,6 +47,7 @@ fn may_have_loose(streams: &Streams, links: &LinkTable, ctl: StreamId) -> bool
 
 // Releases the lower streams of the loose links whose controlling stream is `ctl`. Adds these lower streams to
 // `touched`, and the ids of these links to `gone`. The caller also passes the list of all links.
+#[tactic(auto, using(crate::proofs::HungLemmas::none_went))]
 fn release_below(
     streams: &mut Streams,
     links: &LinkTable,
@@ -86,6 +87,7 @@ fn release_below(
 // Calls `release_below` for each stream in `touched`, and for each stream that these calls add to it. Afterwards no
 // link is loose. Moves the examined streams from `touched` to `seen`, which has room for them. If every
 // stream in `touched` is still in the table of streams, then no link is loose, and the function examines no stream.
+#[tactic(auto, using(crate::proofs::HungLemmas::none_went))]
 pub fn release_orphans(
     streams: &mut Streams,
     links: &LinkTable,

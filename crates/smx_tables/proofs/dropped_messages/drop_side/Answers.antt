@@ -6,12 +6,6 @@ use Rattle.smx_tables.proofs.BelowLemmas.{empties_alike, empties_none}
 use Rattle.smx_tables.proofs.DropLemmas.{all_stay}
 use Rattle.smx_tables.proofs.dropped_messages.drop_side.Goals as goal
 
-pub returns-then-is_side : goal.returns-then-is_side
-returns-then-is_side c =
-    let here : Place = record { stream = c.args.stream; side = c.args.side } in
-    empties_alike (λ p. same_place p here) (is_flushed_at c.args.stream c.args.sides c.args.side) _ _ _ _
-    (λ p. ap (λ (b : Bool). b && same_place p here) (sym c.is_side.ensures ∙ c.if-is_side.true)) c.drop_at.ensures
-
 pub returns-else-is_side : goal.returns-else-is_side
 returns-else-is_side c =
     let here : Place = record { stream = c.args.stream; side = c.args.side } in

@@ -6,10 +6,10 @@ use Rattle.smx_tables.specs.ExistingStreams.{is_loose}
 use Rattle.smx_tables.specs.TouchedStreams.{is_watched, AreReleased}
 use Rattle.smx_tables.proofs.HungLemmas.{left_twice, none_went, there_before}
 use Rattle.smx_tables.proofs.OrphanIdLemmas.{one_released}
-use Rattle.smx_tables.proofs.ReleaseLemmas.{less_this, loose_held, releases_this}
-use Rattle.smx_tables.proofs.LinkWalkLemmas.{link_at, one_at}
+use Rattle.smx_tables.proofs.ReleaseLemmas.{less_this, releases_this}
+use Rattle.smx_tables.proofs.LinkWalkLemmas.{less_there, link_at, one_at}
 use Rattle.smx_tables.proofs.TouchLemmas.{still_touched}
-use Rattle.smx_tables.proofs.WatchLemmas.{all_at, all_in_all, all_more, all_watch_on, listed_last, none_by}
+use Rattle.smx_tables.proofs.WatchLemmas.{all_at, all_more, all_watch_on, listed_last, none_by}
 use Rattle.smx_tables.proofs.WatchLemmas.{released_is_watched, still_listed_before, watched_less}
 use Rattle.smx_tables.proofs.orphans.release_below.Goals as goal
 use Rattle.smx_tables.proofs.orphans.release_below.Goals.{then-is_loose_by, else-is_loose_by}
@@ -22,36 +22,18 @@ returns-then-not-may_have_loose-clause-cascade c = record {
   enough = omega (arith, c.requires.cascade.enough, length-append c.args.touched.now.items (c.args.ctl ∷ []));
 }
 
-pub returns-then-not-may_have_loose-clause-hungs : goal.returns-then-not-may_have_loose-clause-hungs
-returns-then-not-may_have_loose-clause-hungs c = none_went c.args.streams.now c.may_have_loose.ensures.sound
-
-pub release-gone-requires : goal.release-gone-requires
-release-gone-requires c =
-    let link = link_at c.args.listed.now c.loop-link.link-index in
-    loose_held c.loop-link.streams link
-    (and_parts (same_stream link.ctl c.args.ctl) (is_loose c.loop-link.streams link)
-    (sym c.is_loose_by.ensures ∙ c.if-is_loose_by.true)).1
-
 pub push_reserved-requires : goal.push_reserved-requires
 push_reserved-requires c =
-    let link = link_at c.args.listed.now c.loop-link.link-index in
-    let loose = (and_parts (same_stream link.ctl c.args.ctl)
-    (is_loose c.loop-link.streams link) (sym c.is_loose_by.ensures ∙ c.if-is_loose_by.true)).1 in
-    let less = less_this c.args.links.now.links c.loop-link.link-index link c.loop-link.streams
-    c.release-gone.new.self
-    (one_at c.args.links.now.links c.args.listed.now c.loop-link.link-index
-    c.requires.listed (omega arith)) loose c.release-gone.ensures.rest in
+    let less = less_there c.args.links.now.links c.args.listed.now c.loop-link.link-index c.args.ctl c.loop-link.streams
+    c.release-gone.new.self c.requires.listed (omega arith) (sym c.is_loose_by.ensures ∙ c.if-is_loose_by.true)
+    c.release-gone.ensures.rest in
     omega (arith, less, c.loop-link.invariant.enough)
 
 pub push_reserved-requires-then-is_loose_by : goal.push_reserved-requires-then-is_loose_by
 push_reserved-requires-then-is_loose_by c =
-    let link = link_at c.args.listed.now c.loop-link.link-index in
-    let loose = (and_parts (same_stream link.ctl c.args.ctl)
-    (is_loose c.loop-link.streams link) (sym c.is_loose_by.ensures ∙ c.if-is_loose_by.true)).1 in
-    let less = less_this c.args.links.now.links c.loop-link.link-index link c.loop-link.streams
-    c.release-gone.new.self
-    (one_at c.args.links.now.links c.args.listed.now c.loop-link.link-index
-    c.requires.listed (omega arith)) loose c.release-gone.ensures.rest in
+    let less = less_there c.args.links.now.links c.args.listed.now c.loop-link.link-index c.args.ctl c.loop-link.streams
+    c.release-gone.new.self c.requires.listed (omega arith) (sym c.is_loose_by.ensures ∙ c.if-is_loose_by.true)
+    c.release-gone.ensures.rest in
     omega (arith, less, c.loop-link.invariant.gone.enough)
 
 pub loop-link-init : goal.loop-link-init
@@ -127,7 +109,8 @@ loop-link-preserved c =
                 (sym w.push_reserved-then-is_loose_by.ensures.capacity)
                 (one_released c.args.links.now.links c.loop-link.link-index _ link c.loop-link.streams
                 w.release-gone.new.self c.loop-link.gone.items w.push_reserved-then-is_loose_by.new.self.items
-                c.requires.sound.sound.lowers at loose (c.loop-link.invariant.releasing 0) w.release-gone.ensures.rest
+                c.requires.sound.sound.lowers c.requires.sound.ids.rise at loose
+                (c.loop-link.invariant.releasing 0) w.release-gone.ensures.rest
                 w.push_reserved-then-is_loose_by.ensures.items less c.loop-link.invariant.gone);
           })
       | else-is_loose_by w ↦
@@ -153,11 +136,3 @@ loop-link-preserved c =
             gone = c.loop-link.invariant.gone;
           })
     ]
-
-pub returns-clause-cascade : goal.returns-clause-cascade
-returns-clause-cascade c = record {
-  releasing = c.loop-link.invariant.releasing;
-  watched = all_in_all (is_watched c.loop-link.streams c.loop-link.touched.items) c.args.links.now.links
-      c.loop-link.link-index (omega (arith, ap length c.requires.listed)) c.loop-link.invariant.so_far;
-  enough = c.loop-link.invariant.enough;
-}

@@ -1,19 +1,15 @@
-use Rattle.std.proofs.Common.{◌≡◌, List, ℕ, [], ◌∷◌, true, length, length-append, refl, ap, sym, subst, ◌∙◌, arith}
+use Rattle.std.proofs.Common.{◌≡◌, List, [], ◌∷◌, true, length, length-append, ap, sym, subst, ◌∙◌, arith}
 use Rattle.std.proofs.Common.{rules}
 use Rattle.std.proofs.lemmas.Bool.{or_left}
 use Rattle.std.specs.List.{list_all}
-use Rattle.std.specs.Prelude.{vec_capacity}
 use Rattle.std.proofs.lemmas.List.{nil_from_length}
 use Rattle.smx_types.specs.declared.stream.StreamId.{StreamId}
 use Rattle.smx_streams.specs.StreamTables.{exists as is_there}
-use Rattle.smx_tables.specs.TouchedStreams.{IsCascade, is_watched}
-use Rattle.smx_tables.proofs.HungLemmas.{left_twice, none_went}
-use Rattle.smx_tables.proofs.TouchLemmas.{all_seen, none_loose_still, seen_more, touched_there}
+use Rattle.smx_tables.specs.TouchedStreams.{is_watched}
+use Rattle.smx_tables.proofs.HungLemmas.{left_twice}
+use Rattle.smx_tables.proofs.TouchLemmas.{none_loose_still, seen_more, touched_there}
 use Rattle.smx_tables.proofs.WatchLemmas.{none_loose}
 use Rattle.smx_tables.proofs.orphans.release_orphans.Goals as goal
-
-pub returns-then-has_each-clause-hungs : goal.returns-then-has_each-clause-hungs
-returns-then-has_each-clause-hungs c = none_went c.args.streams.now c.has_each.ensures.sound
 
 pub returns-then-has_each-clause-none : goal.returns-then-has_each-clause-none
 returns-then-has_each-clause-none c = none_loose_still c.args.streams.now c.args.touched.now.items
@@ -26,32 +22,6 @@ pub returns-then-has_each-clause-seen : goal.returns-then-has_each-clause-seen
 returns-then-has_each-clause-seen c = λ s h. or_left _ _ (touched_there c.args.streams.now c.args.touched.now.items s
     (ap (list_all (is_there c.args.streams.now)) (sym c.as_slice.ensures.value) ∙ sym c.has_each.ensures.answer
     ∙ c.if-has_each.true) h)
-
-pub release_below-requires-clause-cascade : goal.release_below-requires-clause-cascade
-release_below-requires-clause-cascade c =
-    subst (λ (ss : List StreamId). IsCascade c.args.links.now.links c.loop-stream.streams ss
-    (vec_capacity c.pop.new.self)) c.in-Some.ensures.items
-    (subst (λ (n : ℕ). IsCascade c.args.links.now.links c.loop-stream.streams c.loop-stream.touched.items n)
-    (sym c.pop.ensures.capacity) c.loop-stream.invariant.cascade)
-
-pub loop-stream-init : goal.loop-stream-init
-loop-stream-init c = record {
-  fds = refl;
-  minors = refl;
-  hungs = none_went c.args.streams.now c.has_each.ensures.sound;
-  cascade = c.requires.cascade;
-  room = c.requires.room;
-  seen = λ s h. or_left _ _ h;
-  gone = c.requires.gone;
-}
-
-pub loop-stream-smaller : goal.loop-stream-smaller
-loop-stream-smaller c = omega (
-  arith,
-  c.release_below.ensures.less,
-  ap length c.in-Some.ensures.items,
-  length-append c.pop.new.self.items (c.in-Some.stream ∷ []),
-)
 
 pub loop-stream-preserved : goal.loop-stream-preserved
 loop-stream-preserved c = record {
@@ -76,20 +46,6 @@ loop-stream-preserved c = record {
       c.release_below.ensures.touched (c.loop-stream.invariant.seen s h));
   gone = c.release_below.ensures.gone;
 }
-
-pub push_reserved-requires : goal.push_reserved-requires
-push_reserved-requires c = omega (
-  arith,
-  c.loop-stream.invariant.room,
-  ap length c.in-Some.ensures.items,
-  length-append c.pop.new.self.items (c.in-Some.stream ∷ []),
-)
-
-pub returns-clause-seen : goal.returns-clause-seen
-returns-clause-seen c = λ s h.
-    let none : length c.loop-stream.touched.items ≡ 0 = search rules in
-    all_seen c.loop-stream.streams c.loop-stream.touched.items c.loop-stream.seen.items s
-    (nil_from_length c.loop-stream.touched.items none) (c.loop-stream.invariant.seen s h)
 
 pub returns-clause-none : goal.returns-clause-none
 returns-clause-none c =

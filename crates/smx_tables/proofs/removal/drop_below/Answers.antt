@@ -1,10 +1,8 @@
-use Rattle.std.proofs.Common.{◌∙◌, ◌+◌, List, ℕ, ap, subst, sym, take, arith}
+use Rattle.std.proofs.Common.{◌∙◌, ◌+◌, List, ℕ, ap, sym, take, arith}
 use Rattle.std.proofs.lemmas.List.{take_more}
-use Rattle.std.proofs.lemmas.List.{take_all}
 use Rattle.smx_types.specs.declared.stream.Place.{Place}
 use Rattle.smx_types.specs.declared.stream.Side.TheVariants as side
 use Rattle.smx_model.specs.Configuration.{QueuedMessage, same_place}
-use Rattle.smx_tables.specs.DroppedMessages.{EmptiesPlaces}
 use Rattle.smx_tables.specs.ListedLinks.{is_read_below_listed}
 use Rattle.smx_tables.proofs.BelowLemmas.{empties_alike, empties_more, empties_none, none_listed_yet, read_more}
 use Rattle.smx_tables.proofs.BelowLemmas.{read_none}
@@ -37,9 +35,3 @@ loop-id-preserved c =
           ∙ read_none links so_far _ w.in_default.ensures.sound.sound.lowers
           w.in_default.ensures.sound.ids.rise (sym w.in_default.ensures.value) p) c.loop-id.invariant)
     ]
-
-pub returns : goal.returns
-returns c =
-    subst (λ (ids : List ℕ). EmptiesPlaces (is_read_below_listed c.args.links.now.links ids) c.args.queues.now
-    c.args.dropped.now c.loop-id.queues c.loop-id.dropped)
-    (take_all c.loop-id.id-index c.args.gone.now (omega arith)) c.loop-id.invariant

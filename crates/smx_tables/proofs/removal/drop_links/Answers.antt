@@ -1,5 +1,4 @@
-use Rattle.std.proofs.Common.{ap, sym, ◌∙◌}
-use Rattle.smx_links.specs.LinkLists.{LinkList}
+use Rattle.std.proofs.Common.{sym, ◌∙◌}
 use Rattle.smx_tables.specs.ModelOfLists.{configuration_of}
 use Rattle.smx_tables.proofs.RemovalLemmas.{is_nothing, nothing_removed, none_listed, removed_is}
 use Rattle.smx_tables.proofs.removal.drop_links.Goals as goal
@@ -17,6 +16,3 @@ returns-clause-value c = λ goes e.
     rw (c.unroute_links.ensures, c.drop_below.ensures.flow, c.drop_below.ensures.fulls, c.remove_each.ensures.rest)
     (removed_is (configuration_of c.args.lists.now) c.args.gone.now c.remove_each.ensures.sound.sound.lowers
     c.remove_each.ensures.sound.ids.rise goes e)
-
-pub returns-clause-links : goal.returns-clause-links
-returns-clause-links c = ap (λ (t : LinkList). t.links) c.remove_each.ensures.rest

@@ -62,9 +62,6 @@ loop-id-preserved c = elim c.match-get.branch [
   })
 ]
 
-pub push_reserved-requires : goal.push_reserved-requires
-push_reserved-requires c = omega (arith, c.loop-id.invariant.few, c.loop-id.invariant.capacity, c.requires.room)
-
 pub returns-clause-held : goal.returns-clause-held
 returns-clause-held c = subst (λ (ids : List ℕ). AreHeld (others_of ids c.args.links.now.links) c.loop-id.streams)
     (take_all c.loop-id.id-index c.args.gone.now (omega arith)) c.loop-id.invariant.held

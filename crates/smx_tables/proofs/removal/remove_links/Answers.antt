@@ -9,11 +9,6 @@ returns-clause-value c = λ goes e. c.drop_links.ensures.value goes
     (ids_in_order goes c.args.lists.now.links.links c.args.gone.now e)
     ∙ rw (c.release_each.ensures.fds, c.drop_links.ensures.streams) refl
 
-pub returns-clause-kept : goal.returns-clause-kept
-returns-clause-kept c = record {
-  held = rw (c.drop_links.ensures.links, c.drop_links.ensures.streams) c.release_each.ensures.held;
-}
-
 pub returns-clause-fewer : goal.returns-clause-fewer
 returns-clause-fewer c = rw c.drop_links.ensures.links
     (fewer (λ l. not (is_one_of c.args.gone.now l)) c.args.lists.now.links.links)

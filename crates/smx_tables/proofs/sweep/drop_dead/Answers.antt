@@ -6,7 +6,6 @@ use Rattle.smx_model.specs.Configuration.{Configuration}
 use Rattle.smx_tables.specs.ModelOfLists.{configuration_of}
 use Rattle.smx_tables.specs.TouchedStreams.{is_dead, without_streams}
 use Rattle.smx_tables.proofs.DeadStreamLemmas.{all_gone, none_gone_yet, one_more_gone}
-use Rattle.smx_tables.proofs.KeptLemmas.{held_again}
 use Rattle.smx_tables.proofs.sweep.drop_dead.Goals as goal
 
 pub loop-stream-init : goal.loop-stream-init
@@ -45,6 +44,6 @@ returns-clause-value c = λ drivers told.
 
 pub returns-clause-kept : goal.returns-clause-kept
 returns-clause-kept c = record {
-  held = held_again _ _ _ _ c.requires.kept.held (ap (λ (x : Configuration). x.links) c.loop-stream.invariant.value)
-      c.loop-stream.invariant.streams;
+  held = rw (ap (λ (x : Configuration). x.links) c.loop-stream.invariant.value, c.loop-stream.invariant.streams)
+      c.requires.kept.held;
 }

@@ -7,11 +7,10 @@ use Rattle.smx_model.specs.KnownStreams.{IsKnown}
 use Rattle.smx_model.specs.SoundLinks.{AreLinksSound}
 use Rattle.smx_model.specs.Standing.{is_persistent}
 use Rattle.smx_model.proofs.SoundLemmas.{sound_filter}
-use Rattle.smx_streams.specs.StreamTables.{StreamTable, LeavesHungs, exists as is_there}
+use Rattle.smx_streams.specs.StreamTables.{StreamTable, exists as is_there}
 use Rattle.smx_tables.specs.ExistingStreams.{AreHeld, is_held}
 use Rattle.smx_tables.specs.ListedLinks.{is_listed, is_orphaned, AreIdsOf}
 use Rattle.smx_tables.specs.ModelOfLists.{configuration_of}
-use Rattle.smx_tables.specs.TouchedStreams.{is_there_or_touched}
 use Rattle.smx_tables.proofs.ExistingLemmas.{tells_existing}
 use Rattle.smx_tables.proofs.OrphanLemmas.{held_is_left, left_is_linked, left_links}
 use Rattle.smx_tables.proofs.OrphanLemmas.{released_are_orphaned}
@@ -90,11 +89,3 @@ returns-clause-value c =
 
 pub returns-clause-kept : goal.returns-clause-kept
 returns-clause-kept c = record { held = held (goal.at.returns-clause-kept c).After-drop_links }
-
-pub returns-clause-seen : goal.returns-clause-seen
-returns-clause-seen c = λ s h. subst (λ (t : StreamTable). is_there_or_touched t c.release_orphans.new.seen.items s
-    ≡ true) (sym c.drop_links.ensures.streams) (c.release_orphans.ensures.seen s h)
-
-pub returns-clause-hungs : goal.returns-clause-hungs
-returns-clause-hungs c =
-    subst (LeavesHungs c.args.lists.now.streams) (sym c.drop_links.ensures.streams) c.release_orphans.ensures.hungs
