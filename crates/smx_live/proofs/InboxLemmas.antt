@@ -79,8 +79,7 @@ fails_so Long before held read piece failures ReadFailed is one why = (
       ∙ append-nil read))) one,
 )
 fails_so Long before held read piece failures (Refused f) is one why = why
-fails_so Long before held read piece failures (Text f) is one why = absurd why
-fails_so Long before held read piece failures WriteFailed is one why = absurd why
+fails_so Long before held read piece failures fault is one why = absurd why
 
 -- how the reads end with a line that is accepted or too long
 pub line_found : (n : ℕ) (held longer : List ℕ) (r : Result (Option ℕ) MainFault) (ended : Bool) (failures : ℕ)

@@ -1,7 +1,7 @@
 -- How a live session goes on: one more turn, more bytes, its beginning and its end.
 use Rattle.std.proofs.Common.{◌≡◌, ℕ, ◌+◌, ◌≤◌, Bool, true, false, List, [], ◌∷◌, ◌++◌, length, take, drop, refl}
 use Rattle.std.proofs.Common.{sym, ap, subst, ◌∙◌, append_assoc, arith, inl, inr, Some}
-use Rattle.std.proofs.lemmas.List.{append-nil, length-append, length-take-le}
+use Rattle.std.proofs.lemmas.List.{append-nil, flat_map_more, length-append, length-take-le}
 use Rattle.smx_types.specs.declared.command.Entry.{Entry}
 use Rattle.smx_types.specs.declared.driver.DriverSpec.{DriverSpec}
 use Rattle.smx_types.specs.declared.limits.TheConstants.{MAX_COMMANDS}
@@ -84,18 +84,14 @@ line_more : (ts : List Turn) (line rest : List ℕ) (a : Answer) (below : List �
     ≡ asked_text (ts ++ (record { line = line; answer = a; below = below }) ∷ []) ++ rest
 line_more ts line rest a below =
     let t : Turn = record { line = line; answer = a; below = below } in
-    let last : List ℕ = line ++ LINE_FEED ∷ [] in
-    let inner : asked_text (ts ++ t ∷ []) ++ rest ≡ asked_text ts ++ (line ++ LINE_FEED ∷ rest) =
-    ap (λ (l : List ℕ). l ++ rest) (flat_more (λ (u : Turn). u.line ++ LINE_FEED ∷ []) ts t)
-    ∙ append_assoc (asked_text ts) last rest
-    ∙ ap (λ (l : List ℕ). asked_text ts ++ l) (append_assoc line (LINE_FEED ∷ []) rest) in sym inner
+    rw (flat_more (λ (u : Turn). u.line ++ LINE_FEED ∷ []) ts t)
+    (sym (append_assoc (asked_text ts) (line ++ LINE_FEED ∷ []) rest
+    ∙ ap (λ (l : List ℕ). asked_text ts ++ l) (append_assoc line (LINE_FEED ∷ []) rest)))
 
 -- the opening and the answers, with one more answer, are the opening and the answers with that one added
 said_more : (opening output : List ℕ) (ts : List Turn) (t : Turn) → output ≡ opening ++ said_text ts
     → output ++ turn_text t ≡ opening ++ said_text (ts ++ t ∷ [])
-said_more opening output ts t was =
-    ap (λ (l : List ℕ). l ++ turn_text t) was ∙ append_assoc opening (said_text ts) (turn_text t)
-    ∙ ap (λ (l : List ℕ). opening ++ l) (sym (flat_more turn_text ts t))
+said_more opening output ts t was = rw was (flat_map_more turn_text opening ts t)
 
 -- ---- one more turn
 

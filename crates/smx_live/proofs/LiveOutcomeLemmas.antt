@@ -86,9 +86,7 @@ module _ {explain : Bool} {read output : List ℕ} {start : ℕ} {had left befor
       → Converses explain read output had left ended reads before now flushed writes (Err e)
   failed_turn now next many rest (Refused f) h = wanting now f h.0 h.1 h.2
   failed_turn now next many rest WriteFailed h = cut now h.1 h.0 h.2 h.3
-  failed_turn now next many rest (Text f) h = absurd h
-  failed_turn now next many rest TooLong h = absurd h
-  failed_turn now next many rest ReadFailed h = absurd h
+  failed_turn now next many rest fault h = absurd h
 
   -- a session at the end of its input ends as the write of its last lines does
   pub at_the_end : (now : Option (List ℕ)) (r : Result (Unit {0}) MainFault)
@@ -97,9 +95,7 @@ module _ {explain : Bool} {read output : List ℕ} {start : ℕ} {had left befor
   at_the_end now (Ok done) h = over now h.2 h.0 h.1 h.3 h.4
   at_the_end now (Err (Refused f)) h = wanting now f h.0 h.1 h.2
   at_the_end now (Err WriteFailed) h = cut now h.1 h.0 h.2 (inr h.3)
-  at_the_end now (Err (Text f)) h = absurd h
-  at_the_end now (Err TooLong) h = absurd h
-  at_the_end now (Err ReadFailed) h = absurd h
+  at_the_end now (Err fault) h = absurd h
 
 -- a session that can't read its next line ends with the fault of its reads
 pub no_line : {explain : Bool} {read output : List ℕ} {start : ℕ} {had left later before after : Option (List ℕ)}
@@ -125,8 +121,7 @@ no_line {explain} {read} {output} {had = had} {left} {later} {now = now} {s} {fa
       by_fault TooLong is = ((is.0, fine), inr (s, far, held ++ piece, goes, inl is.1))
       by_fault ReadFailed is = (is.0, fine, inr (all, s, far, held ++ piece, goes, is.1))
       by_fault (Refused f) is = ((is.0, fine), inl (is.1, inr (s, far, held ++ piece, goes)))
-      by_fault (Text f) is = absurd is
-      by_fault WriteFailed is = absurd is
+      by_fault fault is = absurd is
 
 -- a session after the largest count of turns ends as too long
 pub no_count : {explain : Bool} {read output : List ℕ} {had left before after : Option (List ℕ)} {turn : ℕ}

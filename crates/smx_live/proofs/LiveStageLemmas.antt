@@ -44,10 +44,7 @@ module _ (explain : Bool) (s next : State) (far more : Progress) (line text : Li
   answered (Ok true) h may = let wrong : true ≡ false = h.0 in absurd cc
   answered (Ok false) h may = (h.1, h.2, text, may, h.3)
   answered (Err WriteFailed) h may = (h.0, text, h.1, inl (next, more, may))
-  answered (Err (Refused f)) h may = absurd h
-  answered (Err (Text f)) h may = absurd h
-  answered (Err TooLong) h may = absurd h
-  answered (Err ReadFailed) h may = absurd h
+  answered (Err fault) h may = absurd h
 
   -- the answer to the line, with what belongs below it, was written
   pub answered_with : (a : Answer) (below : List ℕ) (r : Result Bool MainFault)
@@ -102,9 +99,7 @@ module _ (further : OneFurther) {explain : Bool} {read : List ℕ} {ended : Bool
       (h.0, h.1, h.2, h.4, goes_on h.2 next more h.3)
   turned_on next more before after flushed failures (Err (Refused f)) h = (h.0, h.1, h.2)
   turned_on next more before after flushed failures (Err WriteFailed) h = (h.0, h.1, h.2, either h.1 h.3)
-  turned_on next more before after flushed failures (Err (Text f)) h = absurd h
-  turned_on next more before after flushed failures (Err TooLong) h = absurd h
-  turned_on next more before after flushed failures (Err ReadFailed) h = absurd h
+  turned_on next more before after flushed failures (Err fault) h = absurd h
 
 module _ {explain : Bool} {read : List ℕ} {ended : Bool} {output : List ℕ} {s : State} {far : Progress} {held : List ℕ}
     (text : List ℕ) (is : text ≡ cut_words held ++ closing_text s) (l : IsLive explain read ended output s far held)
@@ -118,10 +113,7 @@ module _ {explain : Bool} {read : List ℕ} {ended : Bool} {output : List ℕ} {
       → Writes text before after flushed failures r → Finishes explain read output ended before after flushed failures r
   finished_on before after flushed failures (Ok done) h = (h.0, h.1, text, h.2, is_over)
   finished_on before after flushed failures (Err WriteFailed) h = (h.0, text, h.1, is_over)
-  finished_on before after flushed failures (Err (Refused f)) h = absurd h
-  finished_on before after flushed failures (Err (Text f)) h = absurd h
-  finished_on before after flushed failures (Err TooLong) h = absurd h
-  finished_on before after flushed failures (Err ReadFailed) h = absurd h
+  finished_on before after flushed failures (Err fault) h = absurd h
 
 -- ---- turn after turn
 

@@ -22,10 +22,7 @@ pub opened : (s : State) (text : List ℕ) (before after : Option (List ℕ)) (f
     → Opens s before after flushed failures r
 opened s text before after flushed failures (Ok done) h is = (h.0, h.1, text, is, h.2)
 opened s text before after flushed failures (Err WriteFailed) h is = (h.0, text, is, h.1)
-opened s text before after flushed failures (Err (Refused f)) h is = absurd h
-opened s text before after flushed failures (Err (Text f)) h is = absurd h
-opened s text before after flushed failures (Err TooLong) h is = absurd h
-opened s text before after flushed failures (Err ReadFailed) h is = absurd h
+opened s text before after flushed failures (Err fault) h is = absurd h
 
 -- what is kept has grown by nothing
 nothing_more : (before after : Option (List ℕ)) → Keeps before after → Appends before after []
@@ -50,8 +47,7 @@ module _ {explain : Bool} {had left : Option (List ℕ)} {ended : Bool} {reads :
     by_fault TooLong is = ((is.0, fine), inl (refl, is.1))
     by_fault ReadFailed is = (is.0, fine, inl (refl, is.1))
     by_fault (Refused f) is = ((is.0, fine), inl (is.1, inl refl))
-    by_fault (Text f) is = absurd is
-    by_fault WriteFailed is = absurd is
+    by_fault fault is = absurd is
 
   module _ (table held : List ℕ) (parts : read ≡ table ++ held) (over : IsTable ended table held)
       (fits : length table ≤ MAX_INPUT) (fed : reads ≡ 0) where
@@ -69,9 +65,7 @@ module _ {explain : Bool} {had left : Option (List ℕ)} {ended : Bool} {reads :
       by_fault (Text f) bad = ((fed, fine), refl, bad.1, (table, held, parts, over, fits, bad.0))
       by_fault (Refused f) (inl is) = ((fed, fine), inl (is.0, inl refl))
       by_fault (Refused f) (inr bad) = ((fed, fine), inr (refl, (table, held, parts, over, fits, bad)))
-      by_fault TooLong bad = absurd bad
-      by_fault ReadFailed bad = absurd bad
-      by_fault WriteFailed bad = absurd bad
+      by_fault fault bad = absurd bad
 
     -- its opening could not be written
     pub no_opening : (s : State) {after : Option (List ℕ)} (e : MainFault) → IsStartOf (table_text table) s
@@ -98,9 +92,7 @@ module _ {explain : Bool} {had left : Option (List ℕ)} {ended : Bool} {reads :
       appended = nothing_more before after h.2;
       outcome = ((fed, h.0), inl (h.1, inl refl));
     }
-    no_opening s (Text f) start h = absurd h
-    no_opening s TooLong start h = absurd h
-    no_opening s ReadFailed start h = absurd h
+    no_opening s fault start h = absurd h
 
 -- a session whose opening was written, and whose lines were answered, meets the clause from bytes to bytes
 pub answered_all : {explain : Bool} {had mid left : Option (List ℕ)} {read : List ℕ} → Consumes had mid read

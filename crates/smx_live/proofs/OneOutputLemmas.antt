@@ -23,6 +23,7 @@ use Rattle.smx_words.proofs.NumberLemmas.{own}
 use Rattle.smx_words.specs.Spellable.{FitsCall}
 use Rattle.smx_words.specs.Spelling.{call_words, command_words}
 use Rattle.smx_words.specs.Words.{LINE_FEED, line_of, lines_text}
+use Rattle.smx_text.proofs.LineLemmas.{not_one}
 use Rattle.smx_text.specs.Grammar.{IsOneLine, ReadsAny, Spells, beginning}
 use Rattle.smx_text.specs.ProgramsText.{programs_grammar}
 use Rattle.smx_text.specs.TranscriptLines as line
@@ -66,11 +67,6 @@ IsExplainedOnce = (version : Version) (line one other : List ℕ) → IsExplanat
 
 -- ---- lines
 
--- bytes that contain a line feed are not one line
-pub not_one : (xs after : List ℕ) → IsOneLine (xs ++ LINE_FEED ∷ after) → ⊥
-not_one [] after h = h.0 refl
-not_one (x ∷ xs) after h = not_one xs after h.1
-
 -- the text of lines starts with the first line and its line feed
 pub cons : (l : List ℕ) (ls : List (List ℕ)) (rest : List ℕ)
     → lines_text (l ∷ ls) ++ rest ≡ l ++ LINE_FEED ∷ (lines_text ls ++ rest)
@@ -94,7 +90,7 @@ pub stops_at : (ended : Bool) (rest l after : List ℕ) → IsOneLine l → begi
     → rest ≡ l ++ LINE_FEED ∷ after → Stops ended rest → ⊥
 stops_at ended rest l after one driver is (inl (n, has, other)) =
     let same = first_is n rest l after one is has in
-    let wrong : false ≡ true = sym other ∙ ap begins_driver same ∙ driver in absurd (cc wrong)
+    absurd (cc (other, same, driver))
 stops_at ended rest l after one driver is (inr (end, whole)) = not_one l after (subst IsOneLine is whole)
 
 -- the bytes determine the driver lines up to where they stop
@@ -165,11 +161,9 @@ not_cut ended ls cut rest own more over none driver no_more e = by_over over whe
   by_over : IsOverAt ended ls cut rest → ⊥
   by_over (inl (n, nothing, has, small, some, other)) =
       not_one (take n rest) (drop (n + 1) rest) (subst IsOneLine (sym same ∙ has.parts) driver.1)
-  by_over (inr (end, inl (is, no_rest))) =
-      let wrong : false ≡ true = ap begins_driver (sym none) ∙ is.2 in absurd (cc wrong)
+  by_over (inr (end, inl (is, no_rest))) = absurd (cc (none, is.2))
   by_over (inr (end, inr (nothing, short, inl no_lines))) = driver.0 no_lines
-  by_over (inr (end, inr (nothing, short, inr other))) =
-      let wrong : false ≡ true = sym other ∙ ap begins_driver same ∙ driver.2 in absurd (cc wrong)
+  by_over (inr (end, inr (nothing, short, inr other))) = absurd (cc (other, same, driver.2))
 
 -- the bytes after its whole lines determine the cut line of a table that has ended
 cut_once : (ended : Bool) (ls : List (List ℕ)) (cut rest own more : List ℕ) → AreOfTable ls cut → AreOfTable ls own
@@ -177,11 +171,9 @@ cut_once : (ended : Bool) (ls : List (List ℕ)) (cut rest own more : List ℕ) 
 cut_once ended ls cut rest own more are are_too over over_too e = by_last are.last are_too.last where
   -- nothing follows a cut line
   no_more : (c r : List ℕ) → IsOverAt ended ls c r → IsCutDriver ls c → r ≡ []
-  no_more c r (inl (n, none, has, small, some, other)) driver =
-      let wrong : false ≡ true = ap begins_driver (sym none) ∙ driver.2 in absurd (cc wrong)
+  no_more c r (inl (n, none, has, small, some, other)) driver = absurd (cc (none, driver.2))
   no_more c r (inr (end, inl (is, none))) driver = none
-  no_more c r (inr (end, inr (none, short, other))) driver =
-      let wrong : false ≡ true = ap begins_driver (sym none) ∙ driver.2 in absurd (cc wrong)
+  no_more c r (inr (end, inr (none, short, other))) driver = absurd (cc (none, driver.2))
 
   by_last : (cut ≡ []) ⊎ IsCutDriver ls cut → (own ≡ []) ⊎ IsCutDriver ls own → cut ≡ own
   by_last (inl none) (inl none_too) = none ∙ sym none_too
@@ -280,44 +272,37 @@ module _ (version : Version) (drivers : List DriverSpec) (history : List Entry) 
   answer_once : AreDistinguished → (a b : Answer) → IsAnswer version drivers history l a
       → IsAnswer version drivers history l b
       → a ≢ NotDone NoMemory → b ≢ NotDone NoMemory → a ≡ b
+  answer_once told_apart (NotDone NoMemory) b is is_too had had_too = absurd (had refl)
+  answer_once told_apart a (NotDone NoMemory) is is_too had had_too = absurd (had_too refl)
   answer_once told_apart (Entered e) (Entered f) is is_too had had_too = ap Entered
       (entry_once told_apart e f is is_too)
   answer_once told_apart (Entered e) (Shown v) is is_too had had_too = absurd (not_shown e is is_too.0)
   answer_once told_apart (Entered e) (NotDone NoCommand) is is_too had had_too =
       absurd (is_too.1 (call_of e) is.in_version is.is_read)
-  answer_once told_apart (Entered e) (NotDone NoMemory) is is_too had had_too = absurd (had_too refl)
   answer_once told_apart (Entered e) (NotDone Full) is is_too had had_too = absurd (omega (arith, is.room, is_too.1))
   answer_once told_apart (Shown v) (Entered e) is is_too had had_too = absurd (not_shown e is_too is.0)
   answer_once told_apart (Shown v) (Shown w) is is_too had had_too = ap Shown (is.1 ∙ sym is_too.1)
   answer_once told_apart (Shown v) (NotDone NoCommand) is is_too had had_too = absurd (is_too.0.0 is.0)
-  answer_once told_apart (Shown v) (NotDone NoMemory) is is_too had had_too = absurd (had_too refl)
   answer_once told_apart (Shown v) (NotDone Full) is is_too had had_too = absurd (is_too.0.0 is.0)
-  answer_once told_apart (NotDone NoMemory) b is is_too had had_too = absurd (had refl)
   answer_once told_apart (NotDone NoCommand) (Entered e) is is_too had had_too =
       absurd (is.1 (call_of e) is_too.in_version is_too.is_read)
   answer_once told_apart (NotDone NoCommand) (Shown v) is is_too had had_too = absurd (is.0.0 is_too.0)
   answer_once told_apart (NotDone NoCommand) (NotDone NoCommand) is is_too had had_too = refl
-  answer_once told_apart (NotDone NoCommand) (NotDone NoMemory) is is_too had had_too = absurd (had_too refl)
   answer_once told_apart (NotDone NoCommand) (NotDone Full) is is_too had had_too = absurd
       (omega (arith, is.2, is_too.1))
   answer_once told_apart (NotDone Full) (Entered e) is is_too had had_too = absurd (omega (arith, is_too.room, is.1))
   answer_once told_apart (NotDone Full) (Shown v) is is_too had had_too = absurd (is.0.0 is_too.0)
   answer_once told_apart (NotDone Full) (NotDone NoCommand) is is_too had had_too = absurd
       (omega (arith, is_too.2, is.1))
-  answer_once told_apart (NotDone Full) (NotDone NoMemory) is is_too had had_too = absurd (had_too refl)
   answer_once told_apart (NotDone Full) (NotDone Full) is is_too had had_too = refl
 
   -- the line `end` has no answer, apart from out-of-memory
   no_answer : (a : Answer) → IsAnswer version drivers history l a → a ≢ NotDone NoMemory → l ≡ codes "end" → ⊥
   no_answer (Entered e) is had end = not_ended e is end
-  no_answer (Shown v) (inl none, shown) had end =
-      let wrong : [] ≡ codes "end" = sym none ∙ end in absurd (cc wrong)
-  no_answer (Shown v) (inr (inl show), shown) had end =
-      let wrong : codes "show" ≡ codes "end" = sym show ∙ end in absurd (cc wrong)
-  no_answer (Shown v) (inr (inr (inl on)), shown) had end =
-      let wrong : codes "trace on" ≡ codes "end" = sym on ∙ end in absurd (cc wrong)
-  no_answer (Shown v) (inr (inr (inr off)), shown) had end =
-      let wrong : codes "trace off" ≡ codes "end" = sym off ∙ end in absurd (cc wrong)
+  no_answer (Shown v) (inl none, shown) had end = absurd (cc (none, end))
+  no_answer (Shown v) (inr (inl show), shown) had end = absurd (cc (show, end))
+  no_answer (Shown v) (inr (inr (inl on)), shown) had end = absurd (cc (on, end))
+  no_answer (Shown v) (inr (inr (inr off)), shown) had end = absurd (cc (off, end))
   no_answer (NotDone NoCommand) is had end = is.0.1 end
   no_answer (NotDone NoMemory) is had end = had refl
   no_answer (NotDone Full) is had end = is.0.1 end

@@ -15,7 +15,8 @@ use Rattle.smx_live.specs.Inboxes.{HasLine, IsTooLong}
 use Rattle.smx_live.specs.LiveText.{HasComeSoFar, IsOver}
 use Rattle.smx_live.specs.Tables.{AreOfTable, IsCutDriver, IsEndlessTable, IsOverAt, IsTable, IsUnfinished}
 use Rattle.smx_live.specs.Tables.{begins_driver}
-use Rattle.smx_live.proofs.OneOutputLemmas.{Stops, all_behind, all_cut, cons, no_table, not_one, stops_at, stops_there}
+use Rattle.smx_text.proofs.LineLemmas.{not_one}
+use Rattle.smx_live.proofs.OneOutputLemmas.{Stops, all_behind, all_cut, cons, no_table, stops_at, stops_there}
 
 -- ---- lines within lines
 

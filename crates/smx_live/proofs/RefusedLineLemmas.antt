@@ -10,40 +10,15 @@ use Rattle.smx_words.specs.LineReading.{IsCallLine, IsNoCallLine}
 use Rattle.smx_session.specs.WorkedSessions.{drivers}
 use Rattle.smx_live.specs.Turns.{AsksForNeither, IsAnswer, IsRefusedFor, NotDone}
 use Rattle.smx_live.specs.declared.turn_fault.TurnFault.TheVariants.{NoCommand, NoMemory, Full}
-use Rattle.smx_live.proofs.OneOutputLemmas.{no_call}
-use Rattle.smx_live.proofs.WorkedLiveLemmas.{cloned}
-
--- a line other than the words of a session asks neither for the configuration nor for the end
-neither : (line : List ℕ) → line ≢ [] → line ≢ codes "show" → line ≢ codes "trace on" → line ≢ codes "trace off"
-    → line ≢ codes "end" → AsksForNeither line
-neither line some other on off last = (
-  λ asks. elim asks [
-    | inl none ↦ some none
-    | inr (inl show) ↦ other show
-    | inr (inr (inl begins)) ↦ on begins
-    | inr (inr (inr ends)) ↦ off ends
-  ],
-  last,
-)
-
--- the line `x` asks for neither
-x_asks : AsksForNeither (codes "x")
-x_asks = neither (codes "x") (λ is. absurd (cc is)) (λ is. absurd (cc is)) (λ is. absurd (cc is))
-    (λ is. absurd (cc is)) (λ is. absurd (cc is))
+use Rattle.smx_live.proofs.WorkedLiveLemmas.{cloned, neither, x_asks, x_is_none}
 
 -- the line `63 dup 0` asks for neither
 dup_asks : AsksForNeither (codes "63 dup 0")
-dup_asks = neither (codes "63 dup 0") (λ is. absurd (cc is)) (λ is. absurd (cc is)) (λ is. absurd (cc is))
-    (λ is. absurd (cc is)) (λ is. absurd (cc is))
+dup_asks = neither (codes "63 dup 0") (λ is. cc) (λ is. cc) (λ is. cc) (λ is. cc) (λ is. cc)
 
 -- the line of a hangup asks for neither
 hangup_asks : AsksForNeither (codes "0 hangup ip 0")
-hangup_asks = neither (codes "0 hangup ip 0") (λ is. absurd (cc is)) (λ is. absurd (cc is))
-    (λ is. absurd (cc is)) (λ is. absurd (cc is)) (λ is. absurd (cc is))
-
--- the line `x` is not a command of a process in either version
-x_is_none : (version : Version) → IsNoCallLine version (codes "x")
-x_is_none version c fits is = no_call c fits.0 120 [] (λ ds h. absurd (cc h)) (sym is)
+hangup_asks = neither (codes "0 hangup ip 0") (λ is. cc) (λ is. cc) (λ is. cc) (λ is. cc) (λ is. cc)
 
 -- a history of 100,000 entries is full, and a line that is not a command is refused for that too
 pub full : IsRefusedFor V2 100000 (codes "x") Full
@@ -84,11 +59,6 @@ no_memory_when_full is = omega (arith, (is dup_asks).1)
 -- the configuration may be refused for lack of memory, even if the history is full
 pub no_memory_to_show : IsRefusedFor V1 100000 (codes "show") NoMemory
 no_memory_to_show asks = absurd (asks.0 (inr (inl refl)))
-
--- a line that is not a command is not refused for lack of memory
-pub no_memory_for_no_command : IsRefusedFor V1 0 (codes "x") NoMemory → ⊥
-no_memory_for_no_command is =
-    let call : IsCallLine V1 (codes "x") = (is x_asks).0 in x_is_none V1 call.0 call.1 call.2
 
 -- a hangup is not a command in version 1
 pub no_command_of_version_1 : (IsCallLine V1 (codes "0 hangup ip 0") → ⊥)

@@ -75,12 +75,7 @@ fault_of_drivers : (drivers : List DriverSpec) (fault : RunFault) → RefusesAlo
     → (f : ConfigFault) × (fault ≡ run.ConfigFault f) × RefusesDrivers drivers f
 fault_of_drivers drivers (run.ConfigFault f) (is, known) other = (f, refl, is)
 fault_of_drivers drivers run.NoMemory had other = absurd (other refl)
-fault_of_drivers drivers run.NoThread never other = absurd never
-fault_of_drivers drivers (run.Strange process) never other = absurd never
-fault_of_drivers drivers run.HistoryFull never other = absurd never
-fault_of_drivers drivers run.Held never other = absurd never
-fault_of_drivers drivers (run.FewEntries count) never other = absurd never
-fault_of_drivers drivers (run.LongPage count) never other = absurd never
+fault_of_drivers drivers fault never other = absurd never
 
 -- the drivers of a table are refused for one fault, if it is not out-of-memory
 pub one_refusal : HasOneReading → HaveOneFault → (explain : Bool) (read output : List ℕ) (ended flushed : Bool)

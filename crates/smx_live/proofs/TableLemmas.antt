@@ -1,7 +1,7 @@
 -- Tables that grow by a line, and what is read after them.
 use Rattle.std.proofs.Common.{◌≡◌, ◌≢◌, ℕ, ◌+◌, ◌<◌, ◌≤◌, Bool, true, false, List, [], ◌∷◌, ◌++◌, length, take, refl}
 use Rattle.std.proofs.Common.{sym, ap, subst, ◌∙◌, append_assoc, arith, inl, inr}
-use Rattle.std.proofs.lemmas.List.{append-nil, length-append, take-append-le}
+use Rattle.std.proofs.lemmas.List.{append-nil, flat_map_more, length-append, take-append-le}
 use Rattle.std.specs.List.{flat_map}
 use Rattle.std.specs.Global.{Global}
 use Rattle.std.specs.Io.KnownBytes.{Consumes}
@@ -21,8 +21,7 @@ use Rattle.smx_live.proofs.InboxLemmas.{line_stays, unmoved, with_line_feed}
 
 -- `flat_map` over a list with one more item appends what that item gives
 pub flat_more : {A B : Type 0} (f : A → List B) (xs : List A) (x : A) → flat_map f (xs ++ x ∷ []) ≡ flat_map f xs ++ f x
-flat_more f [] x = append-nil (f x)
-flat_more f (y ∷ xs) x = ap (λ l. f y ++ l) (flat_more f xs x) ∙ sym (append_assoc (f y) (flat_map f xs) (f x))
+flat_more f xs x = sym (flat_map_more f [] xs x)
 
 -- ---- one more line
 
@@ -52,9 +51,8 @@ pub text_more : (table : List ℕ) (lines : List (List ℕ)) (n : ℕ) (held : L
     → HasLine n held
     → table ++ take (n + 1) held ≡ lines_text (lines ++ take n held ∷ [])
 text_more table lines n held text line =
-    ap (λ (t : List ℕ). table ++ t) (with_line_feed n held line)
-    ∙ ap (λ (t : List ℕ). t ++ (take n held ++ LINE_FEED ∷ [])) text
-    ∙ sym (flat_more (λ (l : List ℕ). l ++ LINE_FEED ∷ []) lines (take n held))
+    rw (with_line_feed n held line, text)
+    (flat_map_more (λ (l : List ℕ). l ++ LINE_FEED ∷ []) [] lines (take n held))
 
 -- what was read begins like a table of these lines, with a cut line after them or none
 pub begins_as : (bytes table rest : List ℕ) (lines : List (List ℕ)) (cut : List ℕ) (AreSo : List ℕ → List ℕ → Type 0)
@@ -95,8 +93,21 @@ fails_with start read piece table held lines parts text were failures e = by_fau
         (whole table lines text) were is.1,
   )
   by_fault (Refused f) is = is
-  by_fault (Text f) is = absurd is
-  by_fault WriteFailed is = absurd is
+  by_fault fault is = absurd is
+
+-- no table was read, for this reason
+pub no_table_read : {had left : Option (List ℕ)} {ended : Bool} {failures : ℕ} {old new : Inbox} {read : List ℕ}
+    {e : MainFault} → Consumes had left read → FailsToRead (IsEndlessTable (old.held.items ++ read))
+    (IsUnfinished (old.held.items ++ read)) failures e → HasTable had left ended failures old new read (Err e)
+no_table_read consumed why = record {
+  consumed = consumed;
+  parts = tt;
+  over = tt;
+  end = tt;
+  fine = tt;
+  fits = tt;
+  fault = why;
+}
 
 -- ---- the end of a table
 
@@ -198,9 +209,7 @@ module _ (ended : Bool) (table : List ℕ) (lines : List (List ℕ)) (held : Lis
         (inl long),
   )
   not_taken bytes now failures parts fine (Refused f) memory = (fine, memory)
-  not_taken bytes now failures parts fine ReadFailed is = absurd is
-  not_taken bytes now failures parts fine (Text f) is = absurd is
-  not_taken bytes now failures parts fine WriteFailed is = absurd is
+  not_taken bytes now failures parts fine fault is = absurd is
 
   -- at the end of the input a table was read, with the held bytes or without, or these could not be taken into it
   pub has_table : {had left : Option (List ℕ)} {failures : ℕ} {old new : Inbox} {read : List ℕ} → Consumes had left read
@@ -216,15 +225,8 @@ module _ (ended : Bool) (table : List ℕ) (lines : List (List ℕ)) (held : Lis
     fits = still_fits made new.held.items small took;
     fault = tt;
   }
-  has_table {had} {left} {failures} {old} {new} {read} consumed parts small still fine (Err e) took = record {
-    consumed = consumed;
-    parts = tt;
-    over = tt;
-    end = tt;
-    fine = tt;
-    fits = tt;
-    fault = not_taken (old.held.items ++ read) new.held.items failures parts fine e took;
-  }
+  has_table {had} {left} {failures} {old} {new} {read} consumed parts small still fine (Err e) took =
+      no_table_read consumed (not_taken (old.held.items ++ read) new.held.items failures parts fine e took)
 
 -- if the input ended after a table, nothing more is read
 behind_still : (lines : List (List ℕ)) (cut rest more : List ℕ) → EndsBehind lines cut rest → more ≡ []

@@ -1,11 +1,12 @@
 -- The worked live session.
-use Rattle.std.proofs.Common.{◌≡◌, ℕ, ◌+◌, Bool, true, false, List, [], ◌∷◌, ◌++◌, map, take, drop}
+use Rattle.std.proofs.Common.{◌≡◌, ◌≢◌, ℕ, ◌+◌, Bool, true, false, List, [], ◌∷◌, ◌++◌, map, take, drop}
 use Rattle.std.proofs.Common.{refl, sym, subst}
 use Rattle.std.proofs.Common.{inl, inr, arith, rules}
 use Rattle.std.specs.Fmt.{digits}
 use Rattle.std.specs.Prelude.{codes}
 use Rattle.smx_types.specs.declared.command.Entry.{Entry}
 use Rattle.smx_types.specs.declared.limits.TheConstants.{MAX_COMMANDS}
+use Rattle.smx_types.specs.declared.version.Version.{Version}
 use Rattle.smx_types.specs.declared.version.Version.TheVariants.{V2}
 use Rattle.smx_model.specs.Histories.{call_of}
 use Rattle.smx_model.specs.Worked.Common.{Fd, OpenClone, ◌does◌gets◌, eth}
@@ -26,8 +27,10 @@ use Rattle.smx_live.specs.Turns.{IsExplained, asked_text, said_text, switched}
 use Rattle.smx_live.specs.WorkedLives.{worked_answers, worked_below, worked_input, worked_output, worked_table}
 use Rattle.smx_live.specs.WorkedLives.{worked_turns}
 use Rattle.smx_live.specs.declared.turn_fault.TurnFault.TheVariants.{NoCommand, NoMemory, Full}
-use Rattle.smx_live.proofs.OneOutputLemmas.{no_call, not_one, table_once}
+use Rattle.smx_text.proofs.LineLemmas.{not_one}
+use Rattle.smx_live.proofs.OneOutputLemmas.{no_call, table_once}
 use Rattle.smx_live.proofs.OverTableLemmas.{finished}
+use Rattle.smx_live.proofs.TableLemmas.{over_at_a_line}
 
 -- ---- tables
 
@@ -37,37 +40,17 @@ no_lines l ls none = absurd (cc none)
 
 -- the worked table has ended if `3 clone eth` follows it
 pub is_over : IsTable false worked_table (codes "3 clone eth\n")
-is_over = record {
-  lines = codes "programs 2" ∷ codes "driver eth leaf 2 8 3 16" ∷ [];
-  cut = [];
-  text = refl;
-  of_table = record { each = search (rules, arith); drivers = (refl, tt); last = inl refl };
-  over = inl (
-    11,
-    refl,
-    record { within = search arith; one = search (rules, arith); parts = refl },
-    search arith,
-    no_lines _ _,
-    refl,
-  );
-}
+is_over = over_at_a_line false worked_table (codes "programs 2" ∷ codes "driver eth leaf 2 8 3 16" ∷ []) 11 _ refl
+    (record { each = search (rules, arith); drivers = (refl, tt); last = inl refl })
+    (record { within = search arith; one = search (rules, arith); parts = refl }) (search arith)
+    (λ none. absurd (omega (arith, none))) refl
 
 -- a table of the header only has ended if `show` follows it
 header_alone : IsTable false (codes "programs 2\n") (codes "show\nend\n")
-header_alone = record {
-  lines = codes "programs 2" ∷ [];
-  cut = [];
-  text = refl;
-  of_table = record { each = search (rules, arith); drivers = tt; last = inl refl };
-  over = inl (
-    4,
-    refl,
-    record { within = search arith; one = search (rules, arith); parts = refl },
-    search arith,
-    no_lines _ _,
-    refl,
-  );
-}
+header_alone = over_at_a_line false (codes "programs 2\n") (codes "programs 2" ∷ []) 4 _ refl
+    (record { each = search (rules, arith); drivers = tt; last = inl refl })
+    (record { within = search arith; one = search (rules, arith); parts = refl }) (search arith)
+    (λ none. absurd (omega (arith, none))) refl
 
 -- a table has not ended if a driver line follows it
 pub not_too_early : IsTable false (codes "programs 2\n") (codes "driver eth leaf 2 8 3 16\n3 clone eth\n") → ⊥
@@ -133,20 +116,9 @@ drivers_lines = record { each = search (rules, arith); drivers = (refl, tt); las
 
 -- a line `drivers` belongs to the table, and a line `drive` does not
 pub behind_drivers : IsTable false (codes "programs 2\ndrivers\n") (codes "drive\n")
-behind_drivers = record {
-  lines = codes "programs 2" ∷ codes "drivers" ∷ [];
-  cut = [];
-  text = refl;
-  of_table = drivers_lines;
-  over = inl (
-    5,
-    refl,
-    record { within = search arith; one = search (rules, arith); parts = refl },
-    search arith,
-    no_lines _ _,
-    refl,
-  );
-}
+behind_drivers = over_at_a_line false (codes "programs 2\ndrivers\n") (codes "programs 2" ∷ codes "drivers" ∷ []) 5 _
+    refl drivers_lines (record { within = search arith; one = search (rules, arith); parts = refl }) (search arith)
+    (λ none. absurd (omega (arith, none))) refl
 
 -- a table has not ended before a line `drivers`
 pub not_before_drivers : IsTable false (codes "programs 2\n") (codes "drivers\ndrive\n") → ⊥
@@ -186,43 +158,36 @@ not_performed e is =
 
 -- ---- the session
 
--- the line `x` asks neither for the configuration nor for the end
-asks_for_neither : AsksForNeither (codes "x")
-asks_for_neither = (
+-- a line other than the words of a session asks neither for the configuration nor for the end
+pub neither : (line : List ℕ) → line ≢ [] → line ≢ codes "show" → line ≢ codes "trace on" → line ≢ codes "trace off"
+    → line ≢ codes "end" → AsksForNeither line
+neither line some other on off last = (
   λ asks. elim asks [
-    | inl none ↦ absurd (cc none)
-    | inr (inl show) ↦ absurd (cc show)
-    | inr (inr (inl on)) ↦ absurd (cc on)
-    | inr (inr (inr off)) ↦ absurd (cc off)
+    | inl none ↦ some none
+    | inr (inl show) ↦ other show
+    | inr (inr (inl begins)) ↦ on begins
+    | inr (inr (inr ends)) ↦ off ends
   ],
-  λ end. absurd (cc end),
+  last,
 )
 
--- the line `3 clone eth` asks neither for the configuration nor for the end
-clone_asks_for_neither : AsksForNeither (codes "3 clone eth")
-clone_asks_for_neither = (
-  λ asks. elim asks [
-    | inl none ↦ absurd (cc none)
-    | inr (inl show) ↦ absurd (cc show)
-    | inr (inr (inl on)) ↦ absurd (cc on)
-    | inr (inr (inr off)) ↦ absurd (cc off)
-  ],
-  λ end. absurd (cc end),
-)
+-- the line `x` asks neither for the configuration nor for the end
+pub x_asks : AsksForNeither (codes "x")
+x_asks = neither (codes "x") (λ is. cc) (λ is. cc) (λ is. cc) (λ is. cc) (λ is. cc)
 
 -- if the history is full, the line `3 clone eth` is not refused for lack of memory
 pub full_is_reported : IsRefusedFor V2 MAX_COMMANDS (codes "3 clone eth") NoMemory → ⊥
-full_is_reported is = omega (arith, (is clone_asks_for_neither).1)
+full_is_reported is =
+    omega (arith, (is (neither _ (λ is. cc) (λ is. cc) (λ is. cc) (λ is. cc) (λ is. cc))).1)
 
--- the line `x` is not a command of a process in version 2
-x_is_none : IsNoCallLine V2 (codes "x")
-x_is_none c fits is = no_call c fits.0 120 [] (λ ds h. absurd (cc h)) (sym is)
+-- the line `x` is not a command of a process in either version
+pub x_is_none : (version : Version) → IsNoCallLine version (codes "x")
+x_is_none version c fits is = no_call c fits.0 120 [] (λ ds h. absurd (cc h)) (sym is)
 
 -- the line `x` is not refused for lack of memory
-pub no_memory_for_no_command : IsRefusedFor V2 0 (codes "x") NoMemory → ⊥
-no_memory_for_no_command is =
-    let call : IsCallLine V2 (codes "x") = (is asks_for_neither).0 in
-    x_is_none call.0 call.1 call.2
+pub no_memory_for_no_command : (version : Version) → IsRefusedFor version 0 (codes "x") NoMemory → ⊥
+no_memory_for_no_command version is =
+    let call : IsCallLine version (codes "x") = (is x_asks).0 in x_is_none version call.0 call.1 call.2
 
 -- `3 clone eth` is the line of a clone by process 3
 clone_line : codes "3 clone eth" ≡ line_of (call_words (3, OpenClone eth))
@@ -265,20 +230,10 @@ whole_is false = refl
 -- the worked table has ended if the lines of the worked turns follow it
 pub table_over : (explain : Bool)
     → IsTable false worked_table (asked_text (worked_turns explain) ++ codes "end\n3 exit\n")
-table_over explain = record {
-  lines = codes "programs 2" ∷ codes "driver eth leaf 2 8 3 16" ∷ [];
-  cut = [];
-  text = refl;
-  of_table = record { each = search (rules, arith); drivers = (refl, tt); last = inl refl };
-  over = inl (
-    11,
-    refl,
-    record { within = search arith; one = one_clone; parts = refl },
-    search arith,
-    no_lines _ _,
-    refl,
-  );
-}
+table_over explain = over_at_a_line false worked_table (codes "programs 2" ∷ codes "driver eth leaf 2 8 3 16" ∷ []) 11 _
+    refl (record { each = search (rules, arith); drivers = (refl, tt); last = inl refl })
+    (record { within = search arith; one = one_clone; parts = refl }) (search arith)
+    (λ none. absurd (omega (arith, none))) refl
 
 -- below the line `x` is its explanation, if lines are explained
 explained : IsExplanationOf V2 (codes "x") (worked_below true) → (explain : Bool)
@@ -306,7 +261,7 @@ answered start told explain = record {
     (
       (tt, search arith),
       (inl refl, refl),
-      ((search (rules, arith), search arith), (asks_for_neither, x_is_none, search arith), tt),
+      ((search (rules, arith), search arith), (x_asks, x_is_none V2, search arith), tt),
     ),
   );
   few = search arith;

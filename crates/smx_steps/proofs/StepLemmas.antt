@@ -120,12 +120,8 @@ performs number e m n w lines picture before after traced is drawn wrote = recor
   performed = traced.performed;
   added = record {
     picture = picture;
-    drawn =
-        subst (λ (v : ConfigView). IsSvgOf m.drivers v picture)
-        (is ∙ ap (λ (ds : List DriverSpec). view ds n.configuration) traced.drivers
-        ∙ ap (view m.drivers) traced.performed)
-        (subst (λ (ds : List DriverSpec). IsSvgOf ds w picture) traced.drivers drawn);
-    written = wrote ∙ ap (λ (ls : List ℕ). before ++ step_text (decimal number) ls picture) traced.written;
+    drawn = rw (is, traced.drivers, traced.performed) at drawn;
+    written = rw traced.written at wrote;
   };
 }
 
@@ -223,15 +219,7 @@ module _ (t : Transcript) (m : Machine) (opening head begun : List ℕ) (can : I
     (begins : BeginsTranscript t.version t.drivers [] opening) (is_head : head ≡ HEAD.now)
     (added : AddsStep m.drivers (view m.drivers m.configuration) (codes "beginning") opening head begun) where
   begins_page : Begins t begun
-  begins_page =
-      subst (λ (h : List ℕ). AddsStep t.drivers (view t.drivers empty) (codes "beginning")
-      (opening_text t.version t.drivers) h begun)
-      is_head
-      (subst (λ (o : List ℕ). AddsStep t.drivers (view t.drivers empty) (codes "beginning") o head begun)
-      (opening_is t.version t.drivers opening begins)
-      (subst (λ (c : Configuration). AddsStep t.drivers (view t.drivers c) (codes "beginning") opening head begun) none
-      (subst (λ (ds : List DriverSpec). AddsStep ds (view ds m.configuration) (codes "beginning") opening head begun)
-      same added)))
+  begins_page = rw (same, none, opening_is t.version t.drivers opening begins, is_head) at added
 
   -- the page that is made
   pub page_made : (n : Machine) (es : List Entry) (text output : List ℕ) → es ≡ t.entries
@@ -239,8 +227,7 @@ module _ (t : Transcript) (m : Machine) (opening head begun : List ℕ) (can : I
       → output ≡ text ++ FOOT.now → IsPageOf t output
   page_made n es text output are stepped ends =
       whole_page t begun n text output can begins_page
-      (subst (λ (l : List Entry). HasStepped t.drivers begun l n text) are
-      (stepped t.drivers begun (stepped_none t.drivers begun m same none))) ends
+      (rw are at (stepped t.drivers begun (stepped_none t.drivers begun m same none))) ends
 
   -- the page that is given up
   pub page_given_up : (es : List Entry) (fault : PageFault) → es ≡ t.entries → length t.entries ≤ MAX_STEPS
@@ -248,8 +235,7 @@ module _ (t : Transcript) (m : Machine) (opening head begun : List ℕ) (can : I
       → RefusesPage t fault
   page_given_up es fault are few stopped =
       stopped_page t begun fault few can begins_page
-      (subst (λ (l : List Entry). IsStopped t.drivers begun l fault) are
-      (stopped t.drivers begun (stepped_none t.drivers begun m same none)))
+      (rw are at (stopped t.drivers begun (stepped_none t.drivers begun m same none)))
 
 -- a page is refused with a fault that may refuse it
 pub refuses_with : {A : Type 0} (t : Transcript) (f : PageFault) (answer : Result A PageFault)

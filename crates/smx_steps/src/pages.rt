@@ -39,21 +39,27 @@ pub fn page(alloc: Global, transcript: Transcript) -> Result<Vec<u8>, PageFault>
     ensures short { IfOk result (λ text. length text.items ≤ MAX_PAGE) }
     ensures refused { IfErr result (RefusesPage transcript) }
 {
-    let Transcript {
-        version,
-        drivers,
-        entries,
-        ..
-    } = transcript;
-    if entries.as_slice().len() > MAX_STEPS {
+    page_of(alloc, &transcript)
+}
+
+// Makes the page as `page` does.
+fn page_of(alloc: Global, transcript: &Transcript) -> Result<Vec<u8>, PageFault>
+    ensures written { IfOk result (λ text. IsPageOf transcript.now text.items) }
+    ensures few { OnOk result (length transcript.now.entries ≤ MAX_STEPS) }
+    ensures short { IfOk result (λ text. length text.items ≤ MAX_PAGE) }
+    ensures refused { IfErr result (RefusesPage transcript.now) }
+{
+    let entries = transcript.entries.as_slice();
+    if entries.len() > MAX_STEPS {
         return Err(PageFault::TooLong(MAX_STEPS + 1));
     }
-    let mut config = Config::new(alloc, drivers.as_slice())?;
-    let opening = transcript_opening(Vec::new(alloc), version, drivers.as_slice())?;
+    let drivers = transcript.drivers.as_slice();
+    let mut config = Config::new(alloc, drivers)?;
+    let opening = transcript_opening(Vec::new(alloc), transcript.version, drivers)?;
     let mut out = Vec::new(alloc);
     put(&mut out, HEAD)?;
     let view = write_beginning(alloc, &config, opening.as_slice(), &mut out)?;
-    write_steps(alloc, &mut config, entries.as_slice(), view, &mut out)?;
+    write_steps(alloc, &mut config, entries, view, &mut out)?;
     put(&mut out, FOOT)?;
     Ok(out)
 }

@@ -37,16 +37,15 @@ module _ {X : Type 0} (rank : X → ℕ × ℕ) where
   differs x y h e = let k : is_before rank x x ≡ true = subst (λ z. is_before rank z x ≡ true) (sym e) h in
       let n = not_before x in cc
 
-  -- elements before x, and one more that comes before x
-  before_push : (x y : X) (ys : List X) → AreBefore rank x ys → is_before rank y x ≡ true
-      → AreBefore rank x (ys ++ y ∷ [])
-  before_push x y [] h k = (k, tt)
-  before_push x y (z ∷ zs) h k = (h.0, before_push x y zs h.1 k)
-
   -- elements before x, and more that come before x
   before_append : (x : X) (ys zs : List X) → AreBefore rank x ys → AreBefore rank x zs → AreBefore rank x (ys ++ zs)
   before_append x [] zs h k = k
   before_append x (y ∷ ys) zs h k = (h.0, before_append x ys zs h.1 k)
+
+  -- elements before x, and one more that comes before x
+  before_push : (x y : X) (ys : List X) → AreBefore rank x ys → is_before rank y x ≡ true
+      → AreBefore rank x (ys ++ y ∷ [])
+  before_push x y ys h k = before_append x ys (y ∷ []) h (k, tt)
 
   -- what comes before x comes before what x comes before
   before_later : (x z : X) (ys : List X) → is_before rank x z ≡ true → AreBefore rank x ys → AreBefore rank z ys
@@ -171,19 +170,14 @@ module _ {X : Type 0} (rank : X → ℕ × ℕ) where
         let one : drop i lines ≡ x ∷ drop (i + 1) lines =
         drop_more lines i x lt ∙ ap (λ z. z ∷ drop (i + 1) lines) (sym is) in
         let left : IsRanked rank (x ∷ drop (i + 1) lines) =
-        subst (λ (zs : List X). IsRanked rank zs) one (rising_end (take i lines) (drop i lines)
-        (subst (λ (zs : List X). IsRanked rank zs) (sym (take-append-drop i lines)) rise)) in
+        rw one at (rising_end (take i lines) (drop i lines) (rw (take-append-drop i lines) rise)) in
         let s = steps ys (drop (i + 1) lines) ranked left.0
-        (subst (λ (zs : List X). ComesTo rank ys zs rest) one merged) in
+        (rw one at merged) in
         let Kept : X → Bool = λ z. not (list_any (same z) ys) in
         let more_taken : take (i + 1) lines ≡ take i lines ++ x ∷ [] =
         take_more lines i x lt ∙ ap (λ z. take i lines ++ z ∷ []) (sym is) in (
           s.0,
-          s.1 ∙ ap (λ (w : List ℕ). w ++ flat_map text (filter Kept (x ∷ []))) written
-              ∙ append_assoc start _ _
-              ∙ ap (λ (w : List ℕ). start ++ w)
-              (sym (flat_map-append text (filter Kept (take i lines)) (filter Kept (x ∷ []))))
-              ∙ ap (λ (zs : List X). start ++ flat_map text zs)
-              (sym (filter-append Kept (take i lines) (x ∷ [])))
-              ∙ ap (λ (zs : List X). start ++ flat_map text (filter Kept zs)) (sym more_taken),
+          rw (more_taken, filter-append Kept (take i lines) (x ∷ []),
+              flat_map-append text (filter Kept (take i lines)) (filter Kept (x ∷ [])), s.1, written)
+              (append_assoc start _ _),
         )

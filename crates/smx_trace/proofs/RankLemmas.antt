@@ -17,7 +17,7 @@ use Rattle.smx_types.specs.declared.stream.Side.{Side}
 use Rattle.smx_types.specs.declared.stream.Side.TheVariants as side
 use Rattle.smx_types.specs.declared.stream.StreamId.{StreamId}
 use Rattle.smx_types.specs.declared.view.ConfigView.{ConfigView}
-use Rattle.smx_model.specs.Configuration.{QueuedMessage, bind_before, fd_before, pair_before}
+use Rattle.smx_model.specs.Configuration.{Configuration, QueuedMessage, bind_before, fd_before, pair_before}
 use Rattle.smx_model.specs.Configuration.{place_before, route_before, side_number, stream_before}
 use Rattle.smx_model.specs.DriverList.{IsDriverList, name_of}
 use Rattle.smx_model.specs.KnownStreams.{IsKnown}
@@ -73,29 +73,25 @@ always [] = tt
 always (x ∷ xs) = (tt, always xs)
 
 module _ (drivers : List DriverSpec) (v : ConfigView) (s : IsShown drivers v) where
+  -- the configuration that is shown
+  abbrev c : Configuration
+  c = s.configuration
+
   -- descriptors
   pub fds_ranked : IsRanked (fd_rank drivers) v.fds
-  fds_ranked =
-      let c = s.configuration in
-      let is : v.fds ≡ map (view_of_fd drivers) c.fds = ap (λ (w : ConfigView). w.fds) s.is in
-      rw is (ranked_lines (fd_rank drivers) fd_before (view_of_fd drivers) (λ d. Unit {0})
+  fds_ranked = rw s.is (ranked_lines (fd_rank drivers) fd_before (view_of_fd drivers) (λ d. Unit {0})
       (λ x y p q h. h) c.fds (always c.fds) s.kept.sound.ordered.fds)
 
   -- links
   pub links_ranked : IsRanked (link_rank drivers) v.links
-  links_ranked =
-      let c = s.configuration in
-      let is : v.links ≡ map (view_of_link drivers) c.links = ap (λ (w : ConfigView). w.links) s.is in
-      rw is (ranked_lines (link_rank drivers) (λ l k. nat_lt l.id k.id) (view_of_link drivers) (λ l. Unit {0})
-      (λ x y p q h. ids_ranked x.id y.id h) c.links (always c.links) s.kept.sound.ids.rise)
+  links_ranked = rw s.is (ranked_lines (link_rank drivers) (λ l k. nat_lt l.id k.id) (view_of_link drivers)
+      (λ l. Unit {0}) (λ x y p q h. ids_ranked x.id y.id h) c.links (always c.links) s.kept.sound.ids.rise)
 
   -- bindings
   pub binds_ranked : IsRanked (bind_rank drivers) v.binds
   binds_ranked =
-      let c = s.configuration in
-      let is : v.binds ≡ map (view_of_bind drivers) c.binds = ap (λ (w : ConfigView). w.binds) s.is in
       let Known : Binding → Type 0 = λ b. IsKnown drivers (record { driver = b.driver; minor = b.minor }) in
-      rw is (ranked_lines (bind_rank drivers) bind_before (view_of_bind drivers) Known
+      rw s.is (ranked_lines (bind_rank drivers) bind_before (view_of_bind drivers) Known
       (λ x y p q h. rw
       (number_is drivers x.driver s.valid_drivers p.0, number_is drivers y.driver s.valid_drivers q.0) h)
       c.binds (recursion_from_All Known c.binds s.kept.sound.known.binds) s.kept.sound.ordered.binds)
@@ -103,20 +99,16 @@ module _ (drivers : List DriverSpec) (v : ConfigView) (s : IsShown drivers v) wh
   -- routes
   pub routes_ranked : IsRanked (route_rank drivers) v.routes
   routes_ranked =
-      let c = s.configuration in
-      let is : v.routes ≡ map (view_of_route drivers) c.routes = ap (λ (w : ConfigView). w.routes) s.is in
       let Known : Route → Type 0 = λ r. r.driver < length drivers in
-      rw is (ranked_lines (route_rank drivers) route_before (view_of_route drivers) Known
+      rw s.is (ranked_lines (route_rank drivers) route_before (view_of_route drivers) Known
       (λ x y p q h. rw (number_is drivers x.driver s.valid_drivers p, number_is drivers y.driver s.valid_drivers q) h)
       c.routes (recursion_from_All Known c.routes s.kept.sound.known.routes) s.kept.sound.ordered.routes)
 
   -- full places
   pub fulls_ranked : IsRanked (full_rank drivers) v.fulls
   fulls_ranked =
-      let c = s.configuration in
-      let is : v.fulls ≡ map (view_of_full drivers) c.fulls = ap (λ (w : ConfigView). w.fulls) s.is in
       let Known : Place → Type 0 = λ p. IsKnown drivers p.stream in
-      rw is (ranked_lines (full_rank drivers) place_before (view_of_full drivers) Known
+      rw s.is (ranked_lines (full_rank drivers) place_before (view_of_full drivers) Known
       (λ x y p q h. rw (
         number_is drivers x.stream.driver s.valid_drivers p.0,
         number_is drivers y.stream.driver s.valid_drivers q.0,
@@ -127,14 +119,10 @@ module _ (drivers : List DriverSpec) (v : ConfigView) (s : IsShown drivers v) wh
 
   -- hung-up streams
   pub hungs_ranked : IsRanked (hung_rank drivers) v.hungs
-  hungs_ranked =
-      let c = s.configuration in
-      let is : v.hungs ≡ map (view_of_hung drivers) c.hungs = ap (λ (w : ConfigView). w.hungs) s.is in
-      let Known : StreamId → Type 0 = λ t. IsKnown drivers t in
-      rw is (ranked_lines (hung_rank drivers) stream_before (view_of_hung drivers) Known
+  hungs_ranked = rw s.is (ranked_lines (hung_rank drivers) stream_before (view_of_hung drivers) (IsKnown drivers)
       (λ x y p q h. rw
       (number_is drivers x.driver s.valid_drivers p.0, number_is drivers y.driver s.valid_drivers q.0) h)
-      c.hungs (recursion_from_All Known c.hungs s.kept.sound.known.hungs) s.kept.sound.ordered.hungs)
+      c.hungs (recursion_from_All (IsKnown drivers) c.hungs s.kept.sound.known.hungs) s.kept.sound.ordered.hungs)
 
 -- a serial that differs from later ones differs from those of later lines
 apart_after : (drivers : List DriverSpec) (n : ℕ) (hs : List QueuedMessage)
@@ -151,8 +139,5 @@ apart_lines drivers (k ∷ ks) h = (apart_after drivers k.message.serial ks h.0,
 
 -- messages
 pub serials_apart : (drivers : List DriverSpec) (v : ConfigView) → IsShown drivers v → AreSerialsApart v.msgs
-serials_apart drivers v s =
-    let c = s.configuration in
-    let is : v.msgs ≡ map (view_of_message drivers) c.flow = ap (λ (w : ConfigView). w.msgs) s.is in
-    rw is (apart_lines drivers c.flow
-    (later_pairs (λ m n. m ≢ n) (serials c.flow) s.kept.sound.serials.apart))
+serials_apart drivers v s = rw s.is (apart_lines drivers s.configuration.flow
+    (later_pairs (λ m n. m ≢ n) (serials s.configuration.flow) s.kept.sound.serials.apart))

@@ -22,7 +22,7 @@ use Rattle.smx_trace.specs.Replays.{IsReplayOf, IsReplayText}
 -- ---- what the laws of histories say
 
 -- two legal histories of the same calls are the same
-abbrev AreDetermined : Type 0
+abbrev pub AreDetermined : Type 0
 AreDetermined = (drivers : List DriverSpec) (one other : List Entry) → IsLegal drivers one → IsLegal drivers other
     → map call_of one ≡ map call_of other → one ≡ other
 

@@ -132,9 +132,7 @@ one_more_change {X} f same xs ys i x start out new lt is h e =
     ap (λ (zs : List X). changes_text (map f zs)) (filter-append Kept (take i xs) (x ∷ []))
     ∙ ap changes_text (map-append f (filter Kept (take i xs)) (filter Kept (x ∷ [])))
     ∙ flat_map-append _ (map f (filter Kept (take i xs))) (map f (filter Kept (x ∷ []))) in
-    e ∙ ap (λ (w : List ℕ). w ++ text_by f same (x ∷ []) ys) h ∙ append_assoc start _ _
-    ∙ ap (λ (w : List ℕ). start ++ w) (sym apart)
-    ∙ ap (λ (zs : List X). start ++ text_by f same zs ys) (sym more)
+    rw (more, apart, e, h) (append_assoc start _ _)
 
 -- what follows from a success
 pub then_ok : {A E P Q : Type 0} (r : Result A E) → (P → Q) → OnOk r P → OnOk r Q

@@ -109,12 +109,8 @@ traced_more each drivers opening asked e m n text new h traced =
       same = here.drivers;
       now = here.performed ∙ sym (after_push drivers asked e);
       written =
-          here.written
-          ∙ ap (λ (t : List ℕ). t ++ Text (lines_of_entry each drivers c a)) h.written
-          ∙ append_assoc opening (Text Before) _
-          ∙ ap (λ (t : List ℕ). opening ++ t)
-          (sym (flat_map-append (trace_line_text drivers) Before (lines_of_entry each drivers c a)))
-          ∙ ap (λ (ls : List TraceLine). opening ++ Text ls) (sym one);
+          rw (one, flat_map-append (trace_line_text drivers) Before (lines_of_entry each drivers c a), here.written,
+          h.written) (append_assoc opening (Text Before) _);
     }
 
 -- ---- the configuration

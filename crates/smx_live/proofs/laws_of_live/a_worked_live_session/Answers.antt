@@ -1,4 +1,5 @@
 use Rattle.std.proofs.Common.{inl, inr, refl}
+use Rattle.smx_types.specs.declared.version.Version.TheVariants.{V2}
 use Rattle.smx_live.proofs.WorkedLiveLemmas as worked
 use Rattle.smx_live.proofs.laws_of_live.a_worked_live_session.Goals as goal
 
@@ -36,7 +37,7 @@ pub returns-clause-full_is_reported : goal.returns-clause-full_is_reported
 returns-clause-full_is_reported c = worked.full_is_reported
 
 pub returns-clause-no_memory_for_no_command : goal.returns-clause-no_memory_for_no_command
-returns-clause-no_memory_for_no_command c = worked.no_memory_for_no_command
+returns-clause-no_memory_for_no_command c = worked.no_memory_for_no_command V2
 
 pub returns-clause-over_within_a_driver : goal.returns-clause-over_within_a_driver
 returns-clause-over_within_a_driver c = worked.over_within_a_driver

@@ -1,4 +1,6 @@
+use Rattle.smx_types.specs.declared.version.Version.TheVariants.{V1}
 use Rattle.smx_live.proofs.RefusedLineLemmas as line
+use Rattle.smx_live.proofs.WorkedLiveLemmas.{no_memory_for_no_command}
 use Rattle.smx_live.proofs.laws_of_live.why_lines_are_refused.Goals as goal
 
 pub returns-clause-full : goal.returns-clause-full
@@ -32,7 +34,7 @@ pub returns-clause-no_memory_to_show : goal.returns-clause-no_memory_to_show
 returns-clause-no_memory_to_show c = line.no_memory_to_show
 
 pub returns-clause-no_memory_for_no_command : goal.returns-clause-no_memory_for_no_command
-returns-clause-no_memory_for_no_command c = line.no_memory_for_no_command
+returns-clause-no_memory_for_no_command c = no_memory_for_no_command V1
 
 pub returns-clause-no_command_of_version_1 : goal.returns-clause-no_command_of_version_1
 returns-clause-no_command_of_version_1 c = line.no_command_of_version_1 c.which_lines_are_calls.ensures.not_of_a_hangup

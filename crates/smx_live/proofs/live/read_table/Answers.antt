@@ -5,7 +5,7 @@ use Rattle.std.proofs.lemmas.List.{append-nil}
 use Rattle.smx_words.specs.Words.{lines_text}
 use Rattle.smx_live.specs.Tables.{begins_driver}
 use Rattle.smx_live.proofs.InboxLemmas.{moved, unmoved}
-use Rattle.smx_live.proofs.TableLemmas.{fails_with, has_table, one_line_more, over_at_a_line, text_more}
+use Rattle.smx_live.proofs.TableLemmas.{fails_with, has_table, no_table_read, one_line_more, over_at_a_line, text_more}
 use Rattle.smx_live.proofs.live.read_table.Goals as goal
 
 pub lines-init : goal.lines-init
@@ -44,17 +44,8 @@ returns-in-Err g c =
     let (lines, text, were) = c.lines.invariant.lines in
     let (piece, p) = c.in-Err.ensures in (
       read ++ piece,
-      record {
-        consumed = Consumes-trans _ _ _ read piece consumed p.consumed;
-        parts = tt;
-        over = tt;
-        end = tt;
-        fine = tt;
-        fits = tt;
-        fault = fails_with c.args.inbox.now.held.items read piece c.lines.table.items c.lines.inbox.held.items lines
-            parts
-            text were _ _ p.fault;
-      },
+      no_table_read (Consumes-trans _ _ _ read piece consumed p.consumed) (fails_with c.args.inbox.now.held.items read
+          piece c.lines.table.items c.lines.inbox.held.items lines parts text were _ _ p.fault),
     )
 
 pub returns-then-not-is_of_table : goal.returns-then-not-is_of_table
@@ -83,18 +74,8 @@ returns-then-not-is_of_table g c =
 pub returns-then-is_err : goal.returns-then-is_err
 returns-then-is_err g c =
     let (read, consumed, parts) = c.lines.invariant.so_far in
-    let (piece, p) = c.in-Ok-Some.ensures in (
-      read ++ piece,
-      record {
-        consumed = Consumes-trans _ _ _ read piece consumed p.consumed;
-        parts = tt;
-        over = tt;
-        end = tt;
-        fine = tt;
-        fits = tt;
-        fault = (p.fine, refl);
-      },
-    )
+    let (piece, p) = c.in-Ok-Some.ensures in
+    (read ++ piece, no_table_read (Consumes-trans _ _ _ read piece consumed p.consumed) (p.fine, refl))
 
 pub lines-preserved : goal.lines-preserved
 lines-preserved g c =
