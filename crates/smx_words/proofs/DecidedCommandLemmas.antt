@@ -1,121 +1,198 @@
--- Commands, calls, replies and entries have words of their own, and it is decided whether words are those of one.
-use Rattle.std.proofs.Common.{◌≢◌, ℕ, List, refl, subst, rules, inr}
+-- Commands, calls, replies and entries have words of their own.
+use Rattle.std.proofs.Common.{◌≡◌, ◌≢◌, ℕ, Bool, true, false, cond, if◌then◌else◌, ap, List, [], ◌∷◌, ◌++◌, map, get_or, drop, refl, rules, arith}
 use Rattle.std.specs.List.{AllByRecursion}
 use Rattle.std.specs.Prelude.{codes}
+use Rattle.std.specs.Fmt.{decimal}
+use Rattle.std.specs.Cmp.Lexicographic.{pointwise}
+use Rattle.std.specs.Str.{bytes_eq}
+use Rattle.std.proofs.lemmas.Bool.Decides.{nat_tests}
 use Rattle.smx_types.specs.declared.command.Command.{Command}
 use Rattle.smx_types.specs.declared.command.Command.TheVariants as command
+use Rattle.smx_types.specs.declared.reply.Fault.{Fault}
+use Rattle.smx_types.specs.declared.reply.Fault.TheVariants as fault
+use Rattle.smx_types.specs.declared.reply.Reply.{Reply}
 use Rattle.smx_types.specs.declared.reply.Reply.TheVariants as reply
-use Rattle.smx_words.specs.Spellable.{FitsCall, FitsCommand, FitsEntry, FitsReply}
-use Rattle.smx_words.specs.Spelling.{call_words, command_words, entry_words, reply_words}
-use Rattle.smx_words.specs.Words.{EQUALS, IsFree}
-use Rattle.smx_words.proofs.DecidedLemmas.{Answer, HasWords, after, each, first, joined, last, nothing, or_else}
-use Rattle.smx_words.proofs.DecidedLemmas.{via}
-use Rattle.smx_words.proofs.DecidedWordLemmas.{bytes, name, number, number_which, process, two_numbers}
-use Rattle.smx_words.proofs.LineLemmas.{all_weaker}
+use Rattle.smx_words.specs.declared.reading.verb.Verb.{Verb}
+use Rattle.smx_words.specs.declared.reading.verb.Verb.TheVariants as verb
+use Rattle.smx_words.specs.Spellable.{FitsAlways, FitsCall, FitsCommand, FitsEntry, FitsNumber, FitsReply}
+use Rattle.smx_words.specs.Spelling.{call_words, command_words, entry_words, fault_words, reply_words}
+use Rattle.smx_words.specs.Verbs.{verb_word}
+use Rattle.smx_words.specs.Words.{EQUALS, IsFree, IsWord, SPACE, line_of}
+use Rattle.smx_words.proofs.DecidedLemmas.{HasWords, first, first_of_these}
+use Rattle.smx_words.proofs.DecidedWordLemmas.{bytes, flush_sides, id_or_all, name, number, process}
+use Rattle.smx_words.proofs.LineLemmas.{all_append}
 use Rattle.smx_words.proofs.PlainLemmas.{command_plain, plain_words, plain_words_free, reply_plain}
-use Rattle.smx_words.proofs.SameCommandLemmas.{same_command}
-use Rattle.smx_words.proofs.SameReplyLemmas.{same_reply}
-use Rattle.smx_words.proofs.SameWordLemmas.{every_fault, flush_sides}
 
--- any words are those of a command, or of no command
-command_answer : (ws : List (List ℕ)) → Answer FitsCommand command_words ws
-command_answer ws =
-    or_else command.OpenClone (after (codes "clone") refl (last name)) (λ p h. h) (λ no_clone.
-    or_else (λ p. command.OpenMinor p.0 p.1) (after (codes "open") refl (first name (last number))) (λ p h. h)
-    (λ no_open.
-    or_else command.Dup (after (codes "dup") refl (last number)) (λ p h. h) (λ no_dup.
-    or_else command.Close (after (codes "close") refl (last number)) (λ p h. h) (λ no_close.
-    or_else (λ p. command.CloseAll) (after (codes "exit") refl nothing) (λ p h. h) (λ no_exit.
-    or_else (λ p. command.Link p.0 p.1) (after (codes "link") refl two_numbers) (λ p h. h) (λ no_link.
-    or_else (λ p. command.Plink p.0 p.1) (after (codes "plink") refl two_numbers) (λ p h. h) (λ no_plink.
-    or_else (λ p. command.Unlink p.0 p.1) (after (codes "unlink") refl number_which) (λ p h. h) (λ no_unlink.
-    or_else (λ p. command.Punlink p.0 p.1) (after (codes "punlink") refl number_which) (λ p h. h) (λ no_punlink.
-    or_else (λ p. command.Bind p.0 p.1) (after (codes "bind") refl two_numbers) (λ p h. h) (λ no_bind.
-    or_else command.Unbind (after (codes "unbind") refl (last number)) (λ p h. h) (λ no_unbind.
-    or_else (λ p. command.Route p.0 p.1.0 p.1.1) (after (codes "route") refl (first number two_numbers))
-    (λ p h. (h.0, h.1.0, h.1.1)) (λ no_route.
-    or_else (λ p. command.Unroute p.0 p.1) (after (codes "unroute") refl two_numbers) (λ p h. h) (λ no_unroute.
-    or_else (λ p. command.Write p.0 p.1.0 p.1.1)
-    (after (codes "write") refl (first number (first number (last bytes)))) (λ p h. (h.0, h.1.0, h.1.1)) (λ no_write.
-    or_else command.Read (after (codes "read") refl (last number)) (λ p h. h) (λ no_read.
-    or_else (λ p. command.Flush p.0 p.1) (after (codes "flush") refl (first number (last flush_sides)))
-    (λ p h. h.0) (λ no_flush.
-    or_else (λ p. command.Inject p.0 p.1.0 p.1.1.0 p.1.1.1)
-    (after (codes "inject") refl (first name (first number (first number (last bytes)))))
-    (λ p h. (h.0, h.1.0, h.1.1.0, h.1.1.1)) (λ no_inject.
-    or_else (λ p. command.Transmit p.0 p.1) (after (codes "transmit") refl (first name (last number))) (λ p h. h)
-    (λ no_transmit.
-    or_else (λ p. command.Hangup p.0 p.1) (after (codes "hangup") refl (first name (last number))) (λ p h. h)
-    (λ no_hangup.
-    inr (λ x. (elim x as (λ x. FitsCommand x → ws ≢ command_words x) [
-      | command.OpenClone d ↦ no_clone d
-      | command.OpenMinor d n ↦ no_open (d, n)
-      | command.Dup n ↦ no_dup n
-      | command.Close n ↦ no_close n
-      | command.CloseAll ↦ no_exit tt
-      | command.Link n m ↦ no_link (n, m)
-      | command.Plink n m ↦ no_plink (n, m)
-      | command.Unlink n x ↦ no_unlink (n, x)
-      | command.Punlink n x ↦ no_punlink (n, x)
-      | command.Bind n m ↦ no_bind (n, m)
-      | command.Unbind n ↦ no_unbind n
-      | command.Route n m k ↦ λ h. no_route (n, (m, k)) (h.0, (h.1, h.2))
-      | command.Unroute n m ↦ no_unroute (n, m)
-      | command.Write n m bs ↦ λ h. no_write (n, (m, bs)) (h.0, (h.1, h.2))
-      | command.Read n ↦ no_read n
-      | command.Flush n s ↦ λ h. no_flush (n, s) (h, tt)
-      | command.Inject d n m bs ↦ λ h. no_inject (d, (n, (m, bs))) (h.0, (h.1, (h.2, h.3)))
-      | command.Transmit d n ↦ no_transmit (d, n)
-      | command.Hangup d n ↦ no_hangup (d, n)
-    ])))))))))))))))))))))
+-- ---- commands
 
--- each command has words of its own, and it is decided whether words are a command's
-pub command_has_words : HasWords FitsCommand command_words
+-- the verb of this word
+abbrev pub verb_at : List ℕ → Verb
+verb_at = first_of_these bytes_eq verb_word (
+    verb.Clone ∷ verb.Open ∷ verb.Dup ∷ verb.Close ∷ verb.Exit ∷ verb.Link ∷ verb.Plink ∷ verb.Unlink ∷ verb.Punlink
+    ∷ verb.Bind ∷ verb.Unbind ∷ verb.Route ∷ verb.Unroute ∷ verb.Write ∷ verb.Read ∷ verb.Flush ∷ verb.Inject
+    ∷ verb.Transmit ∷ []
+    ) verb.Hangup
+
+-- the command of a verb, if these are its words
+abbrev command_of : List (List ℕ) → Verb → Command
+command_of ws verb.Clone = command.OpenClone (name.guess (get_or ws 1 []))
+command_of ws verb.Open = command.OpenMinor (name.guess (get_or ws 1 [])) (number.guess (get_or ws 2 []))
+command_of ws verb.Dup = command.Dup (number.guess (get_or ws 1 []))
+command_of ws verb.Close = command.Close (number.guess (get_or ws 1 []))
+command_of ws verb.Exit = command.CloseAll
+command_of ws verb.Link = command.Link (number.guess (get_or ws 1 [])) (number.guess (get_or ws 2 []))
+command_of ws verb.Plink = command.Plink (number.guess (get_or ws 1 [])) (number.guess (get_or ws 2 []))
+command_of ws verb.Unlink = command.Unlink (number.guess (get_or ws 1 [])) (id_or_all.guess (get_or ws 2 []))
+command_of ws verb.Punlink = command.Punlink (number.guess (get_or ws 1 [])) (id_or_all.guess (get_or ws 2 []))
+command_of ws verb.Bind = command.Bind (number.guess (get_or ws 1 [])) (number.guess (get_or ws 2 []))
+command_of ws verb.Unbind = command.Unbind (number.guess (get_or ws 1 []))
+command_of ws verb.Route =
+    command.Route (number.guess (get_or ws 1 [])) (number.guess (get_or ws 2 [])) (number.guess (get_or ws 3 []))
+command_of ws verb.Unroute = command.Unroute (number.guess (get_or ws 1 [])) (number.guess (get_or ws 2 []))
+command_of ws verb.Write =
+    command.Write (number.guess (get_or ws 1 [])) (number.guess (get_or ws 2 [])) (bytes.guess (get_or ws 3 []))
+command_of ws verb.Read = command.Read (number.guess (get_or ws 1 []))
+command_of ws verb.Flush = command.Flush (number.guess (get_or ws 1 [])) (flush_sides.guess (get_or ws 2 []))
+command_of ws verb.Inject =
+    command.Inject (name.guess (get_or ws 1 [])) (number.guess (get_or ws 2 [])) (number.guess (get_or ws 3 []))
+    (bytes.guess (get_or ws 4 []))
+command_of ws verb.Transmit = command.Transmit (name.guess (get_or ws 1 [])) (number.guess (get_or ws 2 []))
+command_of ws verb.Hangup = command.Hangup (name.guess (get_or ws 1 [])) (number.guess (get_or ws 2 []))
+
+-- the command of a verb and any words can be spelled
+pub command_fits : (ws : List (List ℕ)) (v : Verb) → FitsCommand (command_of ws v)
+command_fits ws verb.Clone = name.fits (get_or ws 1 [])
+command_fits ws v = grind (arith, number.fits, name.fits, bytes.fits, id_or_all.fits)
+
+-- a command is given back from its words
+pub command_again : (c : Command) → FitsCommand c
+    → command_of (command_words c) (verb_at (get_or (command_words c) 0 [])) ≡ c
+command_again command.CloseAll h = refl
+command_again c h = grind (arith, number.again, name.again, bytes.again, id_or_all.again, flush_sides.again)
+
+-- each command has words of its own
+unfoldable pub command_has_words : HasWords FitsCommand command_words
 command_has_words = record {
-  answer = command_answer;
-  one = same_command;
+  guess = λ ws. command_of ws (verb_at (get_or ws 0 []));
+  fits = λ ws. command_fits ws (verb_at (get_or ws 0 []));
+  again = command_again;
   are_words = λ c h. plain_words (command_words c) (command_plain c h);
 }
 
--- any words are those of a reply, or of no reply
-reply_answer : (ws : List (List ℕ)) → Answer FitsReply reply_words ws
-reply_answer ws =
-    or_else (λ p. reply.Fd p.0 p.1) (after (codes "fd") refl two_numbers) (λ p h. h) (λ no_fd.
-    or_else reply.Id (after (codes "id") refl (last number)) (λ p h. h) (λ no_id.
-    or_else reply.Took (after (codes "took") refl (last number)) (λ p h. h) (λ no_took.
-    or_else (λ p. reply.Got p.0 p.1.0 p.1.1) (after (codes "got") refl (first number (first number (last bytes))))
-    (λ p h. (h.0, h.1.0, h.1.1)) (λ no_got.
-    or_else reply.Done (after (codes "done") refl (each number)) (λ p h. h) (λ no_done.
-    or_else (λ p. reply.Eof) (after (codes "eof") refl nothing) (λ p h. h) (λ no_eof.
-    or_else reply.Fault every_fault (λ f h. tt) (λ no_fault.
-    inr (λ x. (elim x as (λ x. FitsReply x → ws ≢ reply_words x) [
-      | reply.Fd n m ↦ no_fd (n, m)
-      | reply.Id n ↦ no_id n
-      | reply.Took n ↦ no_took n
-      | reply.Got n m bs ↦ λ h. no_got (n, (m, bs)) (h.0, (h.1, h.2))
-      | reply.Done ns ↦ no_done ns
-      | reply.Eof ↦ no_eof tt
-      | reply.Fault f ↦ no_fault f
-    ])))))))))
+-- each call has words of its own
+unfoldable pub call_has_words : HasWords FitsCall call_words
+call_has_words = first process command_has_words
 
--- each reply has words of its own, and it is decided whether words are a reply's
-pub reply_has_words : HasWords FitsReply reply_words
+-- a line that does not start with a verb and a space, and is not `exit`, is no command's
+pub no_verb : (line : List ℕ) → ((v : Verb) (after : List ℕ) → FitsAlways v
+    → line ≢ verb_word v ++ SPACE ∷ after) → line ≢ codes "exit" → (c : Command) → FitsCommand c
+    → line ≢ line_of (command_words c)
+no_verb line none alone command.CloseAll fits e = alone e
+no_verb line none alone c fits e = none (verb_at (get_or (command_words c) 0 [])) _ tt e
+
+-- ---- replies
+
+-- the fault of these words
+abbrev fault_at : List (List ℕ) → Fault
+fault_at = first_of_these (pointwise bytes_eq) fault_words (
+    fault.BadDescriptor ∷ fault.Below ∷ fault.NotMux ∷ fault.AlreadyBelow ∷ fault.Cycle ∷ fault.TooManyLinks
+    ∷ fault.NoLink ∷ fault.NoDriver ∷ fault.NoMinor ∷ fault.TooManyDescriptors ∷ fault.AddressInUse ∷ fault.Unbound
+    ∷ fault.Unrouted ∷ fault.Full ∷ fault.Empty ∷ fault.BadSize ∷ []
+    ) fault.HungUp
+
+-- the reply with these words, of which this is the first
+abbrev reply_of : List (List ℕ) → List ℕ → Reply
+reply_of ws w =
+    if bytes_eq w (codes "fd") then reply.Fd (number.guess (get_or ws 1 [])) (number.guess (get_or ws 2 []))
+    else if bytes_eq w (codes "id") then reply.Id (number.guess (get_or ws 1 []))
+    else if bytes_eq w (codes "took") then reply.Took (number.guess (get_or ws 1 []))
+    else if bytes_eq w (codes "got") then
+    reply.Got (number.guess (get_or ws 1 [])) (number.guess (get_or ws 2 [])) (bytes.guess (get_or ws 3 []))
+    else if bytes_eq w (codes "done") then reply.Done (map number.guess (drop 1 ws))
+    else if bytes_eq w (codes "eof") then reply.Eof
+    else reply.Fault (fault_at ws)
+
+-- the numbers of any words fit
+numbers_fit : (ws : List (List ℕ)) → AllByRecursion FitsNumber (map number.guess ws)
+numbers_fit [] = tt
+numbers_fit (w ∷ ws) = (number.fits w, numbers_fit ws)
+
+-- the reply of any words can be spelled
+pub reply_fits : (ws : List (List ℕ)) → FitsReply (reply_of ws (get_or ws 0 []))
+reply_fits ws = search (rules, either, number.fits, bytes.fits, numbers_fit) where
+  either : (t : Bool) (r s : Reply) → FitsReply r → FitsReply s → FitsReply (cond t r s)
+  either true r s h k = h
+  either false r s h k = k
+
+-- numbers are given back from their words
+numbers_again : (ns : List ℕ) → AllByRecursion FitsNumber ns → map number.guess (map decimal ns) ≡ ns
+numbers_again [] h = refl
+numbers_again (n ∷ ns) h = cc (number.again n h.0, numbers_again ns h.1)
+
+-- a fault is given back from its words
+fault_again : (f : Fault) → reply_of (fault_words f) (get_or (fault_words f) 0 []) ≡ reply.Fault f
+fault_again fault.BadDescriptor = refl
+fault_again f = refl
+
+-- a reply is given back from its words
+pub reply_again : (r : Reply) → FitsReply r → reply_of (reply_words r) (get_or (reply_words r) 0 []) ≡ r
+reply_again (reply.Fault f) h = fault_again f
+reply_again (reply.Done ns) h = ap reply.Done (numbers_again ns h)
+reply_again reply.Eof h = refl
+reply_again r h = grind (arith, number.again, bytes.again)
+
+-- each reply has words of its own
+unfoldable pub reply_has_words : HasWords FitsReply reply_words
 reply_has_words = record {
-  answer = reply_answer;
-  one = same_reply;
+  guess = λ ws. reply_of ws (get_or ws 0 []);
+  fits = reply_fits;
+  again = reply_again;
   are_words = λ r h. plain_words (reply_words r) (reply_plain r h);
 }
 
--- each call has words of its own, and it is decided whether words are a call's
-pub call_has_words : HasWords FitsCall call_words
-call_has_words = first process command_has_words
+-- ---- entries
 
--- each entry has words of its own, and it is decided whether words are an entry's
-pub entry_has_words : HasWords FitsEntry entry_words
-entry_has_words = via (λ p. record { process = p.0; command = p.1.0; reply = p.1.1 })
-    (first process (joined (codes "=") refl command_has_words no_sign reply_has_words))
-    (λ e. (e.process, (e.command, e.reply))) (λ p h. search rules) (λ e h. search rules) (λ e. refl) where
-      -- no word of a command is the equals sign
-      no_sign : (c : Command) → FitsCommand c → AllByRecursion (λ w. w ≢ codes "=") (command_words c)
-      no_sign c h = all_weaker (λ w k e. (subst (IsFree EQUALS) e k).0 refl) (command_words c)
-          (plain_words_free (command_words c) (command_plain c h))
+-- the words before the first equals sign, and those after it
+abbrev sides : List (List ℕ) → List (List ℕ) × List (List ℕ)
+sides [] = ([], [])
+sides (w ∷ ws) = cond (bytes_eq w (codes "=")) ([], ws) (w ∷ (sides ws).0, (sides ws).1)
+
+-- words without equals signs, before a sign, are the words before the first sign
+pub sides_are : (ws vs : List (List ℕ)) → AllByRecursion (IsFree EQUALS) ws → sides (ws ++ codes "=" ∷ vs) ≡ (ws, vs)
+sides_are [] vs h = refl
+sides_are (w ∷ ws) vs h = rw (no_sign w h.0, sides_are ws vs h.1) refl where
+  no_sign : (w : List ℕ) → IsFree EQUALS w → bytes_eq w (codes "=") ≡ false
+  no_sign [] k = refl
+  no_sign (b ∷ w) k = grind (arith, nat_tests)
+
+-- the equals sign is a word
+pub equals_is : IsWord (codes "=")
+equals_is = search rules
+
+-- each entry has words of its own
+unfoldable pub entry_has_words : HasWords FitsEntry entry_words
+entry_has_words = record {
+  guess = λ ws. record {
+    process = process.guess (get_or ws 0 []);
+    command = command_has_words.guess (sides (drop 1 ws)).0;
+    reply = reply_has_words.guess (sides (drop 1 ws)).1;
+  };
+  fits = λ ws. record {
+    process = process.fits (get_or ws 0 []);
+    command = command_has_words.fits (sides (drop 1 ws)).0;
+    reply = reply_has_words.fits (sides (drop 1 ws)).1;
+  };
+  again = λ e h.
+      rw (
+        sides_are (command_words e.command) (reply_words e.reply)
+            (plain_words_free (command_words e.command) (command_plain e.command h.command)),
+        process.again e.process h.process,
+        command_has_words.again e.command h.command,
+        reply_has_words.again e.reply h.reply,
+      ) refl;
+  are_words = λ e h. (
+    process.are_words e.process h.process,
+    all_append IsWord (command_words e.command) _ (command_has_words.are_words e.command h.command)
+        (equals_is, reply_has_words.are_words e.reply h.reply),
+  );
+}

@@ -2,7 +2,7 @@
 use Rattle.std.proofs.Common.{◌≡◌, ◌≢◌, Bool, true, false, ◌||◌, ℕ, List, Option, Some, None, ◌++◌, ◌∷◌, codes, refl}
 use Rattle.std.proofs.Common.{ap, subst, sym, ◌∙◌, ◌<◌, length}
 use Rattle.std.specs.Fmt.{decimal}
-use Rattle.smx_types.specs.Versions.{is_hangup, is_of_hangup, tells_of_hangup}
+use Rattle.smx_types.specs.Versions.{is_hangup, tells_of_hangup}
 use Rattle.smx_types.specs.declared.command.Command.{Command}
 use Rattle.smx_types.specs.declared.command.Entry.{Entry}
 use Rattle.smx_types.specs.declared.version.Version.{Version}

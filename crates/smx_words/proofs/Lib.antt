@@ -6,14 +6,9 @@ pub mod WordLemmas
 pub mod HexLemmas
 pub mod EntryLemmas
 pub mod ReplyLemmas
-pub mod CommandLemmas
 pub mod PlainLemmas
-pub mod SameWordLemmas
-pub mod SameCommandLemmas
-pub mod SameReplyLemmas
 pub mod InVersionLemmas
 pub mod DecidedLemmas
 pub mod DecidedWordLemmas
 pub mod DecidedLineLemmas
 pub mod DecidedCommandLemmas
-pub mod WorkedReadingLemmas

@@ -1,11 +1,10 @@
 -- The words of a line: no word contains a space, and the line determines them.
-use Rattle.std.proofs.Common.{◌≡◌, ◌≢◌, ℕ, ◌<◌, ◌≤◌, Bool, true, false, eqb, List, [], ◌∷◌, ◌++◌, length}
-use Rattle.std.proofs.Common.{refl, sym, ap, arith}
-use Rattle.std.specs.List.{AllByRecursion}
+use Rattle.std.proofs.Common.{◌≡◌, ◌≢◌, ℕ, zero, suc, ◌<◌, ◌≤◌, false, eqb, List, [], ◌∷◌, ◌++◌, length}
+use Rattle.std.proofs.Common.{refl, sym, ap, ◌∙◌, arith}
+use Rattle.std.specs.List.{All, AllByRecursion, slice_split}
 use Rattle.std.proofs.lemmas.Bool.Decides.{nat_tests}
-use Rattle.std.proofs.lemmas.List.{length-append}
+use Rattle.std.proofs.lemmas.List.Splits.{slice_split_at, slice_split_none}
 use Rattle.smx_words.specs.Words.{IsFree, IsWord, SPACE, line_of}
-use Rattle.smx_words.proofs.CutLemmas.{apart, no_space_in}
 
 -- ---- properties of all elements
 
@@ -43,48 +42,42 @@ line_free byte other (w ∷ v ∷ ws) h =
 
 -- ---- a line determines its words
 
--- any bytes are the line of one or more words without spaces
-pub words_in : (line : List ℕ) → (ws : List (List ℕ)) × AllByRecursion (IsFree SPACE) ws × (0 < length ws)
-    × (line ≡ line_of ws)
-words_in [] = ([] ∷ [], (tt, tt), omega arith, refl)
-words_in (b ∷ line) = let more = words_in line in by_byte (eqb b SPACE) refl more.0 more.1 more.2 more.3 where
-  no_space : b ≡ SPACE → eqb b SPACE ≡ false → ⊥
-  no_space s e = grind (arith, nat_tests)
+-- the words of a line
+abbrev pub words_in : List ℕ → List (List ℕ)
+words_in line = slice_split (λ b. eqb b SPACE) line
 
-  by_byte : (t : Bool) → eqb b SPACE ≡ t → (ws : List (List ℕ)) → AllByRecursion (IsFree SPACE) ws
-      → 0 < length ws → line ≡ line_of ws
-      → (ws : List (List ℕ)) × AllByRecursion (IsFree SPACE) ws × (0 < length ws) × (b ∷ line ≡ line_of ws)
-  by_byte t e [] free some is = absurd (omega (arith, some))
-  by_byte true e (w ∷ ws) free some is = let space : b ≡ SPACE = grind (arith, nat_tests) in
-      ([] ∷ w ∷ ws, (tt, free), omega arith, cc (space, is))
-  by_byte false e (w ∷ []) free some is = ((b ∷ w) ∷ [], ((λ s. no_space s e, free.0), tt), omega arith, cc is)
-  by_byte false e (w ∷ v ∷ ws) free some is =
-      ((b ∷ w) ∷ v ∷ ws, ((λ s. no_space s e, free.0), free.1), omega arith, cc is)
+-- no byte of a word without spaces is a space
+clear : (w : List ℕ) → IsFree SPACE w → All (λ b. eqb b SPACE ≡ false) w
+clear [] h i d lt = absurd (omega arith)
+clear (b ∷ w) h zero d lt = grind (arith, nat_tests)
+clear (b ∷ w) h (suc i) d lt = clear w h.1 i d (omega arith)
+
+-- one or more words without spaces are the words of their line
+pub words_again : (ws : List (List ℕ)) → AllByRecursion (IsFree SPACE) ws → 0 < length ws → words_in (line_of ws) ≡ ws
+words_again [] h some = absurd (omega (arith, some))
+words_again (w ∷ []) h some = slice_split_none _ w (clear w h.0)
+words_again (w ∷ v ∷ ws) h some =
+    slice_split_at _ w SPACE (line_of (v ∷ ws)) (clear w h.0) refl
+    ∙ ap (λ (vs : List (List ℕ)). w ∷ vs) (words_again (v ∷ ws) h.1 (omega arith))
 
 -- a line is that of only one list of words without spaces
 pub same_free_words : (ws vs : List (List ℕ)) → AllByRecursion (IsFree SPACE) ws
     → AllByRecursion (IsFree SPACE) vs → 0 < length ws → 0 < length vs → line_of ws ≡ line_of vs → ws ≡ vs
-same_free_words [] vs h k some more e = absurd (omega (arith, some))
-same_free_words (w ∷ ws) [] h k some more e = absurd (omega (arith, more))
-same_free_words (w ∷ []) (v ∷ []) h k some more e = ap (λ (x : List ℕ). x ∷ []) e
-same_free_words (w ∷ []) (v ∷ u ∷ vs) h k some more e = absurd (no_space_in v (line_of (u ∷ vs)) w h.0 (sym e))
-same_free_words (w ∷ u ∷ ws) (v ∷ []) h k some more e = absurd (no_space_in w (line_of (u ∷ ws)) v k.0 e)
-same_free_words (w ∷ u ∷ ws) (v ∷ t ∷ vs) h k some more e =
-    let one = apart SPACE w v (line_of (u ∷ ws)) (line_of (t ∷ vs)) h.0 k.0 e in
-    let rest = same_free_words (u ∷ ws) (t ∷ vs) h.1 k.1 (omega arith) (omega arith) one.1 in
-    cc (one.0, rest)
+same_free_words ws vs h k some more e = sym (words_again ws h some) ∙ ap words_in e ∙ words_again vs k more
 
 -- the line of one or more words is not empty
-some_line : (w : List ℕ) (ws : List (List ℕ)) → IsWord w → line_of (w ∷ ws) ≡ [] → ⊥
-some_line w [] h e = omega (arith, h.0, ap (length {A = ℕ}) e)
-some_line w (v ∷ ws) h e = omega (arith, h.0, ap (length {A = ℕ}) e, length-append w (SPACE ∷ line_of (v ∷ ws)))
+some_line : (w : List ℕ) (ws : List (List ℕ)) → AllByRecursion IsWord (w ∷ ws) → line_of (w ∷ ws) ≢ []
+some_line w ws h e =
+    let all = sym (words_again (w ∷ ws) (words_free SPACE (omega arith) (w ∷ ws) h) (omega arith)) ∙ ap words_in e in
+    let empty : w ≡ [] = cc all in
+    omega (arith, h.0.0, ap (length {A = ℕ}) empty)
 
 -- two lists of words with the same line are equal
 pub same_words : (ws vs : List (List ℕ)) → AllByRecursion IsWord ws → AllByRecursion IsWord vs
     → line_of ws ≡ line_of vs → ws ≡ vs
 same_words [] [] h k e = refl
-same_words [] (v ∷ vs) h k e = absurd (some_line v vs k.0 (sym e))
-same_words (w ∷ ws) [] h k e = absurd (some_line w ws h.0 e)
+same_words [] (v ∷ vs) h k e = absurd (some_line v vs k (sym e))
+same_words (w ∷ ws) [] h k e = absurd (some_line w ws h e)
 same_words (w ∷ ws) (v ∷ vs) h k e =
     same_free_words (w ∷ ws) (v ∷ vs) (words_free SPACE (omega arith) (w ∷ ws) h)
     (words_free SPACE (omega arith) (v ∷ vs) k) (omega arith) (omega arith) e

@@ -13,7 +13,7 @@ use Rattle.smx_words.proofs.LineLemmas.{seen_free}
 -- a word contains no space
 pub word_free : {X : Type 0} {Fits : X → Type 0} {word : X → List ℕ} → HasWord Fits word → (x : X) → Fits x
     → IsFree SPACE (word x)
-word_free {word = word} d x fits = seen_free SPACE (omega arith) (word x) (d.is_word x fits).1
+word_free {word = word} d x fits = seen_free SPACE (omega arith) (word x) (d.are_words x fits).1
 
 -- the first word of a reply contains no space
 pub reply_verb_free : (v : ReplyVerb) → FitsAlways v → IsFree SPACE (reply_verb_word v)

@@ -1,27 +1,20 @@
-use Rattle.std.proofs.Common.{arith}
-use Rattle.smx_words.proofs.WorkedReadingLemmas.{leading_zero, not_eight, seven_is, too_large}
+use Rattle.std.proofs.Common.{refl, arith}
+use Rattle.std.specs.Fmt.{digits}
+use Rattle.std.specs.Prelude.{codes}
+use Rattle.smx_words.proofs.DecidedLemmas.{one, refused}
+use Rattle.smx_words.proofs.DecidedWordLemmas.{number}
 use Rattle.smx_words.proofs.laws_of_reading.what_is_found_in_bytes.Goals as goal
 
-pub returns-clause-found : goal.returns-clause-found
-returns-clause-found c = (omega arith, seven_is)
-
-pub returns-clause-not_another : goal.returns-clause-not_another
-returns-clause-not_another c h = not_eight h.1
-
-pub returns-clause-none : goal.returns-clause-none
-returns-clause-none c = leading_zero
-
-pub returns-clause-none_too_large : goal.returns-clause-none_too_large
-returns-clause-none_too_large c = too_large
-
-pub returns-clause-not_none : goal.returns-clause-not_none
-returns-clause-not_none c h = h 7 (omega arith) seven_is
-
-pub returns-clause-spelled : goal.returns-clause-spelled
-returns-clause-spelled c = (7, omega arith, seven_is)
-
-pub returns-clause-not_spelled : goal.returns-clause-not_spelled
-returns-clause-not_spelled c (n, fits, is) = leading_zero n fits is
-
-pub returns-clause-too_large_to_be_spelled : goal.returns-clause-too_large_to_be_spelled
-returns-clause-too_large_to_be_spelled c (n, fits, is) = too_large n fits is
+pub returns : goal.returns
+unfolding digits number
+returns c = record {
+  found = (omega arith, refl);
+  not_another = λ h. omega (arith, one number 7 8 (omega arith) (omega arith) h.1);
+  not_too_large = λ h. omega (arith, h.0);
+  none = refused number (codes "07") refl;
+  none_too_large = refused number (codes "4294967296") refl;
+  not_none = λ h. h 7 (omega arith) refl;
+  spelled = (7, omega arith, refl);
+  not_spelled = λ p. refused number (codes "07") refl p.0 p.1 p.2;
+  too_large_to_be_spelled = λ p. refused number (codes "4294967296") refl p.0 p.1 p.2;
+}

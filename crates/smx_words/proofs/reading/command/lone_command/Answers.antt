@@ -1,5 +1,5 @@
 use Rattle.std.specs.Prelude.{codes}
-use Rattle.smx_words.proofs.CommandLemmas.{no_verb}
+use Rattle.smx_words.proofs.DecidedCommandLemmas.{no_verb}
 use Rattle.smx_words.proofs.CutLemmas.{differs}
 use Rattle.smx_words.proofs.reading.command.lone_command.Goals as goal
 

@@ -1,4 +1,4 @@
-use Rattle.std.proofs.Common.{[], ◌∷◌, ◌++◌, arith}
+use Rattle.std.proofs.Common.{[], ◌∷◌, arith}
 use Rattle.smx_words.proofs.ReplyLemmas.{one_more, last_is_none, none_left}
 use Rattle.smx_words.proofs.reading.reply.serials.Goals as goal
 

@@ -1,7 +1,7 @@
 use Rattle.smx_words.specs.Spelling.{kind_word}
 use Rattle.smx_words.specs.Spellable.{FitsAlways}
 use Rattle.smx_words.proofs.CutLemmas.{no_field}
-use Rattle.smx_words.proofs.SameWordLemmas.{driver_kind}
+use Rattle.smx_words.proofs.DecidedWordLemmas.{driver_kind}
 use Rattle.smx_words.proofs.WordLemmas.{word_free}
 use Rattle.smx_words.proofs.reading.word.first_kind.Goals as goal
 

@@ -1,7 +1,7 @@
 use Rattle.smx_words.specs.Spelling.{side_word}
 use Rattle.smx_words.specs.Spellable.{FitsAlways}
 use Rattle.smx_words.proofs.CutLemmas.{no_field}
-use Rattle.smx_words.proofs.SameWordLemmas.{stream_side}
+use Rattle.smx_words.proofs.DecidedWordLemmas.{stream_side}
 use Rattle.smx_words.proofs.WordLemmas.{word_free}
 use Rattle.smx_words.proofs.reading.word.first_side.Goals as goal
 
