@@ -1,6 +1,6 @@
 -- The output of a worked session if memory runs out.
 use Rattle.std.proofs.Common.{◌≡◌, ◌≢◌, ℕ, Bool, true, false, List, [], ◌∷◌, ◌++◌, map, refl, sym, ap, ap₂, subst, ◌∙◌}
-use Rattle.std.proofs.Common.{inl, inr, arith, rules}
+use Rattle.std.proofs.Common.{inl, inr, arith}
 use Rattle.std.proofs.lemmas.List.{append-nil}
 use Rattle.std.specs.Prelude.{codes}
 use Rattle.smx_types.specs.ProgramLists.{ProgramLists}
@@ -15,12 +15,15 @@ use Rattle.smx_text.specs.TranscriptText.{transcript_grammar}
 use Rattle.smx_explain.specs.ColumnWords.{IsExplanationOf}
 use Rattle.smx_session.specs.Sessions.{IsStartOf}
 use Rattle.smx_session.specs.WorkedSessions.{begun, drivers, opened, table}
-use Rattle.smx_live.specs.LiveText.{HasComeSoFar, IsBroken, IsLive}
+use Rattle.smx_live.specs.LiveText.{HasComeSoFar, IsBroken}
 use Rattle.smx_live.specs.Tables.{IsTable, table_text}
 use Rattle.smx_live.specs.Turns.{Turn, asked_text, said_text}
 use Rattle.smx_live.specs.WorkedLives.{worked_answers, worked_below, worked_input, worked_table}
-use Rattle.smx_live.proofs.OneOutputLemmas.{HasOneReading, asked_cons, table_once, value_once}
-use Rattle.smx_live.proofs.WorkedLiveLemmas.{answered, begins, opening_is, table_over}
+use Rattle.smx_live.proofs.OneOutputLemmas.{HasOneReading, asked_cons, value_once}
+use Rattle.smx_live.proofs.OverTableLemmas.{table_once}
+use Rattle.smx_live.proofs.LiveLemmas as live
+use Rattle.smx_live.proofs.TableLemmas.{over_at_the_end}
+use Rattle.smx_live.proofs.WorkedLiveLemmas.{answered, begins, opening_is, worked_lines, worked_over}
 
 -- the opening of the worked session
 abbrev opening : List ℕ
@@ -28,38 +31,13 @@ opening = codes "transcript 2\ndriver eth leaf 2 8 3 16\n"
 
 -- ---- possible output
 
--- the worked session after its opening, before it takes a line
-begun_alone : IsStartOf table begun → (explain : Bool)
-    → IsLive explain worked_input false opening begun (record { entries = 0; tracing = false })
-    (codes "3 clone eth\n\nx\nend\n3 exit\n")
-begun_alone start explain = record {
-  table = worked_table;
-  turns = [];
-  read_is = refl;
-  over = table_over explain;
-  fits = search arith;
-  programs = start.programs;
-  spelled = start.spelled;
-  drivers = start.drivers;
-  valid_drivers = start.valid_drivers;
-  answered = tt;
-  few = search arith;
-  followed = tt;
-  tracing = refl;
-  opening = opening;
-  begins = begins;
-  written = refl;
-  now = refl;
-  counted = refl;
-}
-
--- so its opening is possible output
+-- the opening of the worked session is possible output
 pub opening_out : IsStartOf table begun → (explain : Bool) → IsBroken explain worked_input false opening
 opening_out start explain = inr (
   begun,
   record { entries = 0; tracing = false },
   codes "3 clone eth\n\nx\nend\n3 exit\n",
-  begun_alone start explain,
+  live.begun refl (worked_over (codes "\nx\nend\n3 exit\n")) (search arith) start begins,
 )
 
 -- and its opening with its answers
@@ -72,13 +50,8 @@ answers_out start told explain =
 
 -- the worked table has ended if the input ends after it
 over_at_end : IsTable true worked_table []
-over_at_end = record {
-  lines = codes "programs 2" ∷ codes "driver eth leaf 2 8 3 16" ∷ [];
-  cut = [];
-  text = refl;
-  of_table = record { each = search (rules, arith); drivers = (refl, tt); last = inl refl };
-  over = inr (refl, inr (refl, (tt, search arith), inr refl));
-}
+over_at_end =
+    over_at_the_end true worked_table _ [] refl worked_lines refl (tt, search arith) (inr refl)
 
 -- bytes with a line feed are not empty
 some : (xs after : List ℕ) → xs ++ LINE_FEED ∷ after ≡ [] → ⊥

@@ -15,8 +15,8 @@ use Rattle.smx_filters.specs.declared.main_fault.MainFault.TheVariants.{Refused,
 use Rattle.smx_live.specs.LiveText.{IsOutcome, RefusesDriversOf}
 use Rattle.smx_live.specs.Tables.{HasShortTableOf, IsEndlessTable, table_text}
 use Rattle.smx_filters.proofs.AnswerLemmas.{HaveOneFault}
-use Rattle.smx_live.proofs.OneOutputLemmas.{HasOneReading, table_once, value_once}
-use Rattle.smx_live.proofs.OverTableLemmas.{not_endless}
+use Rattle.smx_live.proofs.OneOutputLemmas.{HasOneReading, value_once}
+use Rattle.smx_live.proofs.OverTableLemmas.{not_endless, table_once}
 
 -- bytes that start with a table within the limit don't start with one that is too long
 no_endless : (read : List ℕ) (ended : Bool) (IsSo : List ℕ → Type 0) → HasShortTableOf read ended IsSo

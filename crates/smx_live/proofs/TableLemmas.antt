@@ -128,7 +128,7 @@ no_lines (l ∷ ls) none = absurd (some_text l ls (ap (λ (t : List ℕ). length
 module _ (ended : Bool) (table : List ℕ) (lines : List (List ℕ)) (held : List ℕ) (text : table ≡ lines_text lines)
     (were : AreOfTable lines []) (end : ended ≡ true) (short : IsShort held) where
   -- a table has ended if the input ended without a next line, or within one that is not a driver line
-  over_at_the_end : (table ≡ []) ⊎ (begins_driver held ≡ false) → IsTable ended table held
+  pub over_at_the_end : (table ≡ []) ⊎ (begins_driver held ≡ false) → IsTable ended table held
   over_at_the_end other = record {
     lines = lines;
     cut = [];
@@ -152,7 +152,7 @@ module _ (ended : Bool) (table : List ℕ) (lines : List (List ℕ)) (held : Lis
   is_driver some driver = (λ none. some (text ∙ ap lines_text none), short.0, driver)
 
   -- a table has ended if the input ended within a driver line, which belongs to it
-  over_within : table ≢ [] → begins_driver held ≡ true → IsTable ended (table ++ held) []
+  pub over_within : table ≢ [] → begins_driver held ≡ true → IsTable ended (table ++ held) []
   over_within some driver = record {
     lines = lines;
     cut = held;
