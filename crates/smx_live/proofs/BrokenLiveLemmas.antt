@@ -1,26 +1,26 @@
 -- The output of a worked session if memory runs out.
-use Rattle.std.proofs.Common.{◌≡◌, ◌≢◌, ℕ, Bool, true, false, List, [], ◌∷◌, ◌++◌, map, refl, sym, ap, ap₂, subst, ◌∙◌}
-use Rattle.std.proofs.Common.{inl, inr, arith, rules}
+use Rattle.std.proofs.Common.{◌≡◌, ◌≢◌, ℕ, Bool, true, false, List, [], ◌∷◌, ◌++◌, refl, sym, ap, subst, ◌∙◌}
+use Rattle.std.proofs.Common.{inl, inr, arith}
 use Rattle.std.proofs.lemmas.List.{append-nil}
 use Rattle.std.specs.Prelude.{codes}
 use Rattle.smx_types.specs.ProgramLists.{ProgramLists}
-use Rattle.smx_types.specs.declared.driver.DriverSpec.{DriverSpec}
-use Rattle.smx_types.specs.declared.version.Version.{Version}
 use Rattle.smx_types.specs.declared.version.Version.TheVariants.{V2}
 use Rattle.smx_words.specs.Words.{LINE_FEED}
-use Rattle.smx_text.specs.Grammar.{Spells, beginning}
+use Rattle.smx_text.specs.Grammar.{Spells}
 use Rattle.smx_text.specs.ProgramsText.{programs_grammar}
-use Rattle.smx_text.specs.TranscriptLines as line
-use Rattle.smx_text.specs.TranscriptText.{transcript_grammar}
+use Rattle.smx_filters.proofs.ReadingLemmas.{HasOneReading, one_value}
 use Rattle.smx_explain.specs.ColumnWords.{IsExplanationOf}
 use Rattle.smx_session.specs.Sessions.{IsStartOf}
 use Rattle.smx_session.specs.WorkedSessions.{begun, drivers, opened, table}
-use Rattle.smx_live.specs.LiveText.{HasComeSoFar, IsBroken, IsLive}
+use Rattle.smx_live.specs.LiveText.{HasComeSoFar, IsBroken}
 use Rattle.smx_live.specs.Tables.{IsTable, table_text}
-use Rattle.smx_live.specs.Turns.{Turn, asked_text, said_text}
+use Rattle.smx_live.specs.Turns.{Turn, asked_text}
 use Rattle.smx_live.specs.WorkedLives.{worked_answers, worked_below, worked_input, worked_table}
-use Rattle.smx_live.proofs.OneOutputLemmas.{HasOneReading, asked_cons, table_once, value_once}
-use Rattle.smx_live.proofs.WorkedLiveLemmas.{answered, begins, opening_is, table_over}
+use Rattle.smx_live.proofs.OneOutputLemmas.{asked_cons}
+use Rattle.smx_live.proofs.OverTableLemmas.{table_once}
+use Rattle.smx_live.proofs.LiveLemmas as live
+use Rattle.smx_live.proofs.TableLemmas.{over_at_the_end}
+use Rattle.smx_live.proofs.WorkedLiveLemmas.{answered, begins, opening_is, worked_lines, worked_over}
 
 -- the opening of the worked session
 abbrev opening : List ℕ
@@ -28,38 +28,13 @@ opening = codes "transcript 2\ndriver eth leaf 2 8 3 16\n"
 
 -- ---- possible output
 
--- the worked session after its opening, before it takes a line
-begun_alone : IsStartOf table begun → (explain : Bool)
-    → IsLive explain worked_input false opening begun (record { entries = 0; tracing = false })
-    (codes "3 clone eth\n\nx\nend\n3 exit\n")
-begun_alone start explain = record {
-  table = worked_table;
-  turns = [];
-  read_is = refl;
-  over = table_over explain;
-  fits = search arith;
-  programs = start.programs;
-  spelled = start.spelled;
-  drivers = start.drivers;
-  valid_drivers = start.valid_drivers;
-  answered = tt;
-  few = search arith;
-  followed = tt;
-  tracing = refl;
-  opening = opening;
-  begins = begins;
-  written = refl;
-  now = refl;
-  counted = refl;
-}
-
--- so its opening is possible output
+-- the opening of the worked session is possible output
 pub opening_out : IsStartOf table begun → (explain : Bool) → IsBroken explain worked_input false opening
 opening_out start explain = inr (
   begun,
   record { entries = 0; tracing = false },
   codes "3 clone eth\n\nx\nend\n3 exit\n",
-  begun_alone start explain,
+  live.begun refl (worked_over (codes "\nx\nend\n3 exit\n")) (search arith) start begins,
 )
 
 -- and its opening with its answers
@@ -72,13 +47,8 @@ answers_out start told explain =
 
 -- the worked table has ended if the input ends after it
 over_at_end : IsTable true worked_table []
-over_at_end = record {
-  lines = codes "programs 2" ∷ codes "driver eth leaf 2 8 3 16" ∷ [];
-  cut = [];
-  text = refl;
-  of_table = record { each = search (rules, arith); drivers = (refl, tt); last = inl refl };
-  over = inr (refl, inr (refl, (tt, search arith), inr refl));
-}
+over_at_end =
+    over_at_the_end worked_table _ [] refl worked_lines true refl (tt, search arith) (inr refl)
 
 -- bytes with a line feed are not empty
 some : (xs after : List ℕ) → xs ++ LINE_FEED ∷ after ≡ [] → ⊥
@@ -91,25 +61,22 @@ no_turns [] held e = refl
 no_turns (t ∷ ts) held e = absurd (some t.line (asked_text ts ++ held) (sym (asked_cons t ts held) ∙ e))
 
 -- a session whose input ends after the worked table has written only the opening
-opening_alone : HasOneReading → IsStartOf table begun → (explain : Bool) (output : List ℕ)
+opening_alone : HasOneReading programs_grammar → IsStartOf table begun → (explain : Bool) (output : List ℕ)
     → HasComeSoFar explain worked_table true output → output ≡ opening
 opening_alone reading start explain output (s, far, held, l) =
     let read : worked_table ++ [] ≡ l.table ++ (asked_text l.turns ++ held) = append-nil worked_table ∙ l.read_is in
     let same = table_once true worked_table l.table [] (asked_text l.turns ++ held) over_at_end l.over read in
     let none : l.turns ≡ [] = no_turns l.turns held (sym same.1) in
-    let spelled : Spells (programs_grammar s.version) table l.programs =
-    subst (λ (t : List ℕ). Spells (programs_grammar s.version) (table_text t) l.programs) (sym same.0) l.spelled in
-    let value : l.programs ≡ start.programs = value_once reading table s.version V2 l.programs start.programs
-    spelled start.spelled in
+    let value : l.programs ≡ start.programs = one_value programs_grammar reading table s.version V2 l.programs
+    start.programs (subst (λ (t : List ℕ). Spells (programs_grammar s.version) (table_text t) l.programs) (sym same.0)
+    l.spelled) start.spelled in
     let version : s.version ≡ V2 = sym l.spelled.allowed.version_is
     ∙ ap (λ (p : ProgramLists). p.version) value ∙ start.spelled.allowed.version_is in
     let own : s.drivers ≡ drivers = l.drivers ∙ ap (λ (p : ProgramLists). p.drivers) value ∙ sym start.drivers in
-    l.written ∙ ap (λ (ts : List Turn). l.opening ++ said_text ts) none ∙ append-nil l.opening ∙ l.begins.written
-    ∙ ap₂ (λ (v : Version) (ds : List DriverSpec). beginning (transcript_grammar v)
-    (map line.Driver ds ++ map line.Entry [])) version own ∙ sym opening_is
+    rw (l.written, none, append-nil, l.begins.written, version, own) (sym opening_is)
 
 -- so an output that is neither empty nor the opening is impossible
-pub not_out : HasOneReading → IsStartOf table begun → (output : List ℕ) → output ≢ [] → output ≢ opening
+pub not_out : HasOneReading programs_grammar → IsStartOf table begun → (output : List ℕ) → output ≢ [] → output ≢ opening
     → (explain : Bool) → IsBroken explain worked_table true output → ⊥
 not_out reading start output some other explain (inl none) = some none
 not_out reading start output some other explain (inr far) = other (opening_alone reading start explain output far)

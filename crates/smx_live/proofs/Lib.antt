@@ -1,3 +1,4 @@
+pub mod AskedLineLemmas
 pub mod BrokenLiveLemmas
 pub mod InboxLemmas
 pub mod LegalLiveLemmas
@@ -11,6 +12,5 @@ pub mod OneOutputLemmas
 pub mod OverTableLemmas
 pub mod WorkedLiveLemmas
 pub mod RefusedDriverLemmas
-pub mod RefusedLineLemmas
 pub mod ExplainedLineLemmas
 pub mod TableFaultLemmas

@@ -2,12 +2,8 @@
 use Rattle.std.proofs.Common.{◌≡◌, ◌≢◌, ℕ, ◌+◌, ◌<◌, ◌≤◌, ◌^◌, Bool, true, false, List, [], ◌∷◌, ◌++◌, length}
 use Rattle.std.proofs.Common.{map, take, drop}
 use Rattle.std.proofs.Common.{Result, Ok, Err, refl, sym, ap, subst, ◌∙◌, append_assoc, arith, inl, inr}
-use Rattle.std.proofs.lemmas.Fmt.{decimal_nonempty, digits_decimal}
 use Rattle.std.proofs.lemmas.List.{append-nil, append_cancel_left}
-use Rattle.std.specs.Fmt.{decimal}
-use Rattle.std.specs.List.{AllByRecursion}
-use Rattle.std.specs.Prelude.{◌⊎◌, IfErr, codes}
-use Rattle.std.specs.Str.{all_ascii_digits}
+use Rattle.std.specs.Prelude.{◌⊎◌, codes}
 use Rattle.smx_types.specs.ProgramLists.{ProgramLists}
 use Rattle.smx_types.specs.declared.command.Command.{Command}
 use Rattle.smx_types.specs.declared.command.Entry.{Entry}
@@ -19,41 +15,28 @@ use Rattle.smx_model.specs.Configuration.{Configuration}
 use Rattle.smx_model.specs.Histories.{after, call_of}
 use Rattle.smx_model.specs.Views.{view}
 use Rattle.smx_words.proofs.CutLemmas.{apart}
-use Rattle.smx_words.proofs.NumberLemmas.{own}
 use Rattle.smx_words.specs.Spellable.{FitsCall}
-use Rattle.smx_words.specs.Spelling.{call_words, command_words}
-use Rattle.smx_words.specs.Words.{LINE_FEED, line_of, lines_text}
+use Rattle.smx_words.specs.Spelling.{call_words}
+use Rattle.smx_words.specs.Words.{LINE_FEED, line_of}
 use Rattle.smx_text.proofs.LineLemmas.{not_one}
-use Rattle.smx_text.specs.Grammar.{IsOneLine, ReadsAny, Spells, beginning}
+use Rattle.smx_text.specs.Grammar.{IsOneLine, beginning}
 use Rattle.smx_text.specs.ProgramsText.{programs_grammar}
 use Rattle.smx_text.specs.TranscriptLines as line
 use Rattle.smx_text.specs.TranscriptText.{transcript_grammar, view_lines}
-use Rattle.smx_text.specs.declared.text_fault.Cause.TheVariants as cause
-use Rattle.smx_text.specs.declared.text_fault.TextFault.{TextFault}
-use Rattle.smx_run.specs.RunFaults.{RefusesAlone}
-use Rattle.smx_run.specs.declared.run_fault.RunFault.{RunFault}
-use Rattle.smx_run.specs.declared.run_fault.RunFault.TheVariants as run
 use Rattle.smx_explain.specs.ColumnWords.{IsExplanationOf}
-use Rattle.smx_session.specs.Sessions.{State}
-use Rattle.smx_filters.specs.declared.input.TheConstants.{MAX_INPUT}
-use Rattle.smx_filters.proofs.AnswerLemmas.{HaveOneFault, only_memory_refuses}
-use Rattle.smx_live.specs.Inboxes.{HasLine, IsShort}
-use Rattle.smx_live.specs.LiveText.{HasComeSoFar, IsAtEnd, IsLive, IsOver, RefusesDriversOf}
-use Rattle.smx_live.specs.Tables.{AreOfTable, HasTableOf, IsCutDriver, IsOverAt, IsTable, begins_driver, table_text}
+use Rattle.smx_filters.proofs.ReadingLemmas.{HasOneReading, one_value}
+use Rattle.smx_live.specs.Inboxes.{IsShort}
+use Rattle.smx_live.specs.LiveText.{IsAtEnd, IsOver}
+use Rattle.smx_live.specs.Tables.{table_text}
 use Rattle.smx_live.specs.Turns.{Answer, AreAnswered, AsksToShow, Entered, HasEnoughMemory, IsAnswer, IsEntryOf}
 use Rattle.smx_live.specs.Turns.{NotDone}
 use Rattle.smx_live.specs.Turns.{AreFollowed, IsBelow, Shown, Turn, asked_text, entries_in, entries_of, said_text}
 use Rattle.smx_live.specs.Turns.{traces_after}
-use Rattle.smx_live.specs.declared.talk.Progress.{Progress}
 use Rattle.smx_live.specs.declared.turn_fault.TurnFault.TheVariants.{NoCommand, NoMemory, Full}
+use Rattle.smx_live.proofs.AskedLineLemmas.{end_shows_nothing, no_call_line, no_digit_shows}
+use Rattle.smx_live.proofs.OverTableLemmas.{table_once}
 
 -- ---- what other crates' laws say
-
--- a programs text has one reading, apart from out-of-memory
-abbrev pub HasOneReading : Type 0
-HasOneReading = (bytes : List ℕ) (r s : Result ProgramLists TextFault) → ReadsAny programs_grammar bytes r
-    → ReadsAny programs_grammar bytes s → IfErr r (λ f. f.cause ≢ cause.NoMemory)
-    → IfErr s (λ f. f.cause ≢ cause.NoMemory) → r ≡ s
 
 -- no two calls have the same line
 abbrev pub AreDistinguished : Type 0
@@ -65,194 +48,12 @@ abbrev pub IsExplainedOnce : Type 0
 IsExplainedOnce = (version : Version) (line one other : List ℕ) → IsExplanationOf version line one
     → IsExplanationOf version line other → one ≡ other
 
--- ---- lines
-
--- the text of lines starts with the first line and its line feed
-pub cons : (l : List ℕ) (ls : List (List ℕ)) (rest : List ℕ)
-    → lines_text (l ∷ ls) ++ rest ≡ l ++ LINE_FEED ∷ (lines_text ls ++ rest)
-cons l ls rest = simp append_assoc
-
--- the line found at the start is the first one
-first_is : (n : ℕ) (bytes l after : List ℕ) → IsOneLine l → bytes ≡ l ++ LINE_FEED ∷ after → HasLine n bytes
-    → take n bytes ≡ l
-first_is n bytes l after one is has =
-    (apart LINE_FEED (take n bytes) l (drop (n + 1) bytes) after has.one one (sym has.parts ∙ is)).0
-
--- ---- tables
-
--- the next line doesn't begin like a driver line, or the input has ended before a next line
-abbrev pub Stops : Bool → List ℕ → Type 0
-Stops ended rest = ((n : ℕ) × HasLine n rest × (begins_driver (take n rest) ≡ false))
-    ⊎ ((ended ≡ true) × IsOneLine rest)
-
--- driver lines don't stop before another one
-pub stops_at : (ended : Bool) (rest l after : List ℕ) → IsOneLine l → begins_driver l ≡ true
-    → rest ≡ l ++ LINE_FEED ∷ after → Stops ended rest → ⊥
-stops_at ended rest l after one driver is (inl (n, has, other)) =
-    let same = first_is n rest l after one is has in
-    absurd (cc (other, same, driver))
-stops_at ended rest l after one driver is (inr (end, whole)) = not_one l after (subst IsOneLine is whole)
-
--- the bytes determine the driver lines up to where they stop
-drivers_once : (ended : Bool) (ls ms : List (List ℕ)) (rest more : List ℕ) → AllByRecursion IsOneLine ls
-    → AllByRecursion IsOneLine ms → AllByRecursion (λ l. begins_driver l ≡ true) ls
-    → AllByRecursion (λ l. begins_driver l ≡ true) ms → Stops ended rest → Stops ended more
-    → lines_text ls ++ rest ≡ lines_text ms ++ more → ls ≡ ms
-drivers_once ended [] [] rest more all all_too are are_too stops stops_too e = refl
-drivers_once ended [] (m ∷ ms) rest more all all_too are are_too stops stops_too e =
-    absurd (stops_at ended rest m (lines_text ms ++ more) all_too.0 are_too.0 (e ∙ cons m ms more) stops)
-drivers_once ended (l ∷ ls) [] rest more all all_too are are_too stops stops_too e =
-    absurd (stops_at ended more l (lines_text ls ++ rest) all.0 are.0 (sym e ∙ cons l ls rest) stops_too)
-drivers_once ended (l ∷ ls) (m ∷ ms) rest more all all_too are are_too stops stops_too e =
-    let cut = apart LINE_FEED l m (lines_text ls ++ rest) (lines_text ms ++ more) all.0 all_too.0
-    (sym (cons l ls rest) ∙ e ∙ cons m ms more) in
-    let others = drivers_once ended ls ms rest more all.1 all_too.1 are.1 are_too.1 stops stops_too cut.1 in
-    ap (λ (x : List ℕ). x ∷ ls) cut.0 ∙ ap (λ (xs : List (List ℕ)). m ∷ xs) others
-
--- if no line is cut, what follows a table is all that follows its whole lines
-pub all_behind : (cut rest : List ℕ) → cut ≡ [] → rest ≡ cut ++ rest
-all_behind cut rest none = ap (λ (c : List ℕ). c ++ rest) (sym none)
-
--- if nothing follows a table, its cut line is all that follows its whole lines
-pub all_cut : (cut rest : List ℕ) → rest ≡ [] → cut ≡ cut ++ rest
-all_cut cut rest none = sym (ap (λ (r : List ℕ). cut ++ r) none ∙ append-nil cut)
-
--- if a table has ended, the driver lines stop there
-pub stops_there : (ended : Bool) (ls : List (List ℕ)) (cut rest : List ℕ) → IsOverAt ended ls cut rest
-    → Stops ended (cut ++ rest)
-stops_there ended ls cut rest (inl (n, none, has, small, some, other)) =
-    subst (Stops ended) (all_behind cut rest none) (inl (n, has, other))
-stops_there ended ls cut rest (inr (end, inl (driver, none))) =
-    subst (Stops ended) (all_cut cut rest none) (inr (end, driver.1))
-stops_there ended ls cut rest (inr (end, inr (none, short, other))) =
-    subst (Stops ended) (all_behind cut rest none) (inr (end, short.0))
-
--- a table without a line has not ended if there is a first line
-pub no_table : (ended : Bool) (m : List ℕ) (ms : List (List ℕ)) (cut rest more : List ℕ) → IsOverAt ended [] cut rest
-    → cut ++ rest ≡ lines_text (m ∷ ms) ++ more → ⊥
-no_table ended m ms cut rest more (inl (n, none, has, small, some, other)) is = some refl
-no_table ended m ms cut rest more (inr (end, inl (driver, none))) is = driver.0 refl
-no_table ended m ms cut rest more (inr (end, inr (none, short, other))) is =
-    not_one m (lines_text ms ++ more) (subst IsOneLine (all_behind cut rest none ∙ is ∙ cons m ms more) short.0)
-
--- the bytes determine the whole lines of a table that has ended
-lines_once : (ended : Bool) (ls ms : List (List ℕ)) (cut rest own more : List ℕ) → AreOfTable ls cut
-    → AreOfTable ms own → IsOverAt ended ls cut rest → IsOverAt ended ms own more
-    → lines_text ls ++ (cut ++ rest) ≡ lines_text ms ++ (own ++ more) → ls ≡ ms
-lines_once ended [] [] cut rest own more are are_too over over_too e = refl
-lines_once ended [] (m ∷ ms) cut rest own more are are_too over over_too e =
-    absurd (no_table ended m ms cut rest (own ++ more) over e)
-lines_once ended (l ∷ ls) [] cut rest own more are are_too over over_too e =
-    absurd (no_table ended l ls own more (cut ++ rest) over_too (sym e))
-lines_once ended (l ∷ ls) (m ∷ ms) cut rest own more are are_too over over_too e =
-    let parts = apart LINE_FEED l m (lines_text ls ++ (cut ++ rest)) (lines_text ms ++ (own ++ more)) are.each.0
-    are_too.each.0 (sym (cons l ls (cut ++ rest)) ∙ e ∙ cons m ms (own ++ more)) in
-    let others = drivers_once ended ls ms (cut ++ rest) (own ++ more) are.each.1 are_too.each.1 are.drivers
-    are_too.drivers (stops_there ended (l ∷ ls) cut rest over) (stops_there ended (m ∷ ms) own more over_too) parts.1 in
-    ap (λ (x : List ℕ). x ∷ ls) parts.0 ∙ ap (λ (xs : List (List ℕ)). m ∷ xs) others
-
--- a table whose last line is whole has not ended if the same bytes are a table with a cut last line
-not_cut : (ended : Bool) (ls : List (List ℕ)) (cut rest own more : List ℕ) → IsOverAt ended ls cut rest → cut ≡ []
-    → IsCutDriver ls own → more ≡ [] → cut ++ rest ≡ own ++ more → ⊥
-not_cut ended ls cut rest own more over none driver no_more e = by_over over where
-  same : rest ≡ own
-  same = all_behind cut rest none ∙ e ∙ sym (all_cut own more no_more)
-
-  by_over : IsOverAt ended ls cut rest → ⊥
-  by_over (inl (n, nothing, has, small, some, other)) =
-      not_one (take n rest) (drop (n + 1) rest) (subst IsOneLine (sym same ∙ has.parts) driver.1)
-  by_over (inr (end, inl (is, no_rest))) = absurd (cc (none, is.2))
-  by_over (inr (end, inr (nothing, short, inl no_lines))) = driver.0 no_lines
-  by_over (inr (end, inr (nothing, short, inr other))) = absurd (cc (other, same, driver.2))
-
--- the bytes after its whole lines determine the cut line of a table that has ended
-cut_once : (ended : Bool) (ls : List (List ℕ)) (cut rest own more : List ℕ) → AreOfTable ls cut → AreOfTable ls own
-    → IsOverAt ended ls cut rest → IsOverAt ended ls own more → cut ++ rest ≡ own ++ more → cut ≡ own
-cut_once ended ls cut rest own more are are_too over over_too e = by_last are.last are_too.last where
-  -- nothing follows a cut line
-  no_more : (c r : List ℕ) → IsOverAt ended ls c r → IsCutDriver ls c → r ≡ []
-  no_more c r (inl (n, none, has, small, some, other)) driver = absurd (cc (none, driver.2))
-  no_more c r (inr (end, inl (is, none))) driver = none
-  no_more c r (inr (end, inr (none, short, other))) driver = absurd (cc (none, driver.2))
-
-  by_last : (cut ≡ []) ⊎ IsCutDriver ls cut → (own ≡ []) ⊎ IsCutDriver ls own → cut ≡ own
-  by_last (inl none) (inl none_too) = none ∙ sym none_too
-  by_last (inl none) (inr driver) =
-      absurd (not_cut ended ls cut rest own more over none driver (no_more own more over_too driver) e)
-  by_last (inr driver) (inl none) =
-      absurd (not_cut ended ls own more cut rest over_too none driver (no_more cut rest over driver) (sym e))
-  by_last (inr driver) (inr driver_too) =
-      all_cut cut rest (no_more cut rest over driver) ∙ e
-      ∙ sym (all_cut own more (no_more own more over_too driver_too))
-
--- what was read has only one table
-pub table_once : (ended : Bool) (table other rest more : List ℕ) → IsTable ended table rest → IsTable ended other more
-    → table ++ rest ≡ other ++ more → (table ≡ other) × (rest ≡ more)
-table_once ended table other rest more t u e =
-    let parts : lines_text t.lines ++ (t.cut ++ rest) ≡ lines_text u.lines ++ (u.cut ++ more) =
-    sym (append_assoc (lines_text t.lines) t.cut rest) ∙ ap (λ (x : List ℕ). x ++ rest) (sym t.text) ∙ e
-    ∙ ap (λ (x : List ℕ). x ++ more) u.text ∙ append_assoc (lines_text u.lines) u.cut more in
-    let lines : t.lines ≡ u.lines = lines_once ended t.lines u.lines t.cut rest u.cut more t.of_table u.of_table t.over
-    u.over parts in
-    let behind : t.cut ++ rest ≡ u.cut ++ more = append_cancel_left (lines_text u.lines) (t.cut ++ rest)
-    (u.cut ++ more) (ap (λ (ls : List (List ℕ)). lines_text ls ++ (t.cut ++ rest)) (sym lines) ∙ parts) in
-    let cut : t.cut ≡ u.cut = cut_once ended u.lines t.cut rest u.cut more
-    (subst (λ (ls : List (List ℕ)). AreOfTable ls t.cut) lines t.of_table) u.of_table
-    (subst (λ (ls : List (List ℕ)). IsOverAt ended ls t.cut rest) lines t.over) u.over behind in
-    let same : table ≡ other = t.text ∙ ap (λ (ls : List (List ℕ)). lines_text ls ++ t.cut) lines
-    ∙ ap (λ (c : List ℕ). lines_text u.lines ++ c) cut ∙ sym u.text in
-    (same, append_cancel_left other rest more (ap (λ (x : List ℕ). x ++ rest) (sym same) ∙ e))
-
--- ---- calls
-
--- the first byte of a line is the first byte of its first word
-begins_so : (b c : ℕ) (w rest : List ℕ) (words : List (List ℕ)) → line_of ((c ∷ w) ∷ words) ≡ b ∷ rest → c ≡ b
-begins_so b c w rest [] is = cc is
-begins_so b c w rest (word ∷ words) is = cc is
-
--- a line whose first word is not empty is not empty
-has_some : (c : ℕ) (w : List ℕ) (words : List (List ℕ)) → line_of ((c ∷ w) ∷ words) ≢ []
-has_some c w [] is = cc is
-has_some c w (word ∷ words) is = cc is
-
-module _ (c : ℕ × Command) (fits : FitsCall c) where
-  -- the number of a process has at most 64 bits
-  small : c.0 < 2 ^ 64
-  small = omega (arith, fits.0)
-
-  -- the line of a call begins with a digit
-  pub no_call : (b : ℕ) (rest : List ℕ) → ((ds : List ℕ) → all_ascii_digits (b ∷ ds) ≡ true → ⊥)
-      → line_of (call_words c) ≡ b ∷ rest → ⊥
-  no_call b rest no_digit = by_word (decimal c.0) refl where
-    by_word : (w : List ℕ) → w ≡ decimal c.0 → line_of (w ∷ command_words c.1) ≡ b ∷ rest → ⊥
-    by_word [] same is = absurd (omega (arith, decimal_nonempty c.0 small, ap (λ (x : List ℕ). length x) same))
-    by_word (d ∷ w) same is =
-        let first : d ≡ b = begins_so b d w rest (command_words c.1) is in
-        no_digit w (subst (λ (x : ℕ). all_ascii_digits (x ∷ w) ≡ true) first
-        (subst (λ (x : List ℕ). all_ascii_digits x ≡ true) (sym same) (digits_decimal own c.0 small)))
-
-  -- the line of a call is not empty
-  some_call : line_of (call_words c) ≢ []
-  some_call = by_word (decimal c.0) refl where
-    by_word : (w : List ℕ) → w ≡ decimal c.0 → line_of (w ∷ command_words c.1) ≢ []
-    by_word [] same is = absurd (omega (arith, decimal_nonempty c.0 small, ap (λ (x : List ℕ). length x) same))
-    by_word (d ∷ w) same is = has_some d w (command_words c.1) is
+-- ---- answers
 
 module _ (version : Version) (drivers : List DriverSpec) (history : List Entry) (l : List ℕ) where
   -- a line that asks for the configuration is not that of an entry
   not_shown : (e : Entry) → IsEntryOf version drivers history l e → AsksToShow l → ⊥
-  not_shown e is (inl none) = some_call (call_of e) is.in_version.0 (sym is.is_read ∙ none)
-  not_shown e is (inr (inl show)) =
-      no_call (call_of e) is.in_version.0 115 (codes "how") (λ ds h. absurd (cc h)) (sym is.is_read ∙ show)
-  not_shown e is (inr (inr (inl on))) =
-      no_call (call_of e) is.in_version.0 116 (codes "race on") (λ ds h. absurd (cc h)) (sym is.is_read ∙ on)
-  not_shown e is (inr (inr (inr off))) =
-      no_call (call_of e) is.in_version.0 116 (codes "race off") (λ ds h. absurd (cc h)) (sym is.is_read ∙ off)
-
-  -- the line `end` is not that of an entry
-  not_ended : (e : Entry) → IsEntryOf version drivers history l e → l ≡ codes "end" → ⊥
-  not_ended e is end =
-      no_call (call_of e) is.in_version.0 101 (codes "nd") (λ ds h. absurd (cc h)) (sym is.is_read ∙ end)
+  not_shown e is asks = no_call_line version l (no_digit_shows l asks) (call_of e) is.in_version is.is_read
 
   -- the entry of a call and its reply
   abbrev entry_with : ℕ × Command → Reply → Entry
@@ -272,37 +73,37 @@ module _ (version : Version) (drivers : List DriverSpec) (history : List Entry) 
   answer_once : AreDistinguished → (a b : Answer) → IsAnswer version drivers history l a
       → IsAnswer version drivers history l b
       → a ≢ NotDone NoMemory → b ≢ NotDone NoMemory → a ≡ b
-  answer_once told_apart (NotDone NoMemory) b is is_too had had_too = absurd (had refl)
-  answer_once told_apart a (NotDone NoMemory) is is_too had had_too = absurd (had_too refl)
   answer_once told_apart (Entered e) (Entered f) is is_too had had_too = ap Entered
       (entry_once told_apart e f is is_too)
   answer_once told_apart (Entered e) (Shown v) is is_too had had_too = absurd (not_shown e is is_too.0)
   answer_once told_apart (Entered e) (NotDone NoCommand) is is_too had had_too =
       absurd (is_too.1 (call_of e) is.in_version is.is_read)
+  answer_once told_apart (Entered e) (NotDone NoMemory) is is_too had had_too = absurd (had_too refl)
   answer_once told_apart (Entered e) (NotDone Full) is is_too had had_too = absurd (omega (arith, is.room, is_too.1))
   answer_once told_apart (Shown v) (Entered e) is is_too had had_too = absurd (not_shown e is_too is.0)
   answer_once told_apart (Shown v) (Shown w) is is_too had had_too = ap Shown (is.1 ∙ sym is_too.1)
   answer_once told_apart (Shown v) (NotDone NoCommand) is is_too had had_too = absurd (is_too.0.0 is.0)
+  answer_once told_apart (Shown v) (NotDone NoMemory) is is_too had had_too = absurd (had_too refl)
   answer_once told_apart (Shown v) (NotDone Full) is is_too had had_too = absurd (is_too.0.0 is.0)
+  answer_once told_apart (NotDone NoMemory) b is is_too had had_too = absurd (had refl)
   answer_once told_apart (NotDone NoCommand) (Entered e) is is_too had had_too =
       absurd (is.1 (call_of e) is_too.in_version is_too.is_read)
   answer_once told_apart (NotDone NoCommand) (Shown v) is is_too had had_too = absurd (is.0.0 is_too.0)
   answer_once told_apart (NotDone NoCommand) (NotDone NoCommand) is is_too had had_too = refl
-  answer_once told_apart (NotDone NoCommand) (NotDone Full) is is_too had had_too = absurd
-      (omega (arith, is.2, is_too.1))
+  answer_once told_apart (NotDone NoCommand) (NotDone NoMemory) is is_too had had_too = absurd (had_too refl)
+  answer_once told_apart (NotDone NoCommand) (NotDone Full) is is_too had had_too =
+      absurd (omega (arith, is.2, is_too.1))
   answer_once told_apart (NotDone Full) (Entered e) is is_too had had_too = absurd (omega (arith, is_too.room, is.1))
   answer_once told_apart (NotDone Full) (Shown v) is is_too had had_too = absurd (is.0.0 is_too.0)
-  answer_once told_apart (NotDone Full) (NotDone NoCommand) is is_too had had_too = absurd
-      (omega (arith, is_too.2, is.1))
+  answer_once told_apart (NotDone Full) (NotDone NoCommand) is is_too had had_too =
+      absurd (omega (arith, is_too.2, is.1))
+  answer_once told_apart (NotDone Full) (NotDone NoMemory) is is_too had had_too = absurd (had_too refl)
   answer_once told_apart (NotDone Full) (NotDone Full) is is_too had had_too = refl
 
   -- the line `end` has no answer, apart from out-of-memory
   no_answer : (a : Answer) → IsAnswer version drivers history l a → a ≢ NotDone NoMemory → l ≡ codes "end" → ⊥
-  no_answer (Entered e) is had end = not_ended e is end
-  no_answer (Shown v) (inl none, shown) had end = absurd (cc (none, end))
-  no_answer (Shown v) (inr (inl show), shown) had end = absurd (cc (show, end))
-  no_answer (Shown v) (inr (inr (inl on)), shown) had end = absurd (cc (on, end))
-  no_answer (Shown v) (inr (inr (inr off)), shown) had end = absurd (cc (off, end))
+  no_answer (Entered e) is had end = no_call_line version l (rw end refl) (call_of e) is.in_version is.is_read
+  no_answer (Shown v) is had end = end_shows_nothing (rw end at is.0)
   no_answer (NotDone NoCommand) is had end = is.0.1 end
   no_answer (NotDone NoMemory) is had end = had refl
   no_answer (NotDone Full) is had end = is.0.1 end
@@ -371,22 +172,15 @@ module _ (explain : Bool) (once : IsExplainedOnce) (version : Version) (drivers 
       e =
       let cut = apart LINE_FEED t.line u.line (asked_text ts ++ held) (asked_text us ++ more) was.0.0 was_too.0.0
       (sym (asked_cons t ts held) ∙ e ∙ asked_cons u us more) in
-      let said_too = subst (λ (l : List ℕ). IsAnswer version drivers history l u.answer) (sym cut.0) was_too.1 in
       let answer : t.answer ≡ u.answer = answer_once version drivers history t.line told_apart t.answer u.answer was.1
-      said_too had.0 had_too.0 in
+      (rw cut.0 was_too.1) had.0 had_too.0 in
       let below : t.below ≡ u.below = below_once once explain version drivers tracing (after drivers history)
       (after drivers (history ++ entries_in t.answer)) t.line t.answer t.below u.below told.0
       (rw (cut.0, answer) told_too.0) in
       let same : t ≡ u = ap (λ (l : List ℕ). turn l t.answer t.below) cut.0
       ∙ ap (λ (a : Answer). turn u.line a t.below) answer ∙ ap (turn u.line u.answer) below in
-      let behind = subst (λ (a : Answer). AreAnswered version drivers (history ++ entries_in a) us) (sym answer)
-      was_too.2 in
-      let told_behind = subst (λ (a : Answer). AreFollowed explain version drivers (history ++ entries_in a)
-      (traces_after tracing t.line a) us) (sym answer)
-      (subst (λ (l : List ℕ). AreFollowed explain version drivers (history ++ entries_in u.answer)
-      (traces_after tracing l u.answer) us) (sym cut.0) told_too.1) in
       let others = turns_once (history ++ entries_in t.answer) (traces_after tracing t.line t.answer) ts us held more
-      words said was.2 behind told.1 told_behind had.1 had_too.1 at at_too cut.1 in
+      words said was.2 (rw answer was_too.2) told.1 (rw (cut.0, answer) told_too.1) had.1 had_too.1 at at_too cut.1 in
       (ap (λ (x : Turn). x ∷ ts) same ∙ ap (λ (xs : List Turn). u ∷ xs) others.0, others.1) where
         turn : List ℕ → Answer → List ℕ → Turn
         turn l a below = record { line = l; answer = a; below = below }
@@ -402,27 +196,11 @@ whole_output version drivers turns words =
 -- what a session that has ended wrote is its output, by its drivers, its turns and its last words
 output_is : {explain : Bool} (read : List ℕ) (ended : Bool) (output : List ℕ) (o : IsOver explain read ended output)
     → output ≡ whole_output o.s.version o.s.drivers o.live.turns o.words
-output_is read ended output o =
-    o.written ∙ ap (λ (x : List ℕ). x ++ (o.words ++ closing o.s.configuration)) o.live.written
-    ∙ ap (λ (x : List ℕ). (x ++ said_text o.live.turns) ++ (o.words ++ closing o.s.configuration)) o.live.begins.written
-    ∙ ap (λ (c : Configuration). (opening ++ said_text o.live.turns) ++ (o.words ++ closing c)) o.live.now where
-      opening : List ℕ
-      opening = beginning (transcript_grammar o.s.version) (map line.Driver o.s.drivers ++ map line.Entry [])
-
-      closing : Configuration → List ℕ
-      closing c = view_lines (view o.s.drivers c) ++ codes "end\n"
-
--- a text spells one value, in either version
-pub value_once : HasOneReading → (text : List ℕ) (v w : Version) (x y : ProgramLists)
-    → Spells (programs_grammar v) text x → Spells (programs_grammar w) text y → x ≡ y
-value_once reading text v w x y h k =
-    let one : Result ProgramLists TextFault = Ok x in
-    let other : Result ProgramLists TextFault = Ok y in
-    let same : one ≡ other = reading text one other (v, h, tt) (w, k, tt) tt tt in cc
+output_is read ended output o = rw (o.written, o.live.written, o.live.begins.written, o.live.now) refl
 
 -- two sessions that ended over the same bytes, and never ran out of memory, have written the same
-pub one_output : HasOneReading → AreDistinguished → IsExplainedOnce → (explain : Bool) (read : List ℕ) (ended : Bool)
-    (one other : List ℕ) (o : IsOver explain read ended one) (p : IsOver explain read ended other)
+pub one_output : HasOneReading programs_grammar → AreDistinguished → IsExplainedOnce → (explain : Bool) (read : List ℕ)
+    (ended : Bool) (one other : List ℕ) (o : IsOver explain read ended one) (p : IsOver explain read ended other)
     → HasEnoughMemory o.live.turns → HasEnoughMemory p.live.turns → one ≡ other
 one_output reading told_apart once explain read ended one other o p had had_too =
     output_is read ended one o ∙ ap (λ (v : Version). whole_output v o.s.drivers o.live.turns o.words) version
@@ -435,9 +213,8 @@ one_output reading told_apart once explain read ended one other o p had had_too 
           (sym o.live.read_is ∙ p.live.read_is)
 
       programs : o.live.programs ≡ p.live.programs
-      programs = value_once reading (table_text p.live.table) o.s.version p.s.version o.live.programs p.live.programs
-          (subst (λ (t : List ℕ). Spells (programs_grammar o.s.version) (table_text t) o.live.programs) table.0
-          o.live.spelled) p.live.spelled
+      programs = one_value programs_grammar reading (table_text p.live.table) o.s.version p.s.version o.live.programs
+          p.live.programs (rw table.0 at o.live.spelled) p.live.spelled
 
       version : o.s.version ≡ p.s.version
       version = sym o.live.spelled.allowed.version_is ∙ ap (λ (x : ProgramLists). x.version) programs
@@ -448,51 +225,5 @@ one_output reading told_apart once explain read ended one other o p had had_too 
 
       turns : (o.live.turns ≡ p.live.turns) × (o.words ≡ p.words)
       turns = turns_once explain once p.s.version p.s.drivers told_apart ended [] false o.live.turns p.live.turns o.held
-          p.held o.words p.words
-          (subst (λ (ds : List DriverSpec). AreAnswered p.s.version ds [] o.live.turns) drivers
-          (subst (λ (v : Version). AreAnswered v o.s.drivers [] o.live.turns) version o.live.answered))
-          p.live.answered
-          (subst (λ (ds : List DriverSpec). AreFollowed explain p.s.version ds [] false o.live.turns) drivers
-          (subst (λ (v : Version). AreFollowed explain v o.s.drivers [] false o.live.turns) version o.live.followed))
-          p.live.followed had had_too o.at_end p.at_end table.1
-
--- ---- the session's table and lines
-
--- the table of a session has no fault as a programs text, except out-of-memory
-pub no_fault : HasOneReading → (explain : Bool) (read output : List ℕ) (ended : Bool) (fault : TextFault)
-    → HasComeSoFar explain read ended output
-    → HasTableOf read ended (λ text. ReadsAny programs_grammar text (Err fault)) → fault.cause ≢ cause.NoMemory → ⊥
-no_fault reading explain read output ended fault (s, far, held, l) (table, rest, parts, over, bad) known =
-    let same = table_once ended table l.table rest _ over l.over (sym parts ∙ l.read_is) in
-    let there = subst (λ (t : List ℕ). ReadsAny programs_grammar (table_text t) (Err fault)) same.0 bad in
-    let one : Result ProgramLists TextFault = Ok l.programs in
-    let other : Result ProgramLists TextFault = Err fault in
-    let wrong : one ≡ other = reading (table_text l.table) one other (s.version, l.spelled, tt) there tt known in
-    absurd (cc wrong)
-
--- the drivers of a session's table are not refused, except for lack of memory
-pub no_refusal : HasOneReading → HaveOneFault → (explain : Bool) (read output : List ℕ) (ended : Bool)
-    (fault : RunFault) → HasComeSoFar explain read ended output
-    → HasTableOf read ended (RefusesDriversOf fault) → fault ≡ run.NoMemory
-no_refusal reading determined explain read output ended fault (s, far, held, l)
-    (table, rest, parts, over, (version, p, spelled, refused)) =
-    let same = table_once ended table l.table rest _ over l.over (sym parts ∙ l.read_is) in
-    let there = subst (λ (t : List ℕ). Spells (programs_grammar version) (table_text t) p) same.0 spelled in
-    let programs : p ≡ l.programs = value_once reading (table_text l.table) version s.version p l.programs there
-    l.spelled in
-    let drivers : p.drivers ≡ s.drivers = ap (λ (x : ProgramLists). x.drivers) programs ∙ sym l.drivers in
-    only_memory_refuses determined s.drivers l.valid_drivers fault
-    (subst (λ (ds : List DriverSpec). RefusesAlone ds fault) drivers refused)
-
--- each line that was answered is within the limit
-all_short : (version : Version) (drivers : List DriverSpec) (history : List Entry) (ts : List Turn)
-    → AreAnswered version drivers history ts → AllByRecursion (λ t. length t.line ≤ MAX_INPUT) ts
-all_short version drivers history [] was = tt
-all_short version drivers history (t ∷ ts) was =
-    (was.0.1, all_short version drivers (history ++ entries_in t.answer) ts was.2)
-
--- the table of a session and each line that it answered are within the limit
-pub are_short : (explain : Bool) (read output held : List ℕ) (ended : Bool) (s : State) (far : Progress)
-    (l : IsLive explain read ended output s far held)
-    → (length l.table ≤ MAX_INPUT) × AllByRecursion (λ t. length t.line ≤ MAX_INPUT) l.turns
-are_short explain read output held ended s far l = (l.fits, all_short s.version s.drivers [] l.turns l.answered)
+          p.held o.words p.words (rw (version, drivers) at o.live.answered) p.live.answered
+          (rw (version, drivers) at o.live.followed) p.live.followed had had_too o.at_end p.at_end table.1

@@ -1,6 +1,7 @@
--- Tables that have ended are neither unfinished nor too long, whatever follows them.
+-- Tables that have ended: nothing that starts the same bytes is a longer table.
 use Rattle.std.proofs.Common.{◌≡◌, ◌≢◌, ℕ, ◌+◌, ◌<◌, ◌≤◌, Bool, true, false, List, [], ◌∷◌, ◌++◌, length, take, drop}
 use Rattle.std.proofs.Common.{refl, sym, ap, subst, ◌∙◌, append_assoc, take-append-drop, arith, inl, inr}
+use Rattle.std.proofs.Math.Seq.{take-append_seam}
 use Rattle.std.proofs.lemmas.Bool.Decides.{Decides-eqb}
 use Rattle.std.proofs.lemmas.List.{append-nil, append_cancel_left, length-append, length-take-le}
 use Rattle.std.proofs.lemmas.Slice.Eq.{starts_is}
@@ -8,17 +9,53 @@ use Rattle.std.specs.List.{AllByRecursion}
 use Rattle.std.specs.Prelude.{◌⊎◌, codes}
 use Rattle.smx_words.proofs.CutLemmas.{apart}
 use Rattle.smx_words.specs.Words.{LINE_FEED, lines_text}
-use Rattle.smx_text.proofs.EachLemmas.{all_append}
+use Rattle.smx_text.proofs.EachLemmas.{all_append, all_right}
+use Rattle.smx_text.proofs.LineLemmas.{not_one}
 use Rattle.smx_text.specs.Grammar.{IsOneLine}
 use Rattle.smx_filters.specs.declared.input.TheConstants.{MAX_INPUT}
 use Rattle.smx_live.specs.Inboxes.{HasLine, IsTooLong}
 use Rattle.smx_live.specs.LiveText.{HasComeSoFar, IsOver}
 use Rattle.smx_live.specs.Tables.{AreOfTable, IsCutDriver, IsEndlessTable, IsOverAt, IsTable, IsUnfinished}
 use Rattle.smx_live.specs.Tables.{begins_driver}
-use Rattle.smx_text.proofs.LineLemmas.{not_one}
-use Rattle.smx_live.proofs.OneOutputLemmas.{Stops, all_behind, all_cut, cons, no_table, stops_at, stops_there}
 
--- ---- lines within lines
+-- ---- lines at the start of bytes
+
+-- the text of lines starts with the first line and its line feed
+cons : (l : List ℕ) (ls : List (List ℕ)) (rest : List ℕ)
+    → lines_text (l ∷ ls) ++ rest ≡ l ++ LINE_FEED ∷ (lines_text ls ++ rest)
+cons l ls rest = simp append_assoc
+
+-- the text of lines after other lines is at least as long as the first of them
+no_shorter : (ls : List (List ℕ)) (u : List ℕ) (us : List (List ℕ))
+    → length (lines_text ls) + length u ≤ length (lines_text (ls ++ u ∷ us))
+no_shorter [] u us =
+    omega (arith, length-append (u ++ LINE_FEED ∷ []) (lines_text us), length-append u (LINE_FEED ∷ []))
+no_shorter (l ∷ ls) u us =
+    omega (
+      arith,
+      no_shorter ls u us,
+      length-append (l ++ LINE_FEED ∷ []) (lines_text ls),
+      length-append (l ++ LINE_FEED ∷ []) (lines_text (ls ++ u ∷ us)),
+    )
+
+-- if bytes start with lines in two ways, one way has all lines of the other
+further : (ls ms : List (List ℕ)) (tail other : List ℕ) → AllByRecursion IsOneLine ls → AllByRecursion IsOneLine ms
+    → lines_text ls ++ tail ≡ lines_text ms ++ other
+    → (us : List (List ℕ)) × (((ls ≡ ms ++ us) × (lines_text us ++ tail ≡ other))
+    ⊎ ((ms ≡ ls ++ us) × (tail ≡ lines_text us ++ other)))
+further ls [] tail other all all_too e = (ls, inl (refl, e))
+further [] (m ∷ ms) tail other all all_too e = (m ∷ ms, inr (refl, e))
+further (l ∷ ls) (m ∷ ms) tail other all all_too e =
+    let cut = apart LINE_FEED l m (lines_text ls ++ tail) (lines_text ms ++ other) all.0 all_too.0
+    (sym (cons l ls tail) ∙ e ∙ cons m ms other) in
+    let (us, way) = further ls ms tail other all.1 all_too.1 cut.1 in
+    let first : l ≡ m = cut.0 in (
+      us,
+      elim way [
+        | inl (same, so) ↦ inl (cc (first, same), so)
+        | inr (same, so) ↦ inr (cc (first, same), so)
+      ],
+    )
 
 -- bytes without a line feed at the start of a line are a beginning of that line
 within : (xs more l after : List ℕ) → IsOneLine xs → xs ++ more ≡ l ++ LINE_FEED ∷ after
@@ -33,6 +70,11 @@ within (x ∷ xs) more (b ∷ l) after one is =
 no_fewer : (whole xs others : List ℕ) → whole ≡ xs ++ others → length xs ≤ length whole
 no_fewer whole xs others is = omega (arith, ap (λ (t : List ℕ). length t) is, length-append xs others)
 
+-- so bytes without a line feed at the start of a line are no longer than that line
+no_longer : (xs more l after : List ℕ) → IsOneLine xs → xs ++ more ≡ l ++ LINE_FEED ∷ after → length xs ≤ length l
+no_longer xs more l after one is =
+    let (others, same) = within xs more l after one is in no_fewer l xs others same
+
 -- what begins like a driver line still does with more bytes after it
 begins_more : (l xs others : List ℕ) → l ≡ xs ++ others → begins_driver xs ≡ true → begins_driver l ≡ true
 begins_more l xs others is begins =
@@ -41,233 +83,216 @@ begins_more l xs others is begins =
     (starts_is Decides-eqb l driver (begins_driver l) refl).1 (drop 6 xs ++ others)
     (is ∙ ap (λ (t : List ℕ). t ++ others) front ∙ append_assoc driver (drop 6 xs) others)
 
--- the text of lines has the bytes of the first one, its line feed, and those of the others
-size : (l : List ℕ) (ls : List (List ℕ)) → length (lines_text (l ∷ ls)) ≡ length l + 1 + length (lines_text ls)
-size l ls =
-    omega (arith, length-append (l ++ LINE_FEED ∷ []) (lines_text ls), length-append l (LINE_FEED ∷ []))
+-- ---- what follows the whole lines of a table that has ended
 
--- one line at the start of the text of lines has fewer bytes than that text
-fewer : (l : List ℕ) (ls : List (List ℕ)) (rest xs more : List ℕ) → IsOneLine xs
-    → lines_text (l ∷ ls) ++ rest ≡ xs ++ more → length xs < length (lines_text (l ∷ ls))
-fewer l ls rest xs more one is =
-    let (others, same) = within xs more l (lines_text ls ++ rest) one (sym is ∙ cons l ls rest) in
-    omega (arith, size l ls, no_fewer l xs others same)
+module _ (ended : Bool) (ls : List (List ℕ)) (cut rest : List ℕ) where
+  -- a whole line is not the first one of the table, and not a driver line
+  no_line_behind : IsOverAt ended ls cut rest → (u after : List ℕ) → IsOneLine u
+      → cut ++ rest ≡ u ++ LINE_FEED ∷ after → (ls ≢ []) × (begins_driver u ≡ false)
+  no_line_behind (inl (n, none, has, small, some, other)) u after one e =
+      let same = apart LINE_FEED (take n rest) u (drop (n + 1) rest) after has.one one
+      (sym has.parts ∙ (rw none at e)) in (some, rw same.0 at other)
+  no_line_behind (inr (end, inl (driver, none))) u after one e =
+      absurd (not_one u after (subst IsOneLine (rw (none, append-nil) at e) driver.1))
+  no_line_behind (inr (end, inr (none, short, other))) u after one e =
+      absurd (not_one u after (subst IsOneLine (rw none at e) short.0))
 
--- ---- lines of a table that has ended
+  -- a cut line is no longer than the table's own
+  cut_within : IsOverAt ended ls cut rest → (own more : List ℕ) → (own ≡ []) ⊎ IsCutDriver ls own
+      → cut ++ rest ≡ own ++ more → length own ≤ length cut
+  cut_within over own more (inl none) e = omega (arith, ap (λ (t : List ℕ). length t) none)
+  cut_within (inl (n, none, has, small, some, other)) own more (inr driver) e =
+      let (others, same) = within own more (take n rest) (drop (n + 1) rest) driver.1
+      (sym (rw none at e) ∙ has.parts) in
+      absurd (cc (begins_more (take n rest) own others same driver.2, other))
+  cut_within (inr (end, inl (is, none))) own more (inr driver) e =
+      no_fewer cut own more (rw (none, append-nil) at e)
+  cut_within (inr (end, inr (none, short, inl no_lines))) own more (inr driver) e = absurd (driver.0 no_lines)
+  cut_within (inr (end, inr (none, short, inr other))) own more (inr driver) e =
+      absurd (cc (begins_more rest own more (rw none at e) driver.2, other))
 
--- one line after driver lines comes after all of them, or lies within their text
-drivers_apart : (ended : Bool) (ls ms : List (List ℕ)) (rest xs more : List ℕ) → AllByRecursion IsOneLine ls
-    → AllByRecursion IsOneLine ms → AllByRecursion (λ l. begins_driver l ≡ true) ms → Stops ended rest → IsOneLine xs
-    → lines_text ls ++ rest ≡ lines_text ms ++ (xs ++ more)
-    → (ls ≡ ms) ⊎ (length (lines_text ms) + length xs < length (lines_text ls))
-drivers_apart ended [] [] rest xs more all all_too are stops one e = inl refl
-drivers_apart ended [] (m ∷ ms) rest xs more all all_too are stops one e =
-    absurd (stops_at ended rest m (lines_text ms ++ (xs ++ more)) all_too.0 are.0 (e ∙ cons m ms (xs ++ more)) stops)
-drivers_apart ended (l ∷ ls) [] rest xs more all all_too are stops one e =
-    inr (omega (arith, fewer l ls rest xs more one e))
-drivers_apart ended (l ∷ ls) (m ∷ ms) rest xs more all all_too are stops one e =
-    let cut = apart LINE_FEED l m (lines_text ls ++ rest) (lines_text ms ++ (xs ++ more)) all.0 all_too.0
-    (sym (cons l ls rest) ∙ e ∙ cons m ms (xs ++ more)) in
-    let long : length l ≡ length m = ap (λ (x : List ℕ). length x) cut.0 in
-    elim (drivers_apart ended ls ms rest xs more all.1 all_too.1 are.1 stops one cut.1) [
-      | inl same ↦ inl (ap (λ (x : List ℕ). x ∷ ls) cut.0 ∙ ap (λ (x : List (List ℕ)). m ∷ x) same)
-      | inr small ↦ inr (omega (arith, small, long, size l ls, size m ms))
-    ]
+  -- one line is no longer than an input may be
+  line_within : IsOverAt ended ls cut rest → length cut ≤ MAX_INPUT → (xs more : List ℕ) → IsOneLine xs
+      → cut ++ rest ≡ xs ++ more → length xs ≤ MAX_INPUT
+  line_within (inl (n, none, has, small, some, other)) fits xs more one e =
+      omega (
+        arith,
+        no_longer xs more (take n rest) (drop (n + 1) rest) one (sym (rw none at e) ∙ has.parts),
+        length-take-le n rest (omega (arith, has.within)),
+      )
+  line_within (inr (end, inl (is, none))) fits xs more one e =
+      omega (arith, no_fewer cut xs more (rw (none, append-nil) at e))
+  line_within (inr (end, inr (none, short, other))) fits xs more one e =
+      omega (arith, short.1, no_fewer rest xs more (rw none at e))
 
--- one line after lines of a table comes after all lines of a table that has ended, or lies within their text
-lines_apart : (ended : Bool) (ls ms : List (List ℕ)) (cut rest own xs more : List ℕ) → AreOfTable ls cut
-    → AreOfTable ms own → IsOverAt ended ls cut rest → IsOneLine xs
-    → lines_text ls ++ (cut ++ rest) ≡ lines_text ms ++ (xs ++ more)
-    → (ls ≡ ms) ⊎ (length (lines_text ms) + length xs < length (lines_text ls))
-lines_apart ended [] [] cut rest own xs more are are_too over one e = inl refl
-lines_apart ended [] (m ∷ ms) cut rest own xs more are are_too over one e =
-    absurd (no_table ended m ms cut rest (xs ++ more) over e)
-lines_apart ended (l ∷ ls) [] cut rest own xs more are are_too over one e =
-    inr (omega (arith, fewer l ls (cut ++ rest) xs more one e))
-lines_apart ended (l ∷ ls) (m ∷ ms) cut rest own xs more are are_too over one e =
-    let parts = apart LINE_FEED l m (lines_text ls ++ (cut ++ rest)) (lines_text ms ++ (xs ++ more)) are.each.0
-    are_too.each.0 (sym (cons l ls (cut ++ rest)) ∙ e ∙ cons m ms (xs ++ more)) in
-    let long : length l ≡ length m = ap (λ (x : List ℕ). length x) parts.0 in
-    elim (drivers_apart ended ls ms (cut ++ rest) xs more are.each.1 are_too.each.1 are_too.drivers
-    (stops_there ended (l ∷ ls) cut rest over) one parts.1) [
-      | inl same ↦ inl (ap (λ (x : List ℕ). x ∷ ls) parts.0 ∙ ap (λ (x : List (List ℕ)). m ∷ x) same)
-      | inr small ↦ inr (omega (arith, small, long, size l ls, size m ms))
-    ]
-
--- what follows the same lines is the same
-behind_same : (ls ms : List (List ℕ)) (tail other : List ℕ) → ls ≡ ms → lines_text ls ++ tail ≡ lines_text ms ++ other
-    → tail ≡ other
-behind_same ls ms tail other same e =
-    append_cancel_left (lines_text ms) tail other (ap (λ (x : List (List ℕ)). lines_text x ++ tail) (sym same) ∙ e)
-
--- a cut line after the lines of a table that has ended is no longer than that table's own cut line
-cut_within : (ended : Bool) (ls : List (List ℕ)) (cut rest own more : List ℕ) → IsOverAt ended ls cut rest
-    → (own ≡ []) ⊎ IsCutDriver ls own → cut ++ rest ≡ own ++ more → length own ≤ length cut
-cut_within ended ls cut rest own more over (inl none) e = omega (arith, ap (λ (t : List ℕ). length t) none)
-cut_within ended ls cut rest own more (inl (n, none, has, small, some, other)) (inr driver) e =
-    let (others, same) = within own more (take n rest) (drop (n + 1) rest) driver.1
-    (sym e ∙ sym (all_behind cut rest none) ∙ has.parts) in
-    let wrong : false ≡ true = sym other ∙ begins_more (take n rest) own others same driver.2 in absurd (cc wrong)
-cut_within ended ls cut rest own more (inr (end, inl (is, none))) (inr driver) e =
-    no_fewer cut own more (all_cut cut rest none ∙ e)
-cut_within ended ls cut rest own more (inr (end, inr (none, short, inl no_lines))) (inr driver) e =
-    absurd (driver.0 no_lines)
-cut_within ended ls cut rest own more (inr (end, inr (none, short, inr other))) (inr driver) e =
-    let wrong : false ≡ true = sym other ∙ begins_more rest own more (all_behind cut rest none ∙ e) driver.2 in
-    absurd (cc wrong)
-
--- one line after the lines of a table that has ended is no longer than an input may be
-line_within : (ended : Bool) (ls : List (List ℕ)) (cut rest xs more : List ℕ) → IsOverAt ended ls cut rest
-    → length cut ≤ MAX_INPUT → IsOneLine xs → cut ++ rest ≡ xs ++ more → length xs ≤ MAX_INPUT
-line_within ended ls cut rest xs more (inl (n, none, has, small, some, other)) fits one e =
-    let (others, same) = within xs more (take n rest) (drop (n + 1) rest) one
-    (sym e ∙ sym (all_behind cut rest none) ∙ has.parts) in
-    let long : length (take n rest) ≡ n = length-take-le n rest (omega (arith, has.within)) in
-    omega (arith, small, long, no_fewer (take n rest) xs others same)
-line_within ended ls cut rest xs more (inr (end, inl (is, none))) fits one e =
-    omega (arith, fits, no_fewer cut xs more (all_cut cut rest none ∙ e))
-line_within ended ls cut rest xs more (inr (end, inr (none, short, other))) fits one e =
-    omega (arith, short.1, no_fewer rest xs more (all_behind cut rest none ∙ e))
+  -- if there is no line feed, the input has ended
+  end_within : IsOverAt ended ls cut rest → IsOneLine (cut ++ rest) → (ended ≡ true) × IsOneLine rest
+  end_within (inl (n, none, has, small, some, other)) one =
+      absurd (not_one (take n rest) (drop (n + 1) rest) (subst IsOneLine has.parts (rw none at one)))
+  end_within (inr (end, behind)) one = (end, all_right (λ (b : ℕ). b ≢ LINE_FEED) cut rest one)
 
 -- ---- tables that have ended
 
--- the last line of a table has no line feed in it
-own_one : (ms : List (List ℕ)) (own : List ℕ) → AreOfTable ms own → IsOneLine own
-own_one ms own were = elim were.last [
-  | inl none ↦ subst IsOneLine (sym none) tt
-  | inr driver ↦ driver.1
-]
+-- a line of a table after other lines is a driver line
+is_driver_line : (ls us : List (List ℕ)) (u : List ℕ) → ls ≢ []
+    → AllByRecursion (λ l. begins_driver l ≡ true) (drop 1 (ls ++ u ∷ us)) → begins_driver u ≡ true
+is_driver_line [] us u some all = absurd (some refl)
+is_driver_line (l ∷ ls) us u some all = (all_right (λ (x : List ℕ). begins_driver x ≡ true) ls (u ∷ us) all).0
+
+module _ (ended : Bool) (table rest : List ℕ) (t : IsTable ended table rest) (other more : List ℕ)
+    (ms : List (List ℕ)) (own : List ℕ) (text : other ≡ lines_text ms ++ own) (were : AreOfTable ms own)
+    (parts : table ++ rest ≡ other ++ more) where
+  -- a table that has ended has all lines of another table of the same bytes
+  behind : (us : List (List ℕ)) × (t.lines ≡ ms ++ us) × (lines_text us ++ (t.cut ++ rest) ≡ own ++ more)
+  behind = by_way (further t.lines ms (t.cut ++ rest) (own ++ more) t.of_table.each were.each
+      (sym (append_assoc (lines_text t.lines) t.cut rest) ∙ (rw (t.text, text) at parts)
+      ∙ append_assoc (lines_text ms) own more)) where
+    by_way : (us : List (List ℕ)) × (((t.lines ≡ ms ++ us) × (lines_text us ++ (t.cut ++ rest) ≡ own ++ more))
+        ⊎ ((ms ≡ t.lines ++ us) × (t.cut ++ rest ≡ lines_text us ++ (own ++ more))))
+        → (us : List (List ℕ)) × (t.lines ≡ ms ++ us) × (lines_text us ++ (t.cut ++ rest) ≡ own ++ more)
+    by_way (us, inl is) = (us, is.0, is.1)
+    by_way ([], inr (same, so)) = ([], rw append-nil (sym (rw append-nil at same)), so)
+    by_way (u ∷ us, inr (same, so)) =
+        let one = (all_right IsOneLine t.lines (u ∷ us) (rw same at were.each)).0 in
+        let (some, none) = no_line_behind ended t.lines t.cut rest t.over u (lines_text us ++ (own ++ more)) one
+        (so ∙ cons u us (own ++ more)) in
+        absurd (cc (none, is_driver_line t.lines us u some (rw same at were.drivers)))
+
+  -- the last line of a table has no line feed in it
+  own_one : IsOneLine own
+  own_one = elim were.last [
+    | inl none ↦ rw none tt
+    | inr driver ↦ driver.1
+  ]
+
+  -- the table has the bytes of its whole lines and of its cut line
+  sizes : length table ≡ length (lines_text t.lines) + length t.cut
+  sizes = ap (λ (x : List ℕ). length x) t.text ∙ length-append (lines_text t.lines) t.cut
+
+  -- another table of the same bytes is not longer
+  no_table_is_longer : length other ≤ length table
+  no_table_is_longer = by_lines behind where
+    size : length other ≡ length (lines_text ms) + length own
+    size = ap (λ (x : List ℕ). length x) text ∙ length-append (lines_text ms) own
+
+    by_lines : (us : List (List ℕ)) × (t.lines ≡ ms ++ us) × (lines_text us ++ (t.cut ++ rest) ≡ own ++ more)
+        → length other ≤ length table
+    by_lines ([], same, so) =
+        let is : t.lines ≡ ms = rw append-nil at same in
+        omega (
+          arith,
+          size,
+          sizes,
+          ap (λ (x : List (List ℕ)). length (lines_text x)) is,
+          cut_within ended t.lines t.cut rest t.over own more (rw is were.last) so,
+        )
+    by_lines (u ∷ us, same, so) =
+        omega (
+          arith,
+          size,
+          sizes,
+          ap (λ (x : List (List ℕ)). length (lines_text x)) same,
+          no_shorter ms u us,
+          no_longer own more u (lines_text us ++ (t.cut ++ rest)) own_one (sym so ∙ cons u us (t.cut ++ rest)),
+        )
+
+  -- one line after the other table's whole lines is within the limit, if the table is
+  no_line_is_longer : length table ≤ MAX_INPUT → (xs after : List ℕ) → IsOneLine xs → own ++ more ≡ xs ++ after
+      → length xs ≤ MAX_INPUT
+  no_line_is_longer fits xs after one is = by_lines behind where
+    by_lines : (us : List (List ℕ)) × (t.lines ≡ ms ++ us) × (lines_text us ++ (t.cut ++ rest) ≡ own ++ more)
+        → length xs ≤ MAX_INPUT
+    by_lines ([], same, so) =
+        line_within ended t.lines t.cut rest t.over (omega (arith, sizes, fits)) xs after one (so ∙ is)
+    by_lines (u ∷ us, same, so) =
+        omega (
+          arith,
+          fits,
+          sizes,
+          ap (λ (x : List (List ℕ)). length (lines_text x)) same,
+          no_shorter ms u us,
+          no_longer xs after u (lines_text us ++ (t.cut ++ rest)) one
+              (sym is ∙ sym so ∙ cons u us (t.cut ++ rest)),
+        )
+
+  -- if no whole line follows the other table, the input has ended
+  has_ended : IsOneLine more → (ended ≡ true) × IsOneLine rest
+  has_ended one = by_lines behind where
+    whole : IsOneLine (own ++ more)
+    whole = all_append (λ (b : ℕ). b ≢ LINE_FEED) own more own_one one
+
+    by_lines : (us : List (List ℕ)) × (t.lines ≡ ms ++ us) × (lines_text us ++ (t.cut ++ rest) ≡ own ++ more)
+        → (ended ≡ true) × IsOneLine rest
+    by_lines ([], same, so) = end_within ended t.lines t.cut rest t.over (subst IsOneLine (sym so) whole)
+    by_lines (u ∷ us, same, so) =
+        absurd (not_one u (lines_text us ++ (t.cut ++ rest))
+        (subst IsOneLine (sym so ∙ cons u us (t.cut ++ rest)) whole))
+
+-- what was read has only one table
+pub table_once : (ended : Bool) (table other rest more : List ℕ) → IsTable ended table rest → IsTable ended other more
+    → table ++ rest ≡ other ++ more → (table ≡ other) × (rest ≡ more)
+table_once ended table other rest more t u e =
+    let size : length table ≡ length other = omega (
+      arith,
+      no_table_is_longer ended table rest t other more u.lines u.cut u.text u.of_table e,
+      no_table_is_longer ended other more u table rest t.lines t.cut t.text t.of_table (sym e),
+    ) in
+    let same : table ≡ other = sym (take-append_seam table rest) ∙ ap (take (length table)) e
+    ∙ ap (λ (k : ℕ). take k (other ++ more)) size ∙ take-append_seam other more in
+    (same, append_cancel_left other rest more (rw same at e))
 
 module _ (ended : Bool) (table rest : List ℕ) (t : IsTable ended table rest) where
-  -- two ways to split what was read at the lines of a table
-  both : (ms : List (List ℕ)) (own more : List ℕ) → table ++ rest ≡ (lines_text ms ++ own) ++ more
-      → lines_text t.lines ++ (t.cut ++ rest) ≡ lines_text ms ++ (own ++ more)
-  both ms own more parts =
-      sym (append_assoc (lines_text t.lines) t.cut rest) ∙ ap (λ (x : List ℕ). x ++ rest) (sym t.text) ∙ parts
-      ∙ append_assoc (lines_text ms) own more
-
   -- a table that has ended is unfinished only if the input has ended and no whole line follows
   pub finished : IsUnfinished (table ++ rest) → (ended ≡ true) × IsOneLine rest
-  finished (ms, own, more, parts, were, one) = by_over t.over where
-    xs : List ℕ
-    xs = own ++ more
-
-    whole : IsOneLine xs
-    whole = all_append (λ (b : ℕ). b ≢ LINE_FEED) own more (own_one ms own were) one
-
-    all : lines_text t.lines ++ (t.cut ++ rest) ≡ lines_text ms ++ xs
-    all = both ms own more parts
-
-    same : t.cut ++ rest ≡ xs
-    same = elim (lines_apart ended t.lines ms t.cut rest own xs [] t.of_table were t.over whole
-        (all ∙ ap (λ (x : List ℕ). lines_text ms ++ x) (sym (append-nil xs)))) [
-          | inl is ↦ behind_same t.lines ms (t.cut ++ rest) xs is all
-          | inr small ↦ absurd (omega (
-            arith,
-            small,
-            ap (λ (x : List ℕ). length x) all,
-            length-append (lines_text t.lines) (t.cut ++ rest),
-            length-append (lines_text ms) xs,
-          ))
-        ]
-
-    by_over : IsOverAt ended t.lines t.cut rest → (ended ≡ true) × IsOneLine rest
-    by_over (inl (n, none, has, small, some, other)) =
-        absurd (not_one (take n rest) (drop (n + 1) rest)
-        (subst IsOneLine (sym same ∙ sym (all_behind t.cut rest none) ∙ has.parts) whole))
-    by_over (inr (end, inl (is, none))) = (end, subst IsOneLine (sym none) tt)
-    by_over (inr (end, inr (none, short, other))) = (end, short.0)
+  finished (ms, own, more, parts, were, one) =
+      has_ended ended table rest t (lines_text ms ++ own) more ms own refl were parts one
 
   -- a table that has ended and is within the limit is not too long with what follows it, nor is any line after it
   pub not_endless : length table ≤ MAX_INPUT → IsEndlessTable (table ++ rest) → ⊥
-  not_endless fits (ms, own, more, parts, were, long) = elim long [
-    | inl text ↦ omega (arith, text, length-append (lines_text ms) own, text_within)
-    | inr line ↦ no_line line
-  ] where
-    all : lines_text t.lines ++ (t.cut ++ rest) ≡ lines_text ms ++ (own ++ more)
-    all = both ms own more parts
-
-    sizes : length table ≡ length (lines_text t.lines) + length t.cut
-    sizes = ap (λ (x : List ℕ). length x) t.text ∙ length-append (lines_text t.lines) t.cut
-
-    text_within : length (lines_text ms) + length own ≤ MAX_INPUT
-    text_within = elim (lines_apart ended t.lines ms t.cut rest own own more t.of_table were t.over
-        (own_one ms own were) all) [
-          | inl is ↦ omega (
-            arith,
-            fits,
-            sizes,
-            ap (λ (x : List (List ℕ)). length (lines_text x)) is,
-            cut_within ended t.lines t.cut rest own more t.over
-                (subst (λ (x : List (List ℕ)). (own ≡ []) ⊎ IsCutDriver x own) (sym is) were.last)
-                (behind_same t.lines ms (t.cut ++ rest) (own ++ more) is all),
-          )
-          | inr small ↦ omega (arith, fits, sizes, small)
-        ]
-
-    no_line : IsTooLong more → ⊥
-    no_line (n, many, enough, one) = by_lines (lines_apart ended t.lines ms t.cut rest own xs (drop n more) t.of_table
-        were t.over whole cut_so) where
-          xs : List ℕ
-          xs = own ++ take n more
-
-          whole : IsOneLine xs
-          whole = all_append (λ (b : ℕ). b ≢ LINE_FEED) own (take n more) (own_one ms own were) one
-
-          joined : own ++ more ≡ xs ++ drop n more
-          joined = ap (λ (x : List ℕ). own ++ x) (sym (take-append-drop n more))
-              ∙ sym (append_assoc own (take n more) (drop n more))
-
-          cut_so : lines_text t.lines ++ (t.cut ++ rest) ≡ lines_text ms ++ (xs ++ drop n more)
-          cut_so = all ∙ ap (λ (x : List ℕ). lines_text ms ++ x) joined
-
-          long_so : length xs ≡ length own + n
-          long_so = length-append own (take n more) ∙ ap (λ (k : ℕ). length own + k) (length-take-le n more enough)
-
-          by_lines : (t.lines ≡ ms) ⊎ (length (lines_text ms) + length xs < length (lines_text t.lines)) → ⊥
-          by_lines (inl is) = omega (
-            arith,
-            many,
-            long_so,
-            line_within ended t.lines t.cut rest xs (drop n more) t.over (omega (arith, fits, sizes)) whole
-                (behind_same t.lines ms (t.cut ++ rest) (xs ++ drop n more) is cut_so),
-          )
-          by_lines (inr small) = omega (arith, many, long_so, fits, sizes, small)
+  not_endless fits (ms, own, more, parts, were, inl long) =
+      omega (arith, no_table_is_longer ended table rest t (lines_text ms ++ own) more ms own refl were parts)
+  not_endless fits (ms, own, more, parts, were, inr (n, many, enough, one)) =
+      let first : List ℕ = own ++ take n more in
+      let own_is = own_one ended table rest t (lines_text ms ++ own) more ms own refl were parts in
+      let whole : IsOneLine first = all_append (λ (b : ℕ). b ≢ LINE_FEED) own (take n more) own_is one in
+      let joined : own ++ more ≡ first ++ drop n more =
+      ap (λ (x : List ℕ). own ++ x) (sym (take-append-drop n more))
+      ∙ sym (append_assoc own (take n more) (drop n more)) in
+      omega (
+        arith,
+        length-append own (take n more),
+        length-take-le n more enough,
+        no_line_is_longer ended table rest t (lines_text ms ++ own) more ms own refl were parts fits first (drop n more)
+            whole joined,
+      )
 
 -- ---- lines that are not too long
 
 -- a whole line within the limit is not too long, whatever follows it
 pub line_fits : (n : ℕ) (held : List ℕ) → HasLine n held → n ≤ MAX_INPUT → IsTooLong held → ⊥
 line_fits n held has small (k, many, enough, one) =
-    let (others, same) = within (take k held) (drop k held) (take n held) (drop (n + 1) held) one
-    (take-append-drop k held ∙ has.parts) in
     omega (
       arith,
-      small,
-      many,
       length-take-le k held enough,
       length-take-le n held (omega (arith, has.within)),
-      no_fewer (take n held) (take k held) others same,
+      no_longer (take k held) (drop k held) (take n held) (drop (n + 1) held) one
+          (take-append-drop k held ∙ has.parts),
     )
 
 -- the table of a session is not too long, nor is any line after it
 pub no_session_is_endless : (explain : Bool) (read output : List ℕ) (ended : Bool)
     → HasComeSoFar explain read ended output → IsEndlessTable read → ⊥
 no_session_is_endless explain read output ended (s, far, held, l) long =
-    not_endless ended l.table _ l.over l.fits (subst IsEndlessTable l.read_is long)
+    not_endless ended l.table _ l.over l.fits (rw l.read_is at long)
 
 -- what is held when a session has ended is not too long
 pub no_line_at_the_end : (explain : Bool) (read output : List ℕ) (ended : Bool) (o : IsOver explain read ended output)
     → IsTooLong o.held → ⊥
 no_line_at_the_end explain read output ended o (k, many, enough, one) = elim o.at_end [
-  | inl (more, is, none) ↦
-      let (others, same) = within (take k o.held) (drop k o.held) (codes "end") more one
-      (take-append-drop k o.held ∙ is) in
-      omega (
-        arith,
-        many,
-        length-take-le k o.held enough,
-        no_fewer (codes "end") (take k o.held) others same,
-      )
-  | inr (end, short, cut) ↦ omega (arith, many, enough, short.1)
+  | inl (more, is, none) ↦ omega (
+    arith,
+    length-take-le k o.held enough,
+    no_longer (take k o.held) (drop k o.held) (codes "end") more one (take-append-drop k o.held ∙ is),
+  )
+  | inr (end, short, cut) ↦ omega (arith, short.1)
 ]

@@ -1,5 +1,13 @@
-use Rattle.std.proofs.Common.{inl, inr, refl}
+use Rattle.std.proofs.Common.{[], ◌∷◌, ◌+◌, arith, drop, false, inl, inr, refl, rules, subst, take, true}
+use Rattle.std.specs.Prelude.{codes}
+use Rattle.smx_model.specs.Histories.{call_of}
+use Rattle.smx_text.proofs.LineLemmas.{not_one}
+use Rattle.smx_text.specs.Grammar.{IsOneLine}
 use Rattle.smx_types.specs.declared.version.Version.TheVariants.{V2}
+use Rattle.smx_live.specs.WorkedLives.{worked_table}
+use Rattle.smx_live.proofs.AskedLineLemmas.{neither, no_call_line}
+use Rattle.smx_live.proofs.OverTableLemmas.{table_once}
+use Rattle.smx_live.proofs.TableLemmas.{over_at_the_end, over_within}
 use Rattle.smx_live.proofs.WorkedLiveLemmas as worked
 use Rattle.smx_live.proofs.laws_of_live.a_worked_live_session.Goals as goal
 
@@ -7,46 +15,51 @@ pub returns-clause-over : goal.returns-clause-over
 returns-clause-over c = worked.over c.a_worked_session.ensures.starts c.worked_explanations.ensures.no_request
 
 pub returns-clause-table : goal.returns-clause-table
-returns-clause-table c = worked.is_over
+returns-clause-table c = worked.worked_over []
 
 pub returns-clause-not_too_early : goal.returns-clause-not_too_early
-returns-clause-not_too_early c = worked.not_too_early
+returns-clause-not_too_early c = λ t.
+    let same = table_once false worked_table (codes "programs 2\n") _ _ (worked.worked_over []) t refl in
+    absurd (cc same.0)
 
 pub returns-clause-not_too_late : goal.returns-clause-not_too_late
-returns-clause-not_too_late c = worked.not_too_late
+returns-clause-not_too_late c = λ t.
+    let same = table_once false (codes "programs 2\n") _ _ _ worked.header_alone t refl in absurd (cc same.0)
 
 pub returns-clause-not_before_its_header : goal.returns-clause-not_before_its_header
-returns-clause-not_before_its_header c = worked.not_before_its_header
+returns-clause-not_before_its_header c = λ t.
+    let same = table_once false (codes "programs 2\n") _ _ _ worked.header_alone t refl in absurd (cc same.0)
 
 pub returns-clause-not_within_a_line : goal.returns-clause-not_within_a_line
-returns-clause-not_within_a_line c = worked.not_within_a_line
-
-pub returns-clause-show_is_asked : goal.returns-clause-show_is_asked
-returns-clause-show_is_asked c = worked.show_is_asked
-
-pub returns-clause-end_is_asked : goal.returns-clause-end_is_asked
-returns-clause-end_is_asked c = worked.end_is_asked
-
-pub returns-clause-not_full : goal.returns-clause-not_full
-returns-clause-not_full c = worked.not_full
-
-pub returns-clause-not_performed : goal.returns-clause-not_performed
-returns-clause-not_performed c = worked.not_performed
-
-pub returns-clause-full_is_reported : goal.returns-clause-full_is_reported
-returns-clause-full_is_reported c = worked.full_is_reported
-
-pub returns-clause-no_memory_for_no_command : goal.returns-clause-no_memory_for_no_command
-returns-clause-no_memory_for_no_command c = worked.no_memory_for_no_command V2
+returns-clause-not_within_a_line c = λ t.
+    let one : IsOneLine (codes "3 clone eth") = search (rules, arith) in
+    elim t.over [
+      | inl (n, none, has, small, some, other) ↦ not_one (take n (codes "3 clone eth"))
+          (drop (n + 1) (codes "3 clone eth")) (subst IsOneLine has.parts one)
+      | inr (end, behind) ↦ absurd (cc end)
+    ]
 
 pub returns-clause-over_within_a_driver : goal.returns-clause-over_within_a_driver
-returns-clause-over_within_a_driver c = worked.over_within_a_driver
+returns-clause-over_within_a_driver c =
+    over_within (codes "programs 2\n") _ (codes "driver eth") refl worked.header_lines true refl
+    (search (rules, arith), search arith) (λ none. absurd (cc none)) refl
 
 pub returns-clause-not_before_a_cut_driver : goal.returns-clause-not_before_a_cut_driver
-returns-clause-not_before_a_cut_driver c = worked.not_before_a_cut_driver
+returns-clause-not_before_a_cut_driver c = λ t.
+    let longer = over_within (codes "programs 2\n") _ (codes "driver eth") refl worked.header_lines true refl
+    (search (rules, arith), search arith) (λ none. absurd (cc none)) refl in
+    let same = table_once true (codes "programs 2\ndriver eth") _ _ _ longer t refl in absurd (cc same.0)
 
 pub returns-clause-over_within_another : goal.returns-clause-over_within_another
-returns-clause-over_within_another c = worked.over_within_another
+returns-clause-over_within_another c =
+    over_at_the_end (codes "programs 2\n") _ (codes "3 clone") refl worked.header_lines true refl
+    (search (rules, arith), search arith) (inr refl)
+
+pub returns-clause-show_is_asked : goal.returns-clause-show_is_asked
+returns-clause-show_is_asked c = λ is. is.0.0 (inr (inl refl))
+
+pub returns-clause-end_is_asked : goal.returns-clause-end_is_asked
+returns-clause-end_is_asked c = λ is. is.0.1 refl
 
 pub returns-clause-trace_on_is_asked : goal.returns-clause-trace_on_is_asked
 returns-clause-trace_on_is_asked c = λ is. is.0.0 (inr (inr (inl refl)))
@@ -56,3 +69,16 @@ returns-clause-trace_off_is_asked c = λ is. is.0.0 (inr (inr (inr refl)))
 
 pub returns-clause-in_its_version : goal.returns-clause-in_its_version
 returns-clause-in_its_version c = λ line below is. is
+
+pub returns-clause-not_full : goal.returns-clause-not_full
+returns-clause-not_full c = λ is. omega (arith, is.1)
+
+pub returns-clause-full_is_reported : goal.returns-clause-full_is_reported
+returns-clause-full_is_reported c = λ is. omega (arith, (is (neither (codes "3 clone eth") refl refl)).1)
+
+pub returns-clause-no_memory_for_no_command : goal.returns-clause-no_memory_for_no_command
+returns-clause-no_memory_for_no_command c = λ is.
+    let call = (is (neither (codes "x") refl refl)).0 in no_call_line V2 (codes "x") refl call.0 call.1 call.2
+
+pub returns-clause-not_performed : goal.returns-clause-not_performed
+returns-clause-not_performed c = λ e is. no_call_line V2 (codes "x") refl (call_of e) is.in_version is.is_read

@@ -1,5 +1,4 @@
-use Rattle.std.proofs.Common.{refl, sym}
-use Rattle.smx_live.proofs.WorkedLiveLemmas.{empty_keeps, off_ends, show_keeps}
+use Rattle.std.proofs.Common.{false, refl, sym, true}
 use Rattle.smx_live.proofs.laws_of_live.when_entries_are_traced.Goals as goal
 use Rattle.smx_live.specs.WorkedLives.{changes_shown}
 
@@ -7,13 +6,13 @@ pub returns-clause-on : goal.returns-clause-on
 returns-clause-on c = λ tracing v. refl
 
 pub returns-clause-off : goal.returns-clause-off
-returns-clause-off c = λ tracing v. off_ends tracing
+returns-clause-off c = elim [ true ↦ λ v. refl | false ↦ λ v. refl ]
 
 pub returns-clause-shown : goal.returns-clause-shown
-returns-clause-shown c = λ tracing v. show_keeps tracing
+returns-clause-shown c = elim [ true ↦ λ v. refl | false ↦ λ v. refl ]
 
 pub returns-clause-empty : goal.returns-clause-empty
-returns-clause-empty c = λ tracing v. empty_keeps tracing
+returns-clause-empty c = elim [ true ↦ λ v. refl | false ↦ λ v. refl ]
 
 pub returns-clause-entered : goal.returns-clause-entered
 returns-clause-entered c = λ tracing line e. refl
