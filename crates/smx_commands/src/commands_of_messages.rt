@@ -91,7 +91,6 @@ impl Tables {
         self.send_to(Place { stream, side }, addr, bytes, reply)
     }
 
-    #[inline(always)]
     fn receive_from(&mut self, place: Place, reply: &mut Reply) -> Result<(), StepError>
         ensures outcome { HasOutcome self.old self.new
             (receive_outcome self.old.drivers self.old.configuration place) (answer_of result reply.new) }

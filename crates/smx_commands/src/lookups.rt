@@ -68,7 +68,6 @@ impl Tables {
 
     /// Returns the stream of a descriptor. Fails with the first refusal that applies: there is no such descriptor; the
     /// stream is below a link; the stream's device has hung up. Does not allocate.
-    #[inline(always)]
     pub fn live_stream(&self, process: Process, fd: u32) -> Result<StreamId, Fault>
         ensures { result ≡ live_stream self.now.configuration process fd }
     {
@@ -98,7 +97,6 @@ impl Tables {
         self.lists.streams.exists(stream)
     }
 
-    #[inline(always)]
     pub(crate) fn leaf_stream(&self, name: &Name, minor: u32) -> Result<StreamId, Fault>
         requires { IsSound self.now.drivers self.now.configuration }
         ensures { result ≡ leaf_stream self.now.drivers self.now.configuration name.now minor }
@@ -117,7 +115,6 @@ impl Tables {
     }
 
     // Returns the stream that `leaf_stream` returns. Also fails if the device of this stream has hung up.
-    #[inline(always)]
     pub(crate) fn live_leaf(&self, name: &Name, minor: u32) -> Result<StreamId, Fault>
         requires { IsSound self.now.drivers self.now.configuration }
         ensures { result ≡ live_leaf self.now.drivers self.now.configuration name.now minor }

@@ -17,7 +17,6 @@ impl Tables {
     /// `message_stream` for this command. Writes the reply to `reply`, so that no caller has to move the reply in
     /// memory. If the command is refused, or if an allocation fails, the tables have not changed. `dup`, `unbind`,
     /// `unroute`, `read`, `transmit` and `hangup` do not allocate.
-    #[inline(always)]
     pub fn perform(
         &mut self,
         process: Process,

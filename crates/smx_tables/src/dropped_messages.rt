@@ -14,7 +14,6 @@ use std::mem::replace;
 
 /// Drops the messages at a place, and clears its full mark. Adds the serials of these messages to `dropped`, which has
 /// room for the serials of all queued messages.
-#[inline(always)]
 pub fn drop_at(queues: &mut FlowTable, place: Place, dropped: &mut Vec<u32>)
     requires { HasRoom dropped.old queues.old.flow }
     ensures { EmptiesPlaces (λ p. same_place p place) queues.old dropped.old queues.new dropped.new }
@@ -49,7 +48,6 @@ fn drop_side(
 }
 
 /// Drops the messages and the full marks on the sides of a stream that `sides` names.
-#[inline(always)]
 pub fn drop_sides(queues: &mut FlowTable, stream: StreamId, sides: Sides, dropped: &mut Vec<u32>)
     requires { HasRoom dropped.old queues.old.flow }
     ensures { EmptiesPlaces (λ p. same_stream p.stream stream && is_side sides p.side)
@@ -71,7 +69,6 @@ fn rising(dropped: Vec<u32>) -> Vec<u32>
 
 /// Returns `Reply::Done` with the serials that `dropped` has, in rising order. The list moves from `dropped` into the
 /// reply. If `dropped` is empty, it stays as it is, and the reply has a new empty list, which takes no memory.
-#[inline(always)]
 pub fn name_dropped(dropped: &mut Vec<u32>) -> Reply
     ensures { (left : List QueuedMessage) → NamesDropped left dropped.old.items left result }
 {

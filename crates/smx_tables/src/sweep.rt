@@ -34,7 +34,6 @@ fn unbind(binds: &mut Bindings, stream: StreamId)
 }
 
 // Removes the binding, the messages and the full marks of the stream, unless the table of streams has the stream.
-#[inline(always)]
 fn drop_if_dead(lists: &mut Lists, stream: StreamId, dropped: &mut Vec<u32>)
     requires { HasRoom dropped.old lists.old.queues.flow }
     ensures value { configuration_of lists.new
@@ -52,7 +51,6 @@ fn drop_if_dead(lists: &mut Lists, stream: StreamId, dropped: &mut Vec<u32>)
 
 // Removes the bindings, messages and full marks of streams that don't exist. Requires that each hung-up stream exists,
 // and that each stream that doesn't exist, but to which something still belongs, is in `seen`.
-#[inline(always)]
 fn drop_dead(lists: &mut Lists, seen: &[StreamId], dropped: &mut Vec<u32>)
     requires kept { KeepsHolds lists.old }
     requires hungs { (s : StreamId) → is_hung lists.old.streams.hungs s ≡ true → is_there lists.old.streams s ≡ true }
@@ -171,7 +169,6 @@ pub fn reserve_for_sweep(
 }
 
 /// Sweeps after a change. Replies with the messages that were dropped since room was reserved.
-#[inline(always)]
 pub fn sweep_and_reply(drivers: &[DriverSpec], lists: &mut Lists, room: &mut SweepReserve) -> Reply
     requires kept { KeepsHolds lists.old }
     requires known { AreControllingKnown drivers.now lists.old.links.links }
