@@ -1,11 +1,11 @@
 -- Marks after a change of one word, and the number of marks.
 use Rattle.std.proofs.Common.{◌≡◌, ◌≢◌, ℕ, zero, suc, ◌+◌, ◌-◌, ◌*◌, ◌/◌, ◌%◌, ◌<◌, ◌≤◌, ◌^◌, Bool, true, false, cond}
 use Rattle.std.proofs.Common.{eqb, ◌&&◌, not, eq-eqb}
-use Rattle.std.proofs.Common.{List, length, set, get_or, refl, sym, ap, ◌∙◌, subst, arith, inl, inr, w64}
+use Rattle.std.proofs.Common.{List, length, set, get_or, refl, sym, ap, ◌∙◌, arith, inl, inr, w64}
 use Rattle.std.specs.Prelude.{bit_and, bit_or}
 use Rattle.std.specs.Int.{bit_at, bit_not, trailing_zeros}
-use Rattle.std.proofs.lemmas.Bool.{cases_eq, cases_lt, false≢true, ne_eqb}
-use Rattle.std.proofs.lemmas.List.{get_or-set_other, get_or-set_same, get_or_default, get_or_past}
+use Rattle.std.proofs.lemmas.Bool.{and_right, cases_eq, cases_lt, false_from_ne_true, ne_eqb}
+use Rattle.std.proofs.lemmas.List.{get_or-set_other, get_or-set_same, get_or_default, get_or_past, length-set}
 use Rattle.std.proofs.lemmas.Nat.{shr-shr}
 use Rattle.std.proofs.lemmas.Nat.Bits.{bit_at-trailing_zeros, bit_at-zero, bit_at_above, bit_at_clear_other}
 use Rattle.std.proofs.lemmas.Nat.Bits.{bit_at_clear_same, bit_at_set_other, bit_at_set_same}
@@ -23,84 +23,110 @@ bit_below n = omega arith
 same_number : (m n : ℕ) → m / 64 ≡ n / 64 → m % 64 ≡ n % 64 → m ≡ n
 same_number m n word bit = omega arith
 
--- after the word of a number is set, the number is marked if its bit is 1 in the new word
-here_is : (words : List ℕ) (n x : ℕ) → n < 64 * length words
-    → bit_of (set words (n / 64) x) n ≡ eqb (bit_at x (n % 64)) 1
-here_is words n x below = ap (λ (w : ℕ). eqb (bit_at w (n % 64)) 1)
-    (get_or-set_same words (n / 64) x 0 (word_below words n below))
+-- ---- one mark is set or cleared
 
--- if the other bits of the new word are those of the old one, all other numbers are marked as before
-others_are : (words : List ℕ) (n old x : ℕ) → n < 64 * length words → old ≡ get_or words (n / 64) old
-    → ((i : ℕ) → i < 64 → i ≢ n % 64 → bit_at x i ≡ bit_at old i) → (m : ℕ) → m ≢ n
-    → bit_of (set words (n / 64) x) m ≡ bit_of words m
-others_are words n old x below read same m differ = elim (cases_eq (m / 64) (n / 64)) [
-  | inl word ↦
-      let was : old ≡ get_or words (m / 64) 0 = read ∙ (get_or_default words (n / 64) old 0 (word_below words n below)
-      ∙ ap (λ (w : ℕ). get_or words w 0) (sym word)) in
-      let now : get_or (set words (n / 64) x) (m / 64) 0 ≡ x = ap (λ (w : ℕ). get_or (set words (n / 64) x) w 0) word
-      ∙ get_or-set_same words (n / 64) x 0 (word_below words n below) in
-      ap (λ (w : ℕ). eqb (bit_at w (m % 64)) 1) now
-      ∙ (ap (λ (b : ℕ). eqb b 1) (same (m % 64) (bit_below m) (λ bit. differ (same_number m n word bit)))
-      ∙ ap (λ (w : ℕ). eqb (bit_at w (m % 64)) 1) was)
-  | inr other ↦ ap (λ (w : ℕ). eqb (bit_at w (m % 64)) 1) (get_or-set_other words (n / 64) (m / 64) x 0 other)
-]
+-- the number is marked now, or is not, and all other numbers are marked as before
+pub record IsOneChanged (words new : List ℕ) (n : ℕ) (mark : Bool) : Type 0 where
+  pub many : length new ≡ length words
+  pub here : bit_of new n ≡ mark
+  pub others : (m : ℕ) → m ≢ n → bit_of new m ≡ bit_of words m
 
--- ---- a mark is set
+-- this is so if a word was written that has another bit only for this number
+written : (words : List ℕ) (n old x : ℕ) (mark : Bool) → n < 64 * length words → old ≡ get_or words (n / 64) old
+    → eqb (bit_at x (n % 64)) 1 ≡ mark → ((i : ℕ) → i < 64 → i ≢ n % 64 → bit_at x i ≡ bit_at old i)
+    → IsOneChanged words (set words (n / 64) x) n mark
+written words n old x mark below read bit same = record {
+  many = length-set words (n / 64) x;
+  here = ap (λ (w : ℕ). eqb (bit_at w (n % 64)) 1) (get_or-set_same words (n / 64) x 0 within) ∙ bit;
+  others = λ m differ. elim (cases_eq (m / 64) (n / 64)) [
+    | inl word ↦ rw (word, get_or-set_same words (n / 64) x 0 within) (ap (λ (b : ℕ). eqb b 1)
+        (same (m % 64) (bit_below m) (λ b. differ (same_number m n word b))
+        ∙ ap (λ (w : ℕ). bit_at w (m % 64)) (read ∙ get_or_default words (n / 64) old 0 within)))
+    | inr other ↦ ap (λ (w : ℕ). eqb (bit_at w (m % 64)) 1) (get_or-set_other words (n / 64) (m / 64) x 0 other)
+  ];
+} where
+  within : n / 64 < length words
+  within = word_below words n below
 
-pub set_here : (words : List ℕ) (n old : ℕ) → n < 64 * length words
-    → bit_of (set words (n / 64) (bit_or old (1 * 2 ^ (n % 64) % 2 ^ 64))) n ≡ true
-set_here words n old below = here_is words n (bit_or old (1 * 2 ^ (n % 64) % 2 ^ 64)) below
-    ∙ ap (λ (b : ℕ). eqb b 1) (bit_at_set_same w64 old (n % 64) (bit_below n))
-
-pub set_others : (words : List ℕ) (n old : ℕ) → n < 64 * length words → old ≡ get_or words (n / 64) old → (m : ℕ)
-    → m ≢ n → bit_of (set words (n / 64) (bit_or old (1 * 2 ^ (n % 64) % 2 ^ 64))) m ≡ bit_of words m
-set_others words n old below read = others_are words n old (bit_or old (1 * 2 ^ (n % 64) % 2 ^ 64)) below read
+-- a mark is set
+pub mark_set : (words : List ℕ) (n old : ℕ) → n < 64 * length words → old ≡ get_or words (n / 64) old
+    → IsOneChanged words (set words (n / 64) (bit_or old (1 * 2 ^ (n % 64) % 2 ^ 64))) n true
+mark_set words n old below read = written words n old (bit_or old (1 * 2 ^ (n % 64) % 2 ^ 64)) true below read
+    (ap (λ (b : ℕ). eqb b 1) (bit_at_set_same w64 old (n % 64) (bit_below n)))
     (λ i lt other. bit_at_set_other w64 old (n % 64) (bit_below n) i other)
 
--- ---- a mark is cleared
+-- a mark is cleared
+pub mark_cleared : (words : List ℕ) (n old : ℕ) → n < 64 * length words → old ≡ get_or words (n / 64) old
+    → IsOneChanged words (set words (n / 64) (bit_and old (bit_not w64 (1 * 2 ^ (n % 64) % 2 ^ 64)))) n false
+mark_cleared words n old below read =
+    written words n old (bit_and old (bit_not w64 (1 * 2 ^ (n % 64) % 2 ^ 64))) false below read
+    (ap (λ (b : ℕ). eqb b 1) (bit_at_clear_same w64 old (n % 64) (bit_below n)))
+    (λ i lt other. bit_at_clear_other w64 old (n % 64) (bit_below n) i lt other)
 
-pub clear_here : (words : List ℕ) (n old : ℕ) → n < 64 * length words
-    → bit_of (set words (n / 64) (bit_and old (bit_not w64 (1 * 2 ^ (n % 64) % 2 ^ 64)))) n ≡ false
-clear_here words n old below = here_is words n (bit_and old (bit_not w64 (1 * 2 ^ (n % 64) % 2 ^ 64))) below
-    ∙ ap (λ (b : ℕ). eqb b 1) (bit_at_clear_same w64 old (n % 64) (bit_below n))
+-- the words stay sound, if the new first word is not after the old one nor after a word with a new mark
+pub still_bits : (first new_first count : ℕ) (words new : List ℕ) (n : ℕ) (mark : Bool) → AreBits first count words
+    → IsOneChanged words new n mark → n < count → new_first ≤ first → (mark ≡ true → new_first ≤ n / 64)
+    → AreBits new_first count new
+still_bits first new_first count words new n mark h c lt le low = record {
+  before = λ m less. elim (cases_eq m n) [
+    | inl is ↦ rw is (c.here ∙ false_from_ne_true mark (λ t. let l = low t in omega (arith, is, less, l)))
+    | inr other ↦ c.others m other ∙ h.before m (omega (arith, less, le))
+  ];
+  first_in = omega (arith, le, c.many, h.first_in);
+  many = omega (arith, c.many, h.many);
+  small = omega (arith, c.many, h.small);
+  below = λ m t. elim (cases_eq m n) [
+    | inl is ↦ omega (arith, is, lt)
+    | inr other ↦ h.below m (sym (c.others m other) ∙ t)
+  ];
+}
 
-pub clear_others : (words : List ℕ) (n old : ℕ) → n < 64 * length words → old ≡ get_or words (n / 64) old → (m : ℕ)
-    → m ≢ n → bit_of (set words (n / 64) (bit_and old (bit_not w64 (1 * 2 ^ (n % 64) % 2 ^ 64)))) m ≡ bit_of words m
-clear_others words n old below read = others_are words n old (bit_and old (bit_not w64 (1 * 2 ^ (n % 64) % 2 ^ 64)))
-    below read (λ i lt other. bit_at_clear_other w64 old (n % 64) (bit_below n) i lt other)
-
--- if all other numbers are marked as before, the number of marks before this number is the same
-same_below : (old new : List ℕ) (n k : ℕ) → ((m : ℕ) → m ≢ n → bit_of new m ≡ bit_of old m) → k ≤ n
-    → count_below new k ≡ count_below old k
-same_below old new n zero others le = refl
-same_below old new n (suc k) others le =
-    ap (λ (c : ℕ). c + cond (bit_of new k) 1 0) (same_below old new n k others (omega arith))
-    ∙ ap (λ (b : Bool). count_below old k + cond b 1 0) (others k (λ e. omega (arith, e, le)))
-
--- if the mark of this number was cleared, there are fewer marks before each later number
-less_below : (old new : List ℕ) (n k : ℕ) → ((m : ℕ) → m ≢ n → bit_of new m ≡ bit_of old m)
-    → bit_of new n ≡ false → bit_of old n ≡ true → n < k → count_below new k < count_below old k
-less_below old new n zero others gone was lt = absurd (omega (arith, lt))
-less_below old new n (suc k) others gone was lt = elim (cases_eq k n) [
-  | inl is ↦
-      let before = same_below old new n k others (omega (arith, is)) in
-      let a : cond {A = ℕ} (bit_of new k) 1 0 ≡ 0 = ap (λ (b : Bool). cond b 1 0) (ap (bit_of new) is ∙ gone) in
-      let b : cond {A = ℕ} (bit_of old k) 1 0 ≡ 1 = ap (λ (b : Bool). cond b 1 0) (ap (bit_of old) is ∙ was) in
-      omega (arith, before, a, b)
-  | inr other ↦
-      let before = less_below old new n k others gone was (omega (arith, other, lt)) in
-      let same : cond {A = ℕ} (bit_of new k) 1 0 ≡ cond {A = ℕ} (bit_of old k) 1 0 = ap (λ (b : Bool). cond b 1 0)
-      (others k other) in
-      omega (arith, before, same)
+-- if a mark was set, a number that was marked is still marked
+pub still_marked : (words new : List ℕ) (n : ℕ) → IsOneChanged words new n true → (m : ℕ) → bit_of words m ≡ true
+    → bit_of new m ≡ true
+still_marked words new n c m was = elim (cases_eq m n) [
+  | inl is ↦ ap (bit_of new) is ∙ c.here
+  | inr other ↦ c.others m other ∙ was
 ]
 
--- if one mark was cleared, there are fewer marks
-pub fewer : (old new : List ℕ) (n : ℕ) → length new ≡ length old → ((m : ℕ) → m ≢ n → bit_of new m ≡ bit_of old m)
-    → bit_of new n ≡ false → n < 64 * length old → bit_of old n ≡ true
-    → count_below new (64 * length new) < count_below old (64 * length old)
-fewer old new n many others gone below was =
-    subst (λ (k : ℕ). count_below new (64 * k) < count_below old (64 * length old)) (sym many)
-    (less_below old new n (64 * length old) others gone was below)
+-- if a mark was cleared, a number is marked if it was, unless it is this one
+pub all_but_one : (words new : List ℕ) (n : ℕ) → IsOneChanged words new n false → (m : ℕ)
+    → bit_of new m ≡ (bit_of words m && not (eqb n m))
+all_but_one words new n c m = elim (cases_eq m n) [
+  | inl is ↦ ap (bit_of new) is ∙ (c.here ∙ sym (and_right (bit_of words m) _ (ap not (eq-eqb n m (sym is)))))
+  | inr other ↦
+      let e : eqb n m ≡ false = ne_eqb n m (λ is. other (sym is)) in
+      c.others m other ∙ sym (rw e (and_not (bit_of words m)))
+] where
+  and_not : (b : Bool) → (b && not false) ≡ b
+  and_not true = refl
+  and_not false = refl
+
+-- if a mark was cleared, there is one mark less before each later number, and as many before each other one
+one_less : (words new : List ℕ) (n : ℕ) → IsOneChanged words new n false → bit_of words n ≡ true → (k : ℕ)
+    → (n < k → count_below new k + 1 ≡ count_below words k) × (k ≤ n → count_below new k ≡ count_below words k)
+one_less words new n c was zero = (λ lt. absurd (omega (arith, lt)), λ _. refl)
+one_less words new n c was (suc k) =
+    let r = one_less words new n c was k in
+    elim (cases_eq k n) [
+      | inl is ↦
+          let e = r.1 (omega (arith, is)) in
+          let a : cond {A = ℕ} (bit_of new k) 1 0 ≡ 0 = ap (λ (b : Bool). cond b 1 0) (ap (bit_of new) is ∙ c.here) in
+          let b : cond {A = ℕ} (bit_of words k) 1 0 ≡ 1 = ap (λ (b : Bool). cond b 1 0) (ap (bit_of words) is ∙ was) in
+          (λ _. omega (arith, e, a, b), λ le. absurd (omega (arith, is, le)))
+      | inr other ↦
+          let same : cond {A = ℕ} (bit_of new k) 1 0 ≡ cond {A = ℕ} (bit_of words k) 1 0 =
+          ap (λ (b : Bool). cond b 1 0) (c.others k other) in (
+            λ lt. let e = r.0 (omega (arith, other, lt)) in omega (arith, e, same),
+            λ le. let e = r.1 (omega (arith, le)) in omega (arith, e, same),
+          )
+    ]
+
+-- if a mark was cleared, there are fewer marks
+pub fewer : (words new : List ℕ) (n : ℕ) → IsOneChanged words new n false → n < 64 * length words
+    → bit_of words n ≡ true → count_below new (64 * length new) < count_below words (64 * length words)
+fewer words new n c below was =
+    let less = (one_less words new n c was (64 * length words)).0 below in rw c.many (omega (arith, less))
 
 -- ---- the least mark
 
@@ -112,72 +138,6 @@ none_in words m empty = ap (λ (w : ℕ). eqb (bit_at w (m % 64)) 1) empty
 -- a number after the last word isn't marked
 pub none_past : (words : List ℕ) (m : ℕ) → length words ≤ m / 64 → bit_of words m ≡ false
 none_past words m past = none_in words m (get_or_past words (m / 64) 0 past)
-
--- ---- the words after a change
-
--- the words stay sound if only one number changed, and the new first word is not after the old one nor after the word
--- of this number
-pub still_set : (first new_first count : ℕ) (words new : List ℕ) (n : ℕ) → AreBits first count words → n < count
-    → length new ≡ length words → ((m : ℕ) → m ≢ n → bit_of new m ≡ bit_of words m) → new_first ≤ first
-    → new_first ≤ n / 64 → AreBits new_first count new
-still_set first new_first count words new n h lt many others le low = record {
-  before = λ m less. others m (λ e. omega (arith, e, less, low)) ∙ h.before m (omega (arith, less, le));
-  first_in = omega (arith, le, many, h.first_in);
-  many = omega (arith, many, h.many);
-  small = omega (arith, many, h.small);
-  below = λ m t. elim (cases_eq m n) [
-    | inl is ↦ omega (arith, is, lt)
-    | inr other ↦ h.below m (sym (others m other) ∙ t)
-  ];
-}
-
--- the words stay sound if one mark was cleared
-pub still_cleared : (first count : ℕ) (words new : List ℕ) (n : ℕ) → AreBits first count words
-    → length new ≡ length words → bit_of new n ≡ false → ((m : ℕ) → m ≢ n → bit_of new m ≡ bit_of words m)
-    → AreBits first count new
-still_cleared first count words new n h many gone others = record {
-  before = λ m less. elim (cases_eq m n) [
-    | inl is ↦ ap (bit_of new) is ∙ gone
-    | inr other ↦ others m other ∙ h.before m less
-  ];
-  first_in = omega (arith, many, h.first_in);
-  many = omega (arith, many, h.many);
-  small = omega (arith, many, h.small);
-  below = λ m t. elim (cases_eq m n) [
-    | inl is ↦ absurd (false≢true (sym gone ∙ (ap (bit_of new) (sym is) ∙ t)))
-    | inr other ↦ h.below m (sym (others m other) ∙ t)
-  ];
-}
-
--- a number that was marked is still marked if only one number changed, and this one is now marked
-pub still_marked : (words new : List ℕ) (n : ℕ) → bit_of new n ≡ true
-    → ((m : ℕ) → m ≢ n → bit_of new m ≡ bit_of words m) → (m : ℕ) → bit_of words m ≡ true → bit_of new m ≡ true
-still_marked words new n here others m was = elim (cases_eq m n) [
-  | inl is ↦ ap (bit_of new) is ∙ here
-  | inr other ↦ others m other ∙ was
-]
-
--- a test and not false are the test
-and_not : (b : Bool) → (b && not false) ≡ b
-and_not true = refl
-and_not false = refl
-
--- a test and not true are false
-and_not_true : (b : Bool) → (b && not true) ≡ false
-and_not_true true = refl
-and_not_true false = refl
-
--- if one mark was cleared and the others are as before, a number is marked if it was, unless it is this one
-pub all_but_one : (words new : List ℕ) (n : ℕ) → bit_of new n ≡ false
-    → ((m : ℕ) → m ≢ n → bit_of new m ≡ bit_of words m) → (m : ℕ) → bit_of new m ≡ (bit_of words m && not (eqb n m))
-all_but_one words new n gone others m = elim (cases_eq m n) [
-  | inl is ↦
-      let e : eqb n m ≡ true = eq-eqb n m (sym is) in
-      ap (bit_of new) is ∙ (gone ∙ sym (rw e (and_not_true (bit_of words m))))
-  | inr other ↦
-      let e : eqb n m ≡ false = ne_eqb n m (λ is. other (sym is)) in
-      others m other ∙ sym (rw e (and_not (bit_of words m)))
-]
 
 -- ---- the least mark from a number on
 

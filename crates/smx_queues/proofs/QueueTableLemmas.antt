@@ -1,6 +1,6 @@
 -- Queues by number, when one of them changes.
 use Rattle.std.proofs.Common.{◌≡◌, ℕ, zero, suc, ◌+◌, ◌<◌, ◌≤◌, nat_lt, not, Bool, true, false, List, [], ◌∷◌, ◌++◌}
-use Rattle.std.proofs.Common.{length, drop, set, map, inl, inr, cond, position, Option, Some, None, refl}
+use Rattle.std.proofs.Common.{length, set, map, inl, inr, cond, position, Option, Some, None, refl}
 use Rattle.std.proofs.Common.{sym, ap, ◌∙◌, arith}
 use Rattle.std.specs.List.{slice_get, position_or_len}
 use Rattle.std.proofs.lemmas.Bool.Decides.{nat_tests}
@@ -8,13 +8,11 @@ use Rattle.std.proofs.lemmas.List.Sums.{fails_before_first, position_or_len_is}
 use Rattle.std.proofs.lemmas.List.Quantifiers.{position-Some}
 use Rattle.std.proofs.lemmas.List.{get_or-set_same, set-set, length-drop}
 use Rattle.std.proofs.lemmas.Bool.{cases_Bool, not-true}
-use Rattle.std.specs.Prelude.{◌&&◌}
 use Rattle.slab.specs.Slab.{Slab}
 use Rattle.smx_types.specs.declared.message.Message.{Message}
-use Rattle.smx_model.specs.Queues.{bytes_of}
 use Rattle.smx_queues.specs.declared.chain.Chain.{Chain}
-use Rattle.smx_queues.specs.QueueTable.{Queue, QueueTable, IsPlace, queue_at, least_vacant, with_place, without_front}
-use Rattle.smx_queues.specs.QueueTable.{without_messages}
+use Rattle.smx_queues.specs.QueueTable.{Queue, QueueTable, IsPlace, queue_at, least_vacant, with_place, with_queue}
+use Rattle.smx_queues.specs.QueueTable.{without_front, without_messages}
 use Rattle.smx_queues.specs.declared.node.Node.{Node}
 use Rattle.smx_queues.specs.Chains.{chain_at, no_chain, slot_of}
 
@@ -37,52 +35,32 @@ set_itself (Some q ∷ queues) zero is = refl
 set_itself (None ∷ queues) zero is = absurd (cc)
 set_itself (x ∷ queues) (suc p) is = ap (λ rest. x ∷ rest) (set_itself queues p is)
 
--- place p has these messages left and this mark; nothing else has changed, and each message that left freed an entry
-pub record IsClearing (old new : QueueTable) (p : ℕ) : Type 0 where
-  pub messages : List Message
-  pub full : Bool
-  pub queues : new.queues ≡ set old.queues p
-      (Some (record (queue_at old.queues p) { messages = messages; full = full }))
-  pub spare : new.spare + length messages ≡ old.spare + length (queue_at old.queues p).messages
-
--- at the start of a clearing, the place has all its messages and its mark
-pub clearing_starts : (q : QueueTable) (p : ℕ) → IsPlace q.queues p → IsClearing q q p
-clearing_starts q p is =
-    record {
-      messages = (queue_at q.queues p).messages;
-      full = (queue_at q.queues p).full;
-      queues = sym (set_itself q.queues p is);
-      spare = refl;
-    }
-
--- the queue of a place that is being cleared has the messages that are left and its mark; the rest is unchanged
-now_at : (old new : QueueTable) (p : ℕ) (c : IsClearing old new p) → p < length old.queues
-    → queue_at new.queues p ≡ record (queue_at old.queues p) { messages = c.messages; full = c.full }
-now_at old new p c below = ap (λ qs. queue_at qs p) c.queues ∙ set_at old.queues p _ below
-
 -- a list with a first message is not empty
 first_some : (ms : List Message) (m : Message) → Some m ≡ slice_get ms 0 → 0 < length ms
 first_some [] m e = absurd (cc)
 first_some (x ∷ ms) m e = omega arith
 
--- setting equal queues at the same number of equal lists gives equal lists
-pub same_set : (queues queues' : List (Option Queue)) (p : ℕ) (q q' : Queue) → queues ≡ queues' → q ≡ q'
-    → set queues p (Some q) ≡ set queues' p (Some q')
-same_set queues queues' p q q' e f = rw (e, f) refl
+-- the place is still there, and it will be the same without messages; each message that left freed an entry
+pub record IsClearing (old new : QueueTable) (p : ℕ) : Type 0 where
+  pub there : IsPlace new.queues p
+  pub cleared : with_queue new.queues p (without_messages (queue_at new.queues p))
+      ≡ with_queue old.queues p (without_messages (queue_at old.queues p))
+  pub spare : new.spare + length (queue_at new.queues p).messages
+      ≡ old.spare + length (queue_at old.queues p).messages
 
--- after one more message has left a place that is being cleared, the later ones are left
-pub clearing_goes_on : (old mid new : QueueTable) (p : ℕ) (m : Message) → p < length old.queues → IsClearing old mid p
+-- this is so after one more message has left the place
+pub clearing_goes_on : (old mid new : QueueTable) (p : ℕ) (m : Message) → IsClearing old mid p
     → Some m ≡ slice_get (queue_at mid.queues p).messages 0
-    → new.queues ≡ set mid.queues p (Some (without_front (queue_at mid.queues p))) → new.spare ≡ mid.spare + 1
+    → new.queues ≡ with_queue mid.queues p (without_front (queue_at mid.queues p)) → new.spare ≡ mid.spare + 1
     → IsClearing old new p
-clearing_goes_on old mid new p m below c taken gone room =
-    let e = now_at old mid p c below in
-    let some = first_some c.messages m (taken ∙ ap (λ (q : Queue). slice_get q.messages 0) e) in
+clearing_goes_on old mid new p m c taken gone room =
+    let below = place_below mid.queues p c.there in
+    let left = set_at mid.queues p (without_front (queue_at mid.queues p)) below in
+    let some = first_some (queue_at mid.queues p).messages m taken in
     record {
-      messages = drop 1 c.messages;
-      full = c.full && nat_lt (queue_at old.queues p).low (bytes_of (drop 1 c.messages));
-      queues = gone ∙ same_set _ _ p _ _ c.queues (ap without_front e) ∙ set-set old.queues p _ _;
-      spare = omega (arith, room, c.spare, some, length-drop 1 c.messages);
+      there = rw (gone, get_or-set_same mid.queues p (Some (without_front (queue_at mid.queues p))) None below) refl;
+      cleared = rw (gone, left) (set-set mid.queues p _ _) ∙ c.cleared;
+      spare = rw (gone, left) (omega (arith, room, some, c.spare, length-drop 1 (queue_at mid.queues p).messages));
     }
 
 -- setting a queue at the lowest number without a place adds a place
@@ -136,15 +114,6 @@ vacant_not_found s chains none =
         → None ≡ cond b (Some (position_or_len goes chains)) None → length chains ≤ position_or_len goes chains
     far true is none = absurd (cc)
     far false is none = grind (arith, nat_tests)
-
--- after all messages have left a place and its mark is removed, it has no message and is not full
-pub cleared_queues : (old mid : QueueTable) (p : ℕ) → IsPlace old.queues p → IsClearing old mid p
-    → None ≡ slice_get (queue_at mid.queues p).messages 0
-    → set mid.queues p (Some (without_messages (queue_at mid.queues p)))
-    ≡ set old.queues p (Some (without_messages (queue_at old.queues p)))
-cleared_queues old mid p there c none =
-    same_set _ _ p _ _ c.queues (ap without_messages (now_at old mid p c (place_below old.queues p there)))
-    ∙ set-set old.queues p _ _
 
 -- of two settings at the same number, the second one counts
 pub set_again : (queues : List (Option Queue)) (p : ℕ) (a b : Option Queue) → set (set queues p a) p b ≡ set queues p b

@@ -1,31 +1,26 @@
-use Rattle.std.proofs.Common.{◌<◌, ◌*◌, length, arith, ap}
-use Rattle.std.proofs.lemmas.List.{length-set}
-use Rattle.smx_queues.specs.Bits.{BitTable}
-use Rattle.smx_queues.proofs.BitLemmas.{all_but_one, clear_here, clear_others, fewer, still_cleared}
+use Rattle.std.proofs.Common.{◌*◌, ◌%◌, ◌/◌, ◌^◌, arith, set, false, w64}
+use Rattle.std.specs.Prelude.{bit_and}
+use Rattle.std.specs.Int.{bit_not}
+use Rattle.smx_queues.proofs.BitLemmas.{IsOneChanged, all_but_one, fewer, mark_cleared, still_bits}
 use Rattle.smx_queues.proofs.bits.Bits.clear.Goals as goal
 use Rattle.smx_queues.proofs.bits.Bits.clear.Goals.{After-index_mut}
 
--- the number has a bit
-within : (c : After-index_mut) → c.args.n < 64 * length c.self.inside.words.items
-within c = omega (arith, c.requires, ap (λ (b : BitTable). b.count) c.self.view_is, c.self.invariant.many)
+-- the number is not marked now, and the other numbers are marked as before
+changed : (c : After-index_mut) → IsOneChanged c.self.inside.words.items (set c.self.inside.words.items (c.args.n / 64)
+    (bit_and c.index_mut.result.now (bit_not w64 (1 * 2 ^ (c.args.n % 64) % 2 ^ 64)))) c.args.n false
+changed c = mark_cleared _ _ _ (omega (arith, rw (← c.self.view_is) at c.requires, c.self.invariant.many))
+    c.index_mut.ensures.value
 
 pub invariant_of-self : goal.invariant_of-self
-invariant_of-self c =
-    let lt = within (goal.at.invariant_of-self c).After-index_mut in
-    still_cleared c.self.inside.first c.self.inside.count c.self.inside.words.items _ c.args.n c.self.invariant
-    (length-set _ _ _) (clear_here c.self.inside.words.items c.args.n c.index_mut.result.now lt)
-    (clear_others c.self.inside.words.items c.args.n c.index_mut.result.now lt c.index_mut.ensures.value)
+invariant_of-self c = still_bits _ _ _ _ _ c.args.n false c.self.invariant
+    (changed (goal.at.invariant_of-self c).After-index_mut) (rw (← c.self.view_is) at c.requires) (omega arith)
+    (λ t. absurd (cc))
 
 pub returns-clause-gone : goal.returns-clause-gone
-returns-clause-gone c =
-    let lt = within (goal.at.returns-clause-gone c).After-index_mut in
-    rw (← c.self.view_is) (all_but_one c.self.inside.words.items _ c.args.n
-    (clear_here c.self.inside.words.items c.args.n c.index_mut.result.now lt)
-    (clear_others c.self.inside.words.items c.args.n c.index_mut.result.now lt c.index_mut.ensures.value))
+returns-clause-gone c = rw (← c.self.view_is)
+    (all_but_one _ _ c.args.n (changed (goal.at.returns-clause-gone c).After-index_mut))
 
 pub returns-clause-fewer : goal.returns-clause-fewer
-returns-clause-fewer c =
-    let lt = within (goal.at.returns-clause-fewer c).After-index_mut in
-    rw (← c.self.view_is) (fewer c.self.inside.words.items _ c.args.n (length-set _ _ _)
-    (clear_others c.self.inside.words.items c.args.n c.index_mut.result.now lt c.index_mut.ensures.value)
-    (clear_here c.self.inside.words.items c.args.n c.index_mut.result.now lt) lt)
+returns-clause-fewer c = rw (← c.self.view_is) (fewer _ _ c.args.n
+    (changed (goal.at.returns-clause-fewer c).After-index_mut)
+    (omega (arith, rw (← c.self.view_is) at c.requires, c.self.invariant.many)))

@@ -40,23 +40,17 @@ later c first empty fits =
     found_later c.self.inside.words.items c.args.n c.index.result.now c.first_word-next.result c.index-2.result.now
     first c.if-rest-ne0.false empty c.first_word-next.ensures.low there (omega (arith, there, some)) fits
 
-pub returns-then-rest-ne0-clause-below : goal.returns-then-rest-ne0-clause-below
-returns-then-rest-ne0-clause-below c =
-    let g = goal.at.returns-then-rest-ne0-clause-below c in
+pub returns-then-rest-ne0 : goal.returns-then-rest-ne0
+returns-then-rest-ne0 c =
+    let g = goal.at.returns-then-rest-ne0 c in
     let found = here g.After-index (search rules) (omega (arith, c.if-rest-ne0.true)) (search rules) in
-    rw (← c.self.view_is) (c.self.invariant.below _ found.marked)
-
-pub returns-then-rest-ne0-clause-marked : goal.returns-then-rest-ne0-clause-marked
-returns-then-rest-ne0-clause-marked c =
-    let g = goal.at.returns-then-rest-ne0-clause-marked c in
-    rw (← c.self.view_is)
-    (here g.After-index (search rules) (omega (arith, c.if-rest-ne0.true)) (search rules)).marked
-
-pub returns-then-rest-ne0-clause-least : goal.returns-then-rest-ne0-clause-least
-returns-then-rest-ne0-clause-least c =
-    let g = goal.at.returns-then-rest-ne0-clause-least c in
-    rw (← c.self.view_is)
-    (here g.After-index (search rules) (omega (arith, c.if-rest-ne0.true)) (search rules)).least
+    rw (← c.self.view_is) (record {
+      below = c.self.invariant.below _ found.marked;
+      from = found.from;
+      marked = found.marked;
+      least = found.least;
+      none = tt;
+    })
 
 pub returns-then-next-len-clause-none : goal.returns-then-next-len-clause-none
 returns-then-next-len-clause-none c =
@@ -65,20 +59,14 @@ returns-then-next-len-clause-none c =
     (read g.After-index) c.if-rest-ne0.false (zeros g.After-first_word-next)
     (omega (arith, c.if-next-len.true, c.len-2.ensures)))
 
-pub returns-clause-below : goal.returns-clause-below
-returns-clause-below c =
-    let g = goal.at.returns-clause-below c in
+pub returns : goal.returns
+returns c =
+    let g = goal.at.returns c in
     let found = later g.After-index-2 (read g.After-index) (zeros g.After-first_word-next) (search rules) in
-    rw (← c.self.view_is) (c.self.invariant.below _ found.marked)
-
-pub returns-clause-marked : goal.returns-clause-marked
-returns-clause-marked c =
-    let g = goal.at.returns-clause-marked c in
-    rw (← c.self.view_is)
-    (later g.After-index-2 (read g.After-index) (zeros g.After-first_word-next) (search rules)).marked
-
-pub returns-clause-least : goal.returns-clause-least
-returns-clause-least c =
-    let g = goal.at.returns-clause-least c in
-    rw (← c.self.view_is)
-    (later g.After-index-2 (read g.After-index) (zeros g.After-first_word-next) (search rules)).least
+    rw (← c.self.view_is) (record {
+      below = c.self.invariant.below _ found.marked;
+      from = found.from;
+      marked = found.marked;
+      least = found.least;
+      none = tt;
+    })
