@@ -29,8 +29,8 @@ use Rattle.smx_commands.specs.Machine.{Machine}
 use Rattle.smx_commands.specs.ModelOfTables.{TablesInvariant, machine_of}
 use Rattle.smx_commands.proofs.DoneLemmas.{swept_is}
 use Rattle.smx_commands.proofs.TablesLemmas.{accepted}
-use Rattle.smx_tables.proofs.HungSweepLemmas.{sweep_of_left}
-use Rattle.smx_tables.proofs.TouchLemmas.{touched_by, touched_fds, touched_hungs, touched_there}
+use Rattle.smx_tables.proofs.HungLemmas.{sweep_of_left}
+use Rattle.smx_tables.proofs.TouchLemmas.{touched_beside, touched_by, touched_there}
 use Rattle.smx_tables.proofs.WatchLemmas.{listed_last}
 
 -- if the stream stays when one of its descriptors is closed, each stream that was in the table still is
@@ -74,8 +74,8 @@ pub close_touches : (drivers : List DriverSpec) (old : Configuration) (t u : Str
     → ((x : StreamId) → is_there t x ≡ true → is_there u x ≡ false → stream_at t.fds p n ≡ Some x)
     → IsTouched u ss (record old { fds = u.fds; hungs = u.hungs })
 close_touches drivers old t u p n s ss told swept at one went =
-    touched_hungs u ss (record old { fds = u.fds }) u.hungs
-    (touched_fds u ss old u.fds (touched_by drivers old t u ss told swept (closed_touches t u p n s ss at one went)))
+    touched_beside u ss old u.fds u.hungs
+    (touched_by drivers old t u ss told swept (closed_touches t u p n s ss at one went))
 
 -- if the streams of all closed descriptors of a process are in a list, each stream that was in the table still is, or
 -- is in the list

@@ -22,8 +22,7 @@ use Rattle.smx_model.specs.Paths.{HasNoCycle}
 use Rattle.smx_model.specs.Queues.{first_message, is_full}
 use Rattle.smx_model.specs.Settling.{◌>>=◌, live_write_side, next_open_place, next_place, place_above, place_below}
 use Rattle.smx_tables.proofs.AboveLemmas.{some_with_id, stream_is}
-use Rattle.smx_tables.proofs.FoundLemmas.{bound, found_passes, some_is}
-use Rattle.smx_tables.proofs.FoundLinkLemmas.{found_has}
+use Rattle.smx_tables.proofs.FoundLemmas.{bound, found_has, found_passes, some_is}
 
 -- the two drivers of a link differ
 drivers_differ : (links : List Link) (test : Link → Bool) (l : Link) → HasNoCycle links → find test links ≡ Some l

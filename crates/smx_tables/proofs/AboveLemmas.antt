@@ -1,5 +1,5 @@
--- At most one link is above a stream, and at most one has an id.
-use Rattle.std.proofs.Common.{◌≡◌, ℕ, suc, ◌<◌, Bool, true, false, ◌&&◌, eqb, List, [], ◌∷◌, length, map, filter}
+-- At most one link is above a stream, and at most one has an id, so that this link is found.
+use Rattle.std.proofs.Common.{◌≡◌, ℕ, zero, suc, ◌<◌, Bool, true, false, ◌&&◌, eqb, List, [], ◌∷◌, length, map, filter}
 use Rattle.std.proofs.Common.{get_or, find, Some, None, refl, sym, ap, ◌∙◌, arith, inl, inr}
 use Rattle.std.specs.Prelude.{nat_lt}
 use Rattle.std.specs.List.{list_any}
@@ -7,11 +7,14 @@ use Rattle.std.specs.Option.{option_map_or}
 use Rattle.std.proofs.Math.Bool.{and_comm, or-false}
 use Rattle.std.proofs.lemmas.Bool.{and_parts, cases_Bool, eqb-true, false_from_ne_true, false≢true}
 use Rattle.std.proofs.lemmas.Bool.Decides.{nat_tests}
+use Rattle.std.proofs.lemmas.List.Folds.{list_any_at}
+use Rattle.std.proofs.lemmas.Option.{same_Some}
 use Rattle.smx_types.specs.declared.link.Link.{Link}
 use Rattle.smx_types.specs.declared.stream.StreamId.{StreamId}
 use Rattle.smx_model.specs.Configuration.{same_stream}
 use Rattle.smx_model.specs.Ordered.{ComesBefore, IsRising}
 use Rattle.smx_model.specs.Paths.{AreLowersApart}
+use Rattle.smx_model.specs.Standing.{is_below}
 use Rattle.smx_model.proofs.TestLemmas.{any_more}
 use Rattle.smx_streams.proofs.NameLemmas.{same_sym}
 -- streams that pass the test `same_stream` are equal, and each stream passes it with itself
@@ -133,3 +136,30 @@ ids_of_one t id (l ∷ ls) o h = elim (cases_Bool (eqb l.id id && t l)) [
 pub target_of_id : (t : Link → Bool) (id : ℕ) (ls : List Link) → IsIdsRising ls
     → list_any (λ l. eqb l.id id && t l) ls ≡ true → map (λ l. l.id) (filter (λ l. eqb l.id id && t l) ls) ≡ id ∷ []
 target_of_id t id ls rise h = ids_of_one t id ls (once_id id ls rise) h
+
+-- ---- links that are found
+
+-- if at most one link passes a test, each link that passes it is the one that is found
+pub found_itself : (test : Link → Bool) (ls : List Link) (i : ℕ) (d : Link) → IsOnce test ls → i < length ls
+    → test (get_or ls i d) ≡ true → find test ls ≡ Some (get_or ls i d)
+found_itself test [] i d o lt h = absurd (omega arith)
+found_itself test (l ∷ ls) zero d o lt h = rw h refl
+found_itself test (l ∷ ls) (suc i) d o lt h = elim (cases_Bool (test l)) [
+  | inl t ↦ absurd (false≢true (sym (o.0 t) ∙ list_any_at test ls i d (omega arith) h))
+  | inr f ↦ rw f (found_itself test ls i d o.1 (omega arith) h)
+]
+
+-- the lower stream of each link is below a link
+pub below_at : (ls : List Link) (i : ℕ) (d : Link) → i < length ls → is_below ls (get_or ls i d).lower ≡ true
+below_at ls i d lt =
+    list_any_at (λ l. same_stream l.lower (get_or ls i d).lower) ls i d lt (stream_self (get_or ls i d).lower)
+
+-- two links with the same lower stream are equal
+pub one_link : (ls : List Link) (i j : ℕ) (d : Link) → AreLowersApart ls → i < length ls → j < length ls
+    → same_stream (get_or ls j d).lower (get_or ls i d).lower ≡ true → get_or ls j d ≡ get_or ls i d
+one_link ls i j d apart lt in_range same =
+    let s = (get_or ls i d).lower in
+    let once = once_below s ls apart in
+    let a = found_itself (λ l. same_stream l.lower s) ls i d once lt (stream_self s) in
+    let b = found_itself (λ l. same_stream l.lower s) ls j d once in_range same in
+    same_Some _ _ (sym b ∙ a)

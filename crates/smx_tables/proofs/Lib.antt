@@ -1,11 +1,9 @@
 pub mod AboveLemmas
 pub mod HungLemmas
 pub mod FoundLemmas
-pub mod LinkWalkLemmas
 pub mod ClimbLemmas
 pub mod ExistingLemmas
 pub mod DeadStreamLemmas
-pub mod FoundLinkLemmas
 pub mod ReleaseLemmas
 pub mod WatchLemmas
 pub mod OrphanLemmas
@@ -14,7 +12,6 @@ pub mod TouchLemmas
 pub mod OrphanIdLemmas
 pub mod LengthLemmas
 pub mod RemovalLemmas
-pub mod HungSweepLemmas
 pub mod BelowLemmas
 pub mod DropLemmas
 pub mod DriverNameLemmas

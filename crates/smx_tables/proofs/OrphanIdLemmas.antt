@@ -14,9 +14,9 @@ use Rattle.smx_streams.specs.StreamTables.{StreamTable, HasHolds, number_at}
 use Rattle.smx_tables.specs.ExistingStreams.{AreHeld, IsReleasing, holds_below, is_held, is_loose}
 use Rattle.smx_tables.specs.ListedLinks.{is_listed, AreIdsOf}
 use Rattle.smx_tables.specs.TouchedStreams.{AreReleased}
-use Rattle.smx_tables.proofs.AboveLemmas.{above_with_id, eqb_swap, once_below, stream_self, IsIdsRising}
+use Rattle.smx_tables.proofs.AboveLemmas.{above_with_id, eqb_swap, found_itself, once_below, stream_self}
+use Rattle.smx_tables.proofs.AboveLemmas.{IsIdsRising}
 use Rattle.smx_tables.proofs.ExistingLemmas.{holds_few}
-use Rattle.smx_tables.proofs.FoundLinkLemmas.{found_itself}
 use Rattle.smx_tables.proofs.ReleaseLemmas.{loose_held, this_one}
 use Rattle.smx_tables.proofs.ReleasedIdLemmas.{listed_one_more, released_once}
 use Rattle.smx_tables.proofs.RemovalLemmas.{kept_with_id}

@@ -1,25 +1,27 @@
 -- Releasing the lower streams of loose links.
 use Rattle.std.proofs.Common.{◌≡◌, ℕ, zero, suc, ◌-◌, ◌<◌, ◌≤◌, Bool, true, false, not, List, [], ◌∷◌, length}
 use Rattle.std.proofs.Common.{get_or, find, Option, Some, None, if◌then◌else◌, refl, sym, ap, subst, ◌∙◌, arith, inl}
-use Rattle.std.proofs.Common.{inr}
+use Rattle.std.proofs.Common.{inr, ◌&&◌}
 use Rattle.std.specs.Prelude.{nat_lt, slice_get}
 use Rattle.std.proofs.lemmas.Bool.{cases_Bool, and_parts, and_from, or_parts, false_from_ne_true, false≢true, not-true}
 use Rattle.std.proofs.lemmas.Bool.Decides.{nat_tests}
 use Rattle.std.proofs.lemmas.List.Elements.{recursion_from_All}
-use Rattle.std.proofs.lemmas.Option.{get_or_from_slice_get, slice_get_within}
+use Rattle.std.proofs.lemmas.Option.{get_or_from_slice_get, slice_get-get_or, slice_get_within}
 use Rattle.smx_types.specs.declared.link.Link.{Link}
+use Rattle.smx_types.specs.declared.link.LinkKind.TheVariants as kind
 use Rattle.smx_types.specs.declared.stream.Descriptor.{Descriptor}
 use Rattle.smx_types.specs.declared.stream.StreamId.{StreamId}
 use Rattle.smx_model.specs.Configuration.{same_stream}
 use Rattle.smx_model.specs.Paths.{AreLowersApart}
+use Rattle.smx_model.proofs.EachLemmas.{each_find}
+use Rattle.smx_model.proofs.TestLemmas.{find_passes}
 use Rattle.smx_model.specs.Standing.{is_named, is_persistent, stands_within}
 use Rattle.smx_streams.specs.StreamTables.{StreamTable, HasHolds, number_at, exists as is_there}
 use Rattle.smx_tables.specs.ExistingStreams.{AreHeld, IsReleasing, holds_below, is_held, is_loose}
 use Rattle.smx_tables.specs.ListedLinks.{is_orphaned}
-use Rattle.smx_tables.proofs.AboveLemmas.{stream_is, stream_self}
+use Rattle.smx_tables.proofs.AboveLemmas.{below_at, one_link, stream_is, stream_self}
 use Rattle.smx_tables.proofs.ClimbLemmas.{one_climb_more, stands_by, stands_is}
 use Rattle.smx_tables.proofs.ExistingLemmas.{held_is_below}
-use Rattle.smx_tables.proofs.FoundLinkLemmas.{below_at, found_has, one_link}
 
 -- ---- at first: each stream below a link is held
 
@@ -51,13 +53,12 @@ gone_stands_not links n t s apart h gone =
           → stands_by t.fds links m o ≡ false
       by None m e k = refl
       by (Some l) m e k =
-          let found = found_has (λ (l : Link). is_held t l ≡ false → is_orphaned t.fds links n l ≡ true)
-          (λ l. same_stream l.lower s) links l
-          (recursion_from_All (λ l. is_held t l ≡ false → is_orphaned t.fds links n l ≡ true) links h.orphaned) e in
+          let orphaned = each_find (λ (k : Link). is_held t k ≡ false → is_orphaned t.fds links n k ≡ true) _ links l e
+          (recursion_from_All _ links h.orphaned) in
           let parts = or_parts (is_named t.fds s) (nat_lt 0 (number_at t.holds s)) gone in
           let free : is_held t l ≡ false = ap (λ (x : StreamId). nat_lt 0 (number_at t.holds x))
-          (stream_is l.lower s found.0) ∙ parts.1 in
-          let two = and_parts (not (is_persistent l)) (not (stands_within t.fds links n l.ctl)) (found.1 free) in
+          (stream_is l.lower s (find_passes _ links l e)) ∙ parts.1 in
+          let two = and_parts (not (is_persistent l)) (not (stands_within t.fds links n l.ctl)) (orphaned free) in
           above_goes m l (not-true _ two.0) (not-true _ two.1) k
 
 -- a loose link is orphaned
@@ -135,3 +136,24 @@ less_this links i l t new at loose h =
     ∙ rw (stream_self l.lower) refl in
     less_at links i l t new (λ x. not_more_held t new l.lower x h) (slice_get_within links i l (sym at))
     (rw (this_one links i l at) (omega (arith, up, here)))
+
+-- ---- a walk over the links
+
+-- the link at which a loop over links is
+abbrev pub link_at : List Link → ℕ → Link
+link_at links i = get_or links i (record { id = 0; ctl = none; lower = none; kind = kind.Ordinary }) where
+  none : StreamId
+  none = record { driver = 0; minor = 0 }
+
+-- this link is in the table, and so in an equal list of links
+pub one_at : (xs ys : List Link) (i : ℕ) → ys ≡ xs → i < length ys → Some (link_at ys i) ≡ slice_get xs i
+one_at xs ys i same lt = sym (slice_get-get_or ys i _ lt) ∙ ap (λ (zs : List Link). slice_get zs i) same
+
+-- the release of the lower stream of a loose link at which a walk is leaves fewer holds below links
+pub less_there : (links listed : List Link) (i : ℕ) (ctl : StreamId) (t new : StreamTable) → listed ≡ links
+    → i < length listed → (same_stream (link_at listed i).ctl ctl && is_loose t (link_at listed i)) ≡ true
+    → HasHolds t (link_at listed i).lower (number_at t.holds (link_at listed i).lower - 1) new
+    → holds_below links new < holds_below links t
+less_there links listed i ctl t new same lt loose h =
+    less_this links i (link_at listed i) t new (one_at links listed i same lt)
+    (and_parts (same_stream (link_at listed i).ctl ctl) (is_loose t (link_at listed i)) loose).1 h

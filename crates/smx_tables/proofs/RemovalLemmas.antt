@@ -19,8 +19,8 @@ use Rattle.smx_model.specs.Removal.{without_links, is_read_below}
 use Rattle.smx_model.specs.Standing.{is_below}
 use Rattle.smx_links.specs.LinkLists.{is_one_of}
 use Rattle.smx_tables.specs.ListedLinks.{is_listed, is_read_below_listed, AreIdsOf}
-use Rattle.smx_tables.proofs.AboveLemmas.{any_once, any_with_id, eqb_swap, once_below, once_id, IsIdsRising}
-use Rattle.smx_tables.proofs.FoundLinkLemmas.{found_itself}
+use Rattle.smx_tables.proofs.AboveLemmas.{any_once, any_with_id, eqb_swap, found_itself, once_below, once_id}
+use Rattle.smx_tables.proofs.AboveLemmas.{IsIdsRising}
 
 -- the ids of the links that go
 abbrev pub ids_of : (Link → Bool) → List Link → List ℕ

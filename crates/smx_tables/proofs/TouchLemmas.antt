@@ -18,9 +18,8 @@ use Rattle.smx_model.specs.Swept.{IsSwept}
 use Rattle.smx_streams.specs.StreamTables.{StreamTable, HasHolds, exists as is_there}
 use Rattle.smx_tables.specs.ExistingStreams.{AreHeld, TellsExisting, holds_below, is_held, is_loose}
 use Rattle.smx_tables.specs.TouchedStreams.{IsCascade, IsTouched, is_there_or_touched, is_watched}
-use Rattle.smx_tables.proofs.AboveLemmas.{stream_is}
+use Rattle.smx_tables.proofs.AboveLemmas.{below_at, stream_is}
 use Rattle.smx_tables.proofs.ExistingLemmas.{all_fewer, all_weaker, held_is_below, holds_few, linked_weaker}
-use Rattle.smx_tables.proofs.FoundLinkLemmas.{below_at}
 use Rattle.smx_tables.proofs.HungLemmas.{pass_all}
 use Rattle.smx_tables.proofs.LengthLemmas.{not_more}
 use Rattle.smx_tables.proofs.ReleaseLemmas.{starts}
@@ -92,15 +91,10 @@ touched_by drivers c t u ss told h stays = record {
   now : (s : StreamId) → exists drivers c s ≡ true → is_there_or_touched u ss s ≡ true
   now s e = stays s (told s ∙ e)
 
--- other descriptors don't change which streams must be in the table or touched
-pub touched_fds : (t : StreamTable) (ss : List StreamId) (c : Configuration) (fds : List Descriptor) → IsTouched t ss c
-    → IsTouched t ss (record c { fds = fds })
-touched_fds t ss c fds h = record { links = h.links; binds = h.binds; flow = h.flow; fulls = h.fulls }
-
--- other hung-up streams don't change which streams must be in the table or touched
-pub touched_hungs : (t : StreamTable) (ss : List StreamId) (c : Configuration) (hungs : List StreamId)
-    → IsTouched t ss c → IsTouched t ss (record c { hungs = hungs })
-touched_hungs t ss c hungs h = record { links = h.links; binds = h.binds; flow = h.flow; fulls = h.fulls }
+-- other descriptors and hung-up streams don't change which streams must be in the table or touched
+pub touched_beside : (t : StreamTable) (ss : List StreamId) (c : Configuration) (fds : List Descriptor)
+    (hungs : List StreamId) → IsTouched t ss c → IsTouched t ss (record c { fds = fds; hungs = hungs })
+touched_beside t ss c fds hungs h = record { links = h.links; binds = h.binds; flow = h.flow; fulls = h.fulls }
 
 -- after links are removed, each stream with something is still in the table or touched
 pub touched_without : (t : StreamTable) (ss : List StreamId) (c : Configuration) (goes : Link → Bool) → IsTouched t ss c

@@ -3,9 +3,6 @@ use Rattle.smx_commands.proofs.ClosingLemmas.{none_named_more, one_named_more}
 use Rattle.smx_commands.proofs.commands_of_streams.touch_each.Goals as goal
 use Rattle.smx_commands.proofs.commands_of_streams.touch_each.Goals.{in-Some, in_default}
 
-pub push_reserved-requires : goal.push_reserved-requires
-push_reserved-requires c = omega (arith, c.loop-fd.invariant.few, c.loop-fd.invariant.capacity, c.requires)
-
 pub loop-fd-preserved : goal.loop-fd-preserved
 loop-fd-preserved c = elim c.match-stream_of.branch [
   | in-Some w ↦

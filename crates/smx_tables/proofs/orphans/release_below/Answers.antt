@@ -6,8 +6,7 @@ use Rattle.smx_tables.specs.ExistingStreams.{is_loose}
 use Rattle.smx_tables.specs.TouchedStreams.{is_watched, AreReleased}
 use Rattle.smx_tables.proofs.HungLemmas.{left_twice, none_went, there_before}
 use Rattle.smx_tables.proofs.OrphanIdLemmas.{one_released}
-use Rattle.smx_tables.proofs.ReleaseLemmas.{less_this, releases_this}
-use Rattle.smx_tables.proofs.LinkWalkLemmas.{less_there, link_at, one_at}
+use Rattle.smx_tables.proofs.ReleaseLemmas.{less_there, less_this, link_at, one_at, releases_this}
 use Rattle.smx_tables.proofs.TouchLemmas.{still_touched}
 use Rattle.smx_tables.proofs.WatchLemmas.{all_at, all_more, all_watch_on, listed_last, none_by}
 use Rattle.smx_tables.proofs.WatchLemmas.{released_is_watched, still_listed_before, watched_less}

@@ -6,9 +6,8 @@ use Rattle.smx_tables.specs.ExistingStreams.{TellsExisting}
 use Rattle.smx_tables.specs.ListedLinks.{is_orphaned}
 use Rattle.smx_tables.specs.ModelOfLists.{configuration_of}
 use Rattle.smx_tables.specs.TouchedStreams.{IsTouched}
-use Rattle.smx_tables.proofs.HungLemmas.{left_there}
-use Rattle.smx_tables.proofs.HungSweepLemmas.{dead_of_left}
-use Rattle.smx_tables.proofs.TouchLemmas.{touched_hungs, touched_on, touched_without}
+use Rattle.smx_tables.proofs.HungLemmas.{dead_of_left, left_there}
+use Rattle.smx_tables.proofs.TouchLemmas.{touched_beside, touched_on, touched_without}
 use Rattle.smx_tables.proofs.sweep.sweep.Goals as goal
 
 pub drop_dead-requires-clause-hungs : goal.drop_dead-requires-clause-hungs
@@ -23,7 +22,7 @@ drop_dead-requires-clause-seen c =
     let goes = is_orphaned t.fds c.args.lists.now.links.links (length c.args.drivers.now) in
     let seen = c.drop_orphans.new.room.seen.items in
     rw c.deref.ensures.value (subst (λ (x : Configuration). IsTouched u seen x) (sym c.drop_orphans.ensures.value)
-    (touched_hungs u seen (without_links old goes) u.hungs
+    (touched_beside u seen (without_links old goes) old.fds u.hungs
     (touched_on t u c.args.room.now.touched.items seen (without_links old goes)
     (touched_without t c.args.room.now.touched.items old goes c.requires.touched) c.drop_orphans.ensures.seen)))
 

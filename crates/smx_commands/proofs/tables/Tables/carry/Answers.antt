@@ -8,14 +8,6 @@ use Rattle.smx_commands.proofs.MoveLemmas.{carried, drivers_moved}
 use Rattle.smx_commands.proofs.PlaceNumberLemmas.{is_seen, is_there, number_there}
 use Rattle.smx_commands.proofs.tables.Tables.carry.Goals as goal
 
-pub move_front_at-requires-clause-from : goal.move_front_at-requires-clause-from
-move_front_at-requires-clause-from c =
-    number_there c.self.inside _ c.args.from c.self.invariant c.self.view_is c.requires.from
-
-pub move_front_at-requires-clause-to : goal.move_front_at-requires-clause-to
-move_front_at-requires-clause-to c =
-    number_there c.self.inside _ c.args.to c.self.invariant c.self.view_is c.requires.to
-
 pub move_front_at-requires-clause-some : goal.move_front_at-requires-clause-some
 move_front_at-requires-clause-some c = λ p at.
     subst (λ (m : Machine). IsSome (first_message m.configuration.flow p)) (sym c.self.view_is)

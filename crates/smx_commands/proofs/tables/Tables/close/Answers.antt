@@ -4,7 +4,7 @@ use Rattle.smx_streams.specs.StreamTables.{exists as is_there, stream_at}
 use Rattle.smx_tables.specs.ModelOfLists.{configuration_of}
 use Rattle.smx_tables.proofs.ExistingLemmas.{tells_existing}
 use Rattle.smx_tables.proofs.HungLemmas.{all_pass}
-use Rattle.smx_tables.proofs.TouchLemmas.{linked_still, swept_still, touched_by, touched_fds}
+use Rattle.smx_tables.proofs.TouchLemmas.{linked_still, swept_still, touched_beside, touched_by}
 use Rattle.smx_commands.specs.Closing.{closing}
 use Rattle.smx_commands.proofs.AcceptedLemmas.{fd_at}
 use Rattle.smx_commands.proofs.ClosingLemmas.{all_stay, closed_stays, closes_shared}
@@ -39,6 +39,6 @@ returns c =
     c.self.view_is
     (closes_shared ds old c.args.process c.args.fd u.fds _ _
     (swept_still ds (record old { fds = u.fds }) u []
-    told refl (touched_fds u [] old u.fds touched) stays)
+    told refl (touched_beside u [] old u.fds old.hungs touched) stays)
     c.close_fd-stays.ensures.rest.fds
     (ap (λ (hs : List StreamId). record old { fds = u.fds; hungs = hs }) hungs) c.done.ensures))

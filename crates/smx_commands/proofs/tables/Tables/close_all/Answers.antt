@@ -4,8 +4,8 @@ use Rattle.smx_types.specs.declared.command.Command.TheVariants as command
 use Rattle.smx_model.specs.Commands.{outcome}
 use Rattle.smx_model.specs.Removal.{after_sweep}
 use Rattle.smx_tables.specs.ModelOfLists.{configuration_of}
-use Rattle.smx_tables.proofs.HungSweepLemmas.{sweep_of_left}
-use Rattle.smx_tables.proofs.TouchLemmas.{touched_by, touched_fds, touched_hungs}
+use Rattle.smx_tables.proofs.HungLemmas.{sweep_of_left}
+use Rattle.smx_tables.proofs.TouchLemmas.{touched_beside, touched_by}
 use Rattle.smx_commands.proofs.ClosingLemmas.{all_closed_touch}
 use Rattle.smx_commands.proofs.DoneLemmas.{swept_is}
 use Rattle.smx_commands.proofs.TablesLemmas.{accepted, sound_inside, tells_inside}
@@ -18,11 +18,10 @@ sweep_and_reply-requires-clause-touched c =
     let u = c.close_process.new.self in
     let ss = c.touch_each.new.touched.items in
     let sound = sound_inside c.self.inside c.args.self.now c.self.view_is c.requires in
-    touched_hungs u ss (record old { fds = u.fds }) u.hungs
-    (touched_fds u ss old u.fds
+    touched_beside u ss old u.fds u.hungs
     (touched_by c.self.inside.drivers.items old t u ss
     (tells_inside c.self.inside c.args.self.now c.self.view_is c.self.invariant c.requires) sound.swept
-    (all_closed_touch t u c.args.process ss c.touch_each.ensures.named c.close_process.ensures.went)))
+    (all_closed_touch t u c.args.process ss c.touch_each.ensures.named c.close_process.ensures.went))
 
 pub returns : goal.returns
 returns c =

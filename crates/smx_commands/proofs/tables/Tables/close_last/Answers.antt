@@ -15,7 +15,8 @@ sweep_and_reply-requires-clause-touched c =
     let sound = sound_inside c.self.inside c.args.self.now c.self.view_is c.requires.sound in
     close_touches c.self.inside.drivers.items (configuration_of c.self.inside.lists) c.self.inside.lists.streams
     c.close_fd-closed.new.self c.args.process c.args.fd c.args.stream c.push_reserved.new.self.items
-    (tells_inside c.self.inside c.args.self.now c.self.view_is c.self.invariant c.requires.sound) sound.swept (rw (← c.self.view_is) at c.requires.there) last
+    (tells_inside c.self.inside c.args.self.now c.self.view_is c.self.invariant c.requires.sound) sound.swept
+    (rw (← c.self.view_is) at c.requires.there) last
     c.close_fd-closed.ensures.went
 
 pub returns : goal.returns

@@ -9,8 +9,8 @@ use Rattle.smx_model.specs.Removal.{after_sweep, without_links}
 use Rattle.smx_tables.specs.ExistingStreams.{AreHeld}
 use Rattle.smx_tables.specs.ModelOfLists.{configuration_of}
 use Rattle.smx_tables.specs.TouchedStreams.{IsTouched}
-use Rattle.smx_tables.proofs.HungSweepLemmas.{sweep_of_left}
-use Rattle.smx_tables.proofs.TouchLemmas.{few_ids, touched_by, touched_hungs, touched_without}
+use Rattle.smx_tables.proofs.HungLemmas.{sweep_of_left}
+use Rattle.smx_tables.proofs.TouchLemmas.{few_ids, touched_beside, touched_by, touched_without}
 use Rattle.smx_commands.specs.UnlinkTargets.{is_target}
 use Rattle.smx_commands.proofs.DoneLemmas.{swept_is}
 use Rattle.smx_commands.proofs.TablesLemmas.{accepted, sound_inside, tells_inside}
@@ -44,10 +44,11 @@ sweep_and_reply-requires-clause-touched c =
     let sound = sound_inside c.self.inside c.args.self.now c.self.view_is c.requires in
     subst (λ (x : Configuration). IsTouched streams touched x)
     (sym (c.remove_links.ensures.value goes (c.deref.ensures.value ∙ c.in_ok-gone.ensures)))
-    (touched_hungs streams touched (without_links old goes) streams.hungs
+    (touched_beside streams touched (without_links old goes) old.fds streams.hungs
     (touched_without streams touched old goes
     (touched_by c.self.inside.drivers.items old c.self.inside.lists.streams streams touched
-    (tells_inside c.self.inside c.args.self.now c.self.view_is c.self.invariant c.requires) sound.swept c.remove_links.ensures.touched)))
+    (tells_inside c.self.inside c.args.self.now c.self.view_is c.self.invariant c.requires) sound.swept
+    c.remove_links.ensures.touched)))
 
 pub returns : goal.returns
 returns c =
