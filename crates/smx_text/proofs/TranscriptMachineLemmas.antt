@@ -1,6 +1,6 @@
 -- A transcript text is read by a machine that accepts one line after another.
 use Rattle.std.proofs.Common.{◌≡◌, ◌≢◌, ◌<◌, Bool, true, false, eqb, ◌&&◌, List, [], ◌∷◌, ◌++◌, length}
-use Rattle.std.proofs.Common.{map, refl, sym, ap, ◌∙◌, append_assoc, arith, rules}
+use Rattle.std.proofs.Common.{map, refl, sym, ap, append_assoc, arith, rules}
 use Rattle.std.specs.List.{AllByRecursion}
 use Rattle.std.proofs.lemmas.Bool.{and_parts}
 use Rattle.std.proofs.lemmas.Bool.Decides.{nat_tests}
@@ -29,7 +29,7 @@ use Rattle.smx_text.specs.TranscriptLines as line
 use Rattle.smx_text.specs.TranscriptText.{FitsLine, body, transcript_grammar, view_body}
 use Rattle.smx_text.proofs.EachLemmas.{all_append}
 use Rattle.smx_text.proofs.MachineLemmas.{IsReader, IsAt, Leads, each, group}
-use Rattle.smx_text.proofs.TranscriptDrafts.{new_view, draft, takes, is_full, with_line, IsWithin, seen}
+use Rattle.smx_text.proofs.TranscriptDrafts.{draft, takes, is_full, with_line, IsWithin}
 use Rattle.smx_text.proofs.TranscriptDrafts.{completed, still, machine}
 
 -- ---- one more line
@@ -116,19 +116,19 @@ behind version d k room w = record { version_is = w.version_is; drivers = w.driv
 
 -- ---- the lines of a transcript lead to it
 
-module _ (version : Version) where
+module _ (version : Version) (view : ConfigView) where
   -- a draft of this version with these drivers and entries, before the line `config`
   abbrev in_history : List DriverSpec → List Entry → TranscriptDraft
   in_history ds es =
-      draft stage.History (record { version = version; drivers = ds; entries = es; view = new_view 0 0 })
+      draft stage.History (record { version = version; drivers = ds; entries = es; view = view })
 
   -- drivers, entries and more lines lead to a draft, if the other lines lead to it after the drivers and entries
   history : (ds : List DriverSpec) (es : List Entry) (rest : List TranscriptLine) (d : TranscriptDraft)
-      → Leads (machine version) line.End (in_history ds es) rest d
-      → Leads (machine version) line.End (machine version).start (map line.Driver ds ++ (map line.Entry es ++ rest)) d
+      → Leads (machine version view) line.End (in_history ds es) rest d
+      → Leads (machine version view) line.End (machine version view).start (map line.Driver ds ++ (map line.Entry es ++ rest)) d
   history ds es rest d leads =
-      group (machine version) line.End line.Driver (λ ds. in_history ds []) (λ xs x. (refl, (λ e. cc), refl)) ds _ d
-      (group (machine version) line.End line.Entry (in_history ds) (λ xs x. (refl, (λ e. cc), refl)) es rest d leads)
+      group (machine version view) line.End line.Driver (λ ds. in_history ds []) (λ xs x. (refl, (λ e. cc), refl)) ds _ d
+      (group (machine version view) line.End line.Entry (in_history ds) (λ xs x. (refl, (λ e. cc), refl)) es rest d leads)
 
   -- a draft at the stage `View`, with these groups in its view
   abbrev in_view : Transcript → List DescriptorLine → List LinkLine → List BindingLine → List RouteLine
@@ -153,12 +153,12 @@ module _ (version : Version) where
       })
 
   -- the lines of a view, accepted after `config`, give that view
-  view_leads : (t : Transcript) → Leads (machine version) line.End
-      (draft stage.Config (record { version = version; drivers = t.drivers; entries = t.entries; view = new_view 0 0 }))
+  view_leads : (t : Transcript) → Leads (machine version view) line.End
+      (draft stage.Config (record { version = version; drivers = t.drivers; entries = t.entries; view = view }))
       (view_body t.view) (draft stage.View (record t { version = version }))
   view_leads t =
       let v = t.view in
-      let m = machine version in
+      let m = machine version view in
       let all =
       group m line.End line.Fd (λ xs. in_view t xs [] [] [] [] [] []) (λ xs x. (refl, (λ e. cc), refl)) v.fds _ _
       (group m line.End line.Link (λ xs. in_view t v.fds xs [] [] [] [] [])
@@ -177,7 +177,7 @@ module _ (version : Version) where
 
   -- the lines of a transcript lead to it in the version of the machine
   leads : (t : Transcript)
-      → Leads (machine version) line.End (machine version).start (body t) ((machine version).whole t)
+      → Leads (machine version view) line.End (machine version view).start (body t) ((machine version view).whole t)
   leads t =
       let all = view_leads t in
       history t.drivers t.entries (line.Config ∷ view_body t.view) _ ((refl, (λ e. cc), all.0), all.1)
@@ -202,14 +202,14 @@ still_fits version stage.Config = search (rules, arith)
 still_fits version stage.View = tt
 
 -- the machine reads the transcript text
-pub reader : (version : Version) → IsReader (transcript_grammar version) (machine version)
-reader version = record {
+pub reader : (version : Version) (view : ConfigView) → IsReader (transcript_grammar version) (machine version view)
+reader version view = record {
   no_lines = refl;
   starts_within = record { version_is = refl; drivers = omega arith; entries = omega arith };
   longer = λ d. longer d.stage d.transcript;
   within_before = λ d k may. before version d k;
   within_after = λ d k may. behind version d k;
-  leads = leads version;
+  leads = leads version view;
   ends = λ t. refl;
   fits = λ t allowed. allowed.fits;
   within = λ t allowed. record { version_is = refl; drivers = allowed.drivers; entries = allowed.entries };
@@ -226,37 +226,16 @@ reader version = record {
   end_has_room = λ d. refl;
 }
 
--- the lines of a draft lead to it, but with an empty view before the first line of the view
-leads_to : (s : Stage) (t : Transcript) → Leads (machine t.version) line.End (machine t.version).start
-    (lines (draft s t)) (draft s (completed (draft s t)))
-leads_to stage.History t = history t.version t.drivers t.entries [] _ (tt, refl)
-leads_to stage.Config t = history t.version t.drivers t.entries (line.Config ∷ []) _ ((refl, (λ e. cc), tt), refl)
-leads_to stage.View t = leads t.version t
+-- the lines of a draft lead to it
+comes : (s : Stage) (t : Transcript)
+    → Leads (machine t.version t.view) line.End (machine t.version t.view).start (lines (draft s t)) (draft s t)
+comes stage.History t = history t.version t.view t.drivers t.entries [] _ (tt, refl)
+comes stage.Config t = history t.version t.view t.drivers t.entries (line.Config ∷ []) _ ((refl, (λ e. cc), tt), refl)
+comes stage.View t = leads t.version t.view t
 
--- a draft accepts the same lines after a view that was not read is emptied
-same_takes : (s : Stage) (t : Transcript) (k : TranscriptLine) → takes (draft s (completed (draft s t))) k
-    ≡ takes (draft s t) k
-same_takes stage.History t line.End = refl
-same_takes stage.Config t line.End = refl
-same_takes s t k = refl
-
--- a line is over the limit for the same drafts after a view that was not read is emptied
-same_full : (d : TranscriptDraft) (k : TranscriptLine) → is_full (draft d.stage (completed d)) k ≡ is_full d k
-same_full d line.End = refl
-same_full d k = refl
-
--- a view that was not read is emptied only once
-same_seen : (s : Stage) (v : ConfigView) → seen s (seen s v) ≡ seen s v
-same_seen stage.History v = refl
-same_seen s v = refl
-
--- the lines of a draft lead the machine of its version to a draft that accepts the same lines
-pub stands : (d : TranscriptDraft) → IsAt (grammar_of d) (machine d.transcript.version) (lines d) d
-stands d = let all = leads_to d.stage d.transcript in record {
-  reader = reader d.transcript.version;
-  accepted = all.0;
-  takes_is = λ k. ap (λ (e : TranscriptDraft). takes e k) all.1 ∙ same_takes d.stage d.transcript k;
-  full_is = λ k. ap (λ (e : TranscriptDraft). is_full e k) all.1 ∙ same_full d k;
-  value_is = ap completed all.1
-      ∙ ap (λ (v : ConfigView). record d.transcript { view = v }) (same_seen d.stage d.transcript.view);
+-- the lines of a draft lead the machine of its version and view to it
+pub stands : (d : TranscriptDraft) → IsAt (grammar_of d) (machine d.transcript.version d.transcript.view) (lines d) d
+stands d = record {
+  reader = reader d.transcript.version d.transcript.view;
+  comes = comes d.stage d.transcript;
 }

@@ -1,6 +1,6 @@
 -- Bytes written group by group are the lines of the whole text.
-use Rattle.std.proofs.Common.{◌≡◌, ℕ, ◌+◌, ◌<◌, List, [], ◌∷◌, ◌++◌, length, get_or, take, map, refl, sym}
-use Rattle.std.proofs.Common.{ap, ◌∙◌, append_assoc, arith}
+use Rattle.std.proofs.Common.{◌≡◌, ℕ, ◌+◌, ◌<◌, List, [], ◌∷◌, ◌++◌, length, get_or, take, map, refl, sym, ap, ◌∙◌}
+use Rattle.std.proofs.Common.{append_assoc, arith}
 use Rattle.std.proofs.lemmas.List.{append-nil, length-take-le, map-append, take_more}
 use Rattle.std.proofs.lemmas.Simd.{map-map}
 use Rattle.std.specs.Fmt.{decimal}
@@ -12,20 +12,18 @@ use Rattle.smx_types.specs.declared.version.Version.{Version}
 use Rattle.smx_types.specs.declared.version.Version.TheVariants.{V1, V2}
 use Rattle.smx_types.specs.declared.view.ConfigView.{ConfigView}
 use Rattle.smx_text.specs.ProgramLines as line
-use Rattle.smx_text.specs.ProgramsText.{line_words, program_lines, programs_grammar, programs_text, FitsLine}
-use Rattle.smx_text.specs.ProgramsText.{IsAllowed, body}
-use Rattle.smx_words.specs.Spelling.{bind_words, command_words, descriptor_words, driver_words}
-use Rattle.smx_words.specs.Spelling.{full_words, hung_words, link_words, message_words, next_words, route_words}
+use Rattle.smx_text.specs.ProgramsText.{line_words, program_lines, programs_grammar, programs_text, FitsLine, IsAllowed}
+use Rattle.smx_text.specs.ProgramsText.{body}
+use Rattle.smx_words.specs.Spelling.{bind_words, command_words, descriptor_words, driver_words, full_words, hung_words}
+use Rattle.smx_words.specs.Spelling.{link_words, message_words, next_words, route_words}
 use Rattle.smx_words.specs.Spellable.{FitsCommand, FitsCommandIn, FitsDriver, FitsNumber}
 use Rattle.smx_text.specs.Grammar.{header}
-use Rattle.smx_text.specs.TranscriptText.{view_body}
-use Rattle.smx_text.specs.TranscriptText.{line_words as transcript_words}
-use Rattle.smx_words.specs.Words.{LINE_FEED}
+use Rattle.smx_text.specs.TranscriptText.{view_body, line_words as transcript_words}
+use Rattle.smx_words.specs.Words.{LINE_FEED, line_of, text_of}
 use Rattle.smx_text.proofs.EachLemmas.{all_append, all_map}
 use Rattle.smx_text.proofs.BodyLemmas.{lines_add}
 use Rattle.smx_text.proofs.ReadingLemmas.{texts_append}
 use Rattle.smx_text.proofs.ProgramsVersionLemmas.{drivers_few, programs_fit}
-use Rattle.smx_words.specs.Words.{line_of, text_of}
 
 -- bytes followed by a line and its line feed are the bytes and then the text of that line
 pub one_line_more : (before : List ℕ) (ws : List (List ℕ))

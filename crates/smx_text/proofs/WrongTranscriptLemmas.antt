@@ -126,7 +126,7 @@ version_3 = wrong_first versions (codes "transcript 3") [] (search rules) refl r
 
 -- a header of version 2 with nothing after it is cut at line 2
 pub version_2_alone : IsWrongTranscript (codes "transcript 2\n") 2 cause.Cut
-version_2_alone = cut_text versions V2 [] [] (nothing_begun (reader V2)) tt
+version_2_alone = cut_text versions V2 [] [] (nothing_begun (reader V2 (new_view 0 0))) tt
 
 -- the line of descriptor 0 of process 0, open on minor 0 of `ip`
 abbrev descriptor : TranscriptLine
