@@ -100,7 +100,8 @@ header_is_line V2 = search rules
 
 -- the transcript text is well made: a line's text determines it, each is one line, and lines determine the transcript
 pub well_made : (version : Version) → IsWellMade (transcript_grammar version)
-well_made version = made_by (reader version (new_view 0 0)) (header_is_line version) (spelling version) tt (words_apart version)
+well_made version =
+    made_by (reader version (new_view 0 0)) (header_is_line version) (spelling version) tt (words_apart version)
 
 -- the grammars of transcripts are well made in both versions, and their headers differ
 abbrev pub versions : AreVersions transcript_grammar

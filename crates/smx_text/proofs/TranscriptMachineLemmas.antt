@@ -1,6 +1,6 @@
 -- A transcript text is read by a machine that accepts one line after another.
-use Rattle.std.proofs.Common.{◌≡◌, ◌≢◌, ◌<◌, Bool, true, false, eqb, ◌&&◌, List, [], ◌∷◌, ◌++◌, length}
-use Rattle.std.proofs.Common.{map, refl, sym, ap, append_assoc, arith, rules}
+use Rattle.std.proofs.Common.{◌≡◌, ◌≢◌, ◌<◌, Bool, true, false, eqb, ◌&&◌, List, [], ◌∷◌, ◌++◌, length, map, refl, sym}
+use Rattle.std.proofs.Common.{ap, append_assoc, arith, rules}
 use Rattle.std.specs.List.{AllByRecursion}
 use Rattle.std.proofs.lemmas.Bool.{and_parts}
 use Rattle.std.proofs.lemmas.Bool.Decides.{nat_tests}
@@ -29,8 +29,7 @@ use Rattle.smx_text.specs.TranscriptLines as line
 use Rattle.smx_text.specs.TranscriptText.{FitsLine, body, transcript_grammar, view_body}
 use Rattle.smx_text.proofs.EachLemmas.{all_append}
 use Rattle.smx_text.proofs.MachineLemmas.{IsReader, IsAt, Leads, each, group}
-use Rattle.smx_text.proofs.TranscriptDrafts.{draft, takes, is_full, with_line, IsWithin}
-use Rattle.smx_text.proofs.TranscriptDrafts.{completed, still, machine}
+use Rattle.smx_text.proofs.TranscriptDrafts.{draft, takes, is_full, with_line, IsWithin, completed, still, machine}
 
 -- ---- one more line
 
@@ -125,10 +124,11 @@ module _ (version : Version) (view : ConfigView) where
   -- drivers, entries and more lines lead to a draft, if the other lines lead to it after the drivers and entries
   history : (ds : List DriverSpec) (es : List Entry) (rest : List TranscriptLine) (d : TranscriptDraft)
       → Leads (machine version view) line.End (in_history ds es) rest d
-      → Leads (machine version view) line.End (machine version view).start (map line.Driver ds ++ (map line.Entry es ++ rest)) d
+      → Leads (machine version view) line.End (in_history [] []) (map line.Driver ds ++ (map line.Entry es ++ rest)) d
   history ds es rest d leads =
-      group (machine version view) line.End line.Driver (λ ds. in_history ds []) (λ xs x. (refl, (λ e. cc), refl)) ds _ d
-      (group (machine version view) line.End line.Entry (in_history ds) (λ xs x. (refl, (λ e. cc), refl)) es rest d leads)
+      let m = machine version view in
+      group m line.End line.Driver (λ ds. in_history ds []) (λ xs x. (refl, (λ e. cc), refl)) ds _ d
+      (group m line.End line.Entry (in_history ds) (λ xs x. (refl, (λ e. cc), refl)) es rest d leads)
 
   -- a draft at the stage `View`, with these groups in its view
   abbrev in_view : Transcript → List DescriptorLine → List LinkLine → List BindingLine → List RouteLine
