@@ -46,7 +46,8 @@ grown version drivers before more old new added fits was =
           (sym (map-map transcript_words row.Entry more))
           ∙ sym (beginning_append g lines (map row.Entry more))
           ∙ ap (beginning g) (append_assoc (map row.Driver drivers) (map row.Entry before) (map row.Entry more)
-          ∙ ap (λ (ls : List row.TranscriptLine). map row.Driver drivers ++ ls) (sym (map-append row.Entry before more)));
+          ∙ ap (λ (ls : List row.TranscriptLine). map row.Driver drivers ++ ls)
+          (sym (map-append row.Entry before more)));
       drivers_fit = was.drivers_fit;
       entries_fit = all_append FitsEntry before more was.entries_fit fits;
     }
