@@ -1,8 +1,7 @@
 -- A transcript text is read by a machine that accepts one line after another.
-use Rattle.std.proofs.Common.{◌≡◌, ◌≢◌, ◌<◌, Bool, true, false, eqb, ◌&&◌, List, [], ◌∷◌, ◌++◌, length, map, refl, sym}
+use Rattle.std.proofs.Common.{◌≡◌, ◌≢◌, ◌<◌, true, false, eqb, List, [], ◌∷◌, ◌++◌, length, map, refl, sym}
 use Rattle.std.proofs.Common.{ap, append_assoc, arith, rules}
 use Rattle.std.specs.List.{AllByRecursion}
-use Rattle.std.proofs.lemmas.Bool.{and_parts}
 use Rattle.std.proofs.lemmas.Bool.Decides.{nat_tests}
 use Rattle.std.proofs.lemmas.List.{append-nil, length-append, map-append, nil_from_length}
 use Rattle.smx_types.specs.Versions.{most_drivers}
@@ -22,8 +21,7 @@ use Rattle.smx_types.specs.declared.view.RouteLine.{RouteLine}
 use Rattle.smx_text.specs.declared.transcript.draft.Stage.{Stage}
 use Rattle.smx_text.specs.declared.transcript.draft.Stage.TheVariants as stage
 use Rattle.smx_text.specs.declared.transcript.draft.TranscriptDraft.{TranscriptDraft}
-use Rattle.smx_text.specs.Drafts.{grammar_of, lines, is_view, takes_links, takes_binds, takes_routes, takes_msgs}
-use Rattle.smx_text.specs.Drafts.{takes_fulls, takes_hungs}
+use Rattle.smx_text.specs.Drafts.{grammar_of, lines, is_view}
 use Rattle.smx_text.specs.TranscriptLines.{TranscriptLine}
 use Rattle.smx_text.specs.TranscriptLines as line
 use Rattle.smx_text.specs.TranscriptText.{FitsLine, body, transcript_grammar, view_body}
@@ -33,54 +31,54 @@ use Rattle.smx_text.proofs.TranscriptDrafts.{draft, takes, is_full, with_line, I
 
 -- ---- one more line
 
--- if a test holds together with the test that a list is empty, the test holds and the list is empty
-empty : {A : Type 0} (may : Bool) (xs : List A) → may && eqb (length xs) 0 ≡ true → (xs ≡ []) × (may ≡ true)
-empty may xs h = let p = and_parts may (eqb (length xs) 0) h in (nil_from_length xs (grind (arith, nat_tests)), p.0)
-
-module _ (t : Transcript) where
-  -- if a full place may follow, there is no hung-up stream
-  no_hungs : takes_fulls (draft stage.View t) ≡ true → t.view.hungs ≡ []
-  no_hungs h = (empty (takes_hungs (draft stage.View t)) t.view.hungs h).0
-
-  -- if a message may follow, there is no full place and no hung-up stream
-  no_fulls : takes_msgs (draft stage.View t) ≡ true → (t.view.fulls ≡ []) × (t.view.hungs ≡ [])
-  no_fulls h = let p = empty (takes_fulls (draft stage.View t)) t.view.fulls h in (p.0, no_hungs p.1)
-
-  -- if a route may follow, there is no line of a later group
-  no_msgs : takes_routes (draft stage.View t) ≡ true
-      → (t.view.msgs ≡ []) × ((t.view.fulls ≡ []) × (t.view.hungs ≡ []))
-  no_msgs h = let p = empty (takes_msgs (draft stage.View t)) t.view.msgs h in (p.0, no_fulls p.1)
-
-  -- if a binding may follow, there is no line of a later group
-  no_routes : takes_binds (draft stage.View t) ≡ true
-      → (t.view.routes ≡ []) × ((t.view.msgs ≡ []) × ((t.view.fulls ≡ []) × (t.view.hungs ≡ [])))
-  no_routes h = let p = empty (takes_routes (draft stage.View t)) t.view.routes h in (p.0, no_msgs p.1)
-
-  -- if a link may follow, there is no line of a later group
-  no_binds : takes_links (draft stage.View t) ≡ true → (t.view.binds ≡ []) × ((t.view.routes ≡ [])
-      × ((t.view.msgs ≡ []) × ((t.view.fulls ≡ []) × (t.view.hungs ≡ []))))
-  no_binds h = let p = empty (takes_binds (draft stage.View t)) t.view.binds h in (p.0, no_routes p.1)
+-- a list whose length is tested to be 0 is empty
+none : {A : Type 0} (xs : List A) → eqb (length xs) 0 ≡ true → xs ≡ []
+none xs h = nil_from_length xs (grind (arith, nat_tests))
 
 -- a line that a draft accepts, other than the end, comes after its other lines
 longer : (s : Stage) (t : Transcript) (k : TranscriptLine) → takes (draft s t) k ≡ true → k ≢ line.End
     → lines (with_line (draft s t) k) ≡ lines (draft s t) ++ k ∷ []
-longer stage.History t (line.Driver x) h other =
-    rw (empty true t.entries h).0 (simp (map-append, append_assoc))
+longer stage.History t (line.Driver x) h other = rw (none t.entries h) (simp (map-append, append_assoc))
 longer stage.History t (line.Entry x) h other = simp (map-append, append-nil, append_assoc)
 longer stage.History t line.Config h other = simp append_assoc
 longer stage.Config t (line.Next id serial) h other = simp append_assoc
 longer stage.View t (line.Fd x) h other =
-    let p = empty (takes_links (draft stage.View t)) t.view.links h in let e = no_binds t p.1 in
-    rw (p.0, e.0, e.1.0, e.1.1.0, e.1.1.1.0, e.1.1.1.1) (simp (map-append, append-nil, append_assoc))
-longer stage.View t (line.Link x) h other = let e = no_binds t h in
-    rw (e.0, e.1.0, e.1.1.0, e.1.1.1.0, e.1.1.1.1) (simp (map-append, append-nil, append_assoc))
-longer stage.View t (line.Bind x) h other = let e = no_routes t h in
-    rw (e.0, e.1.0, e.1.1.0, e.1.1.1) (simp (map-append, append-nil, append_assoc))
-longer stage.View t (line.Route x) h other = let e = no_msgs t h in
-    rw (e.0, e.1.0, e.1.1) (simp (map-append, append-nil, append_assoc))
-longer stage.View t (line.Msg x) h other = let e = no_fulls t h in
-    rw (e.0, e.1) (simp (map-append, append-nil, append_assoc))
-longer stage.View t (line.Full x) h other = rw (no_hungs t h) (simp (map-append, append-nil, append_assoc))
+    rw (
+      none t.view.links (grind (arith, nat_tests)),
+      none t.view.binds (grind (arith, nat_tests)),
+      none t.view.routes (grind (arith, nat_tests)),
+      none t.view.msgs (grind (arith, nat_tests)),
+      none t.view.fulls (grind (arith, nat_tests)),
+      none t.view.hungs (grind (arith, nat_tests)),
+    )
+    (simp (map-append, append-nil, append_assoc))
+longer stage.View t (line.Link x) h other =
+    rw (
+      none t.view.binds (grind (arith, nat_tests)),
+      none t.view.routes (grind (arith, nat_tests)),
+      none t.view.msgs (grind (arith, nat_tests)),
+      none t.view.fulls (grind (arith, nat_tests)),
+      none t.view.hungs (grind (arith, nat_tests)),
+    ) (simp (map-append, append-nil, append_assoc))
+longer stage.View t (line.Bind x) h other =
+    rw (
+      none t.view.routes (grind (arith, nat_tests)),
+      none t.view.msgs (grind (arith, nat_tests)),
+      none t.view.fulls (grind (arith, nat_tests)),
+      none t.view.hungs (grind (arith, nat_tests)),
+    )
+    (simp (map-append, append-nil, append_assoc))
+longer stage.View t (line.Route x) h other =
+    rw (
+      none t.view.msgs (grind (arith, nat_tests)),
+      none t.view.fulls (grind (arith, nat_tests)),
+      none t.view.hungs (grind (arith, nat_tests)),
+    ) (simp (map-append, append-nil, append_assoc))
+longer stage.View t (line.Msg x) h other =
+    rw (none t.view.fulls (grind (arith, nat_tests)), none t.view.hungs (grind (arith, nat_tests)))
+    (simp (map-append, append-nil, append_assoc))
+longer stage.View t (line.Full x) h other =
+    rw (none t.view.hungs (grind (arith, nat_tests))) (simp (map-append, append-nil, append_assoc))
 longer stage.View t (line.Hung x) h other = simp (map-append, append_assoc)
 longer stage.View t line.End h other = absurd (other refl)
 longer s t k h other = absurd cc
