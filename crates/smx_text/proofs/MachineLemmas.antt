@@ -95,41 +95,42 @@ pub record IsReader {V K D : Type 0} (g : Grammar V K) (m : Machine V K D) : Typ
   pub allowed : (d : D) → m.IsWithin d → AllByRecursion g.FitsLine (m.lines d) → g.IsAllowed (m.shortest d)
   pub end_has_room : (d : D) → m.is_full d g.end ≡ false
 
--- The machine accepts these lines, and comes to a draft that accepts the same lines as this one.
+-- A machine that reads the texts of this grammar comes by these lines to this draft.
 pub record IsAt {V K D : Type 0} (g : Grammar V K) (m : Machine V K D) (ls : List K) (d : D) : Type 0 where
   pub reader : IsReader g m
-  pub accepted : Accepts m g.end m.start ls
-  pub takes_is : (k : K) → m.takes (after m g.end m.start ls) k ≡ m.takes d k
-  pub full_is : (k : K) → m.is_full (after m g.end m.start ls) k ≡ m.is_full d k
-  pub value_is : m.shortest (after m g.end m.start ls) ≡ m.shortest d
+  pub comes : Leads m g.end m.start ls d
 
 module _ {V K D : Type 0} {g : Grammar V K} {m : Machine V K D} (of : IsReader g m) where
   -- each of these lines fits
   abbrev AreFit : List K → Type 0
   AreFit ls = AllByRecursion g.FitsLine ls
 
-  -- if joined lines are accepted, so are the first ones, and then the others
-  parts : (d : D) (ks ls : List K) → Accepts m g.end d (ks ++ ls)
-      → Accepts m g.end d ks × Accepts m g.end (after m g.end d ks) ls
-      × (after m g.end d (ks ++ ls) ≡ after m g.end (after m g.end d ks) ls)
-  parts d [] ls h = (tt, h, refl)
-  parts d (k ∷ ks) ls h =
-      let more = parts (m.with_line d k) ks ls h.2 in ((h.0, h.1, more.0), more.1, more.2)
+  -- if joined lines are accepted, so are the first ones
+  first_part : (d : D) (ks ls : List K) → Accepts m g.end d (ks ++ ls) → Accepts m g.end d ks
+  first_part d [] ls h = tt
+  first_part d (k ∷ ks) ls h = (h.0, h.1, first_part (m.with_line d k) ks ls h.2)
+
+  -- if joined lines lead to a draft, the others lead to it from the draft after the first ones
+  rest_leads : (d e f : D) (ks ls : List K) → Leads m g.end d ks e → Leads m g.end d (ks ++ ls) f
+      → Leads m g.end e ls f
+  rest_leads d e f [] ls h k = rw (← h.1) k
+  rest_leads d e f (x ∷ ks) ls h k = rest_leads (m.with_line d x) e f ks ls (h.0.2, h.1) (k.0.2, k.1)
 
   -- accepted lines are appended to those of the draft
-  lines_after : (d : D) (ks : List K) → Accepts m g.end d ks → m.lines (after m g.end d ks) ≡ m.lines d ++ ks
-  lines_after d [] h = sym (append-nil (m.lines d))
-  lines_after d (k ∷ ks) h =
-      lines_after (m.with_line d k) ks h.2 ∙ rw (of.longer d k h.0 h.1) (append_assoc (m.lines d) (k ∷ []) ks)
-
-  -- the lines of the draft after some lines are these lines
-  lines_are : (ls : List K) → Accepts m g.end m.start ls → m.lines (after m g.end m.start ls) ≡ ls
-  lines_are ls h = lines_after m.start ls h ∙ ap (λ (ks : List K). ks ++ ls) of.no_lines
+  lines_after : (d e : D) (ks : List K) → Leads m g.end d ks e → m.lines e ≡ m.lines d ++ ks
+  lines_after d e [] h = rw h.1 (sym (append-nil (m.lines e)))
+  lines_after d e (k ∷ ks) h = lines_after (m.with_line d k) e ks (h.0.2, h.1)
+      ∙ rw (of.longer d k h.0.0 h.0.1) (append_assoc (m.lines d) (k ∷ []) ks)
 
   -- if accepted lines lead to a draft within the limits, they start from one
-  within_all : (d : D) (ks : List K) → Accepts m g.end d ks → m.IsWithin (after m g.end d ks) → m.IsWithin d
-  within_all d [] h within = within
-  within_all d (k ∷ ks) h within = (of.within_before d k h.0 (within_all (m.with_line d k) ks h.2 within)).0
+  within_all : (d e : D) (ks : List K) → Leads m g.end d ks e → m.IsWithin e → m.IsWithin d
+  within_all d e [] h within = rw h.1 within
+  within_all d e (k ∷ ks) h within =
+      (of.within_before d k h.0.0 (within_all (m.with_line d k) e ks (h.0.2, h.1) within)).0
+
+  -- the lines of a value, as these lines, lead to the draft of that value
+  value_leads : (v : V) (ls : List K) → g.body v ≡ ls → Leads m g.end m.start ls (m.whole v)
+  value_leads v ls e = subst (λ (ks : List K). Leads m g.end m.start ks (m.whole v)) e (of.leads v)
 
   -- the line after some lines of a list and its end is the end, or a line of the list
   split_end : (xs ls more : List K) (k : K) → xs ++ g.end ∷ [] ≡ ls ++ k ∷ more
@@ -146,35 +147,6 @@ module _ {V K D : Type 0} {g : Grammar V K} {m : Machine V K D} (of : IsReader g
         | inr (rest, all) ↦ inr (rest, cc (same, all))
       ]
 
-  -- a line that follows others in a value is accepted after them, and is within the limit if the value is allowed
-  follows : (v : V) (ls : List K) (k : K) → GoesOn g v ls k
-      → (m.takes (after m g.end m.start ls) k ≡ true)
-      × (g.IsAllowed v → m.is_full (after m g.end m.start ls) k ≡ false)
-  follows v ls k (more, e) =
-      let leads = of.leads v in
-      elim (split_end (g.body v) ls more k e) [
-        | inl (is, all) ↦ rw (is, all, leads.1) (of.ends v, λ allowed. of.end_has_room (m.whole v))
-        | inr (rest, all) ↦
-            let two = parts m.start ls (k ∷ rest) (subst (Accepts m g.end m.start) all leads.0) in
-            let now = sym leads.1 ∙ ap (after m g.end m.start) all ∙ two.2 in (
-              two.1.0,
-              λ allowed. (of.within_before _ k two.1.0
-                  (within_all _ rest two.1.2 (subst m.IsWithin now (of.within v allowed)))).1,
-            )
-      ]
-
-  -- a prefix of the lines of an allowed value is accepted, leads to a draft within the limits, and fits
-  began : (ls : List K) → IsBegun g ls
-      → Accepts m g.end m.start ls × m.IsWithin (after m g.end m.start ls) × AreFit ls
-  began ls (v, more, allowed, e) =
-      let leads = of.leads v in
-      let two = parts m.start ls more (subst (Accepts m g.end m.start) e leads.0) in
-      let now = sym leads.1 ∙ ap (after m g.end m.start) e ∙ two.2 in (
-        two.0,
-        within_all _ more two.1 (subst m.IsWithin now (of.within v allowed)),
-        all_left g.FitsLine ls more (subst AreFit e (of.fits v allowed)),
-      )
-
   -- before its first line, a text is a prefix of some allowed value
   pub nothing_begun : IsBegun g []
   nothing_begun = (
@@ -186,18 +158,44 @@ module _ {V K D : Type 0} {g : Grammar V K} {m : Machine V K D} (of : IsReader g
 
 -- a reader whose machine has come to this draft
 module _ {V K D : Type 0} {g : Grammar V K} {m : Machine V K D} {ls : List K} {d : D} (at : IsAt g m ls d) where
-  -- a line that the draft doesn't accept is refused with `Form`
-  pub misplaced : (k : K) → m.takes d k ≡ false → RefusesLine g ls k cause.Form
-  misplaced k never (v, goes) =
-      let may = (follows at.reader v ls k goes).0 in
-      let is = at.takes_is k in
-      absurd (cc (may, is, never))
+  -- the lines of the draft are these lines
+  lines_are : m.lines d ≡ ls
+  lines_are = lines_after at.reader m.start d ls at.comes ∙ ap (λ (ks : List K). ks ++ ls) at.reader.no_lines
 
   -- with an accepted line other than the end, the lines are those before it and then this line
-  next_is : (k : K) → m.takes d k ≡ true → k ≢ g.end
-      → m.lines (m.with_line (after m g.end m.start ls) k) ≡ ls ++ k ∷ []
-  next_is k may other = at.reader.longer _ k (at.takes_is k ∙ may) other
-      ∙ ap (λ (ks : List K). ks ++ k ∷ []) (lines_are at.reader ls at.accepted)
+  next_is : (k : K) → m.takes d k ≡ true → k ≢ g.end → m.lines (m.with_line d k) ≡ ls ++ k ∷ []
+  next_is k may other = at.reader.longer d k may other ∙ ap (λ (ks : List K). ks ++ k ∷ []) lines_are
+
+  -- if a value has these lines and then others, the others lead from the draft to that of the value
+  goes_on : (v : V) (more : List K) → g.body v ≡ ls ++ more → Leads m g.end d more (m.whole v)
+  goes_on v more e = rest_leads at.reader m.start d (m.whole v) ls more at.comes (value_leads at.reader v _ e)
+
+  -- a line that follows these in a value is accepted, and is within the limit if the value is allowed
+  follows : (v : V) (k : K) → GoesOn g v ls k
+      → (m.takes d k ≡ true) × (g.IsAllowed v → m.is_full d k ≡ false)
+  follows v k (more, e) = elim (split_end at.reader (g.body v) ls more k e) [
+    | inl (is, all) ↦
+        let same : d ≡ m.whole v = sym at.comes.1 ∙ (value_leads at.reader v ls (sym all)).1 in
+        rw (is, same) (at.reader.ends v, λ allowed. at.reader.end_has_room (m.whole v))
+    | inr (rest, all) ↦
+        let goes = goes_on v (k ∷ rest) all in (
+          goes.0.0,
+          λ allowed. (at.reader.within_before d k goes.0.0
+              (within_all at.reader (m.with_line d k) (m.whole v) rest (goes.0.2, goes.1)
+              (at.reader.within v allowed))).1,
+        )
+  ]
+
+  -- if the lines are a prefix of an allowed value's lines, the draft is within the limits, and the lines fit
+  began : IsBegun g ls → m.IsWithin d × AreFit at.reader ls
+  began (v, more, allowed, e) = (
+    within_all at.reader d (m.whole v) more (goes_on v more e) (at.reader.within v allowed),
+    all_left g.FitsLine ls more (subst (AreFit at.reader) e (at.reader.fits v allowed)),
+  )
+
+  -- a line that the draft doesn't accept is refused with `Form`
+  pub misplaced : (k : K) → m.takes d k ≡ false → RefusesLine g ls k cause.Form
+  misplaced k never (v, goes) = let may = (follows v k goes).0 in absurd (cc (may, never))
 
   -- a line that the draft accepts but that is over the limit is refused with `Many`
   pub too_many : (k : K) → m.takes d k ≡ true → m.is_full d k ≡ true → RefusesLine g ls k cause.Many
@@ -206,13 +204,10 @@ module _ {V K D : Type 0} {g : Grammar V K} {m : Machine V K D} {ls : List K} {d
       m.shortest next,
       (m.still next ++ g.end ∷ [], rw (at.reader.completes next, next_is k may other) (simp append_assoc)),
     ),
-    λ v allowed goes.
-        let room = (follows at.reader v ls k goes).1 allowed in
-        let is = at.full_is k in
-        absurd (cc (room, is, full)),
+    λ v allowed goes. let room = (follows v k goes).1 allowed in absurd (cc (room, full)),
   ) where
     next : D
-    next = m.with_line (after m g.end m.start ls) k
+    next = m.with_line d k
 
     other : k ≢ g.end
     other e = let room : m.is_full d k ≡ false = rw e (at.reader.end_has_room d) in absurd (cc (room, full))
@@ -221,25 +216,22 @@ module _ {V K D : Type 0} {g : Grammar V K} {m : Machine V K D} {ls : List K} {d
   pub longer_begun : (k : K) → IsBegun g ls → m.takes d k ≡ true → m.is_full d k ≡ false → g.FitsLine k
       → k ≢ g.end → IsBegun g (ls ++ k ∷ [])
   longer_begun k begun may room fits other =
-      let own = began at.reader ls begun in
+      let own = began begun in
       let all = next_is k may other in
-      let next = m.with_line (after m g.end m.start ls) k in
-      let within = at.reader.within_after _ k (at.takes_is k ∙ may) (at.full_is k ∙ room) own.1 in (
+      let next = m.with_line d k in (
         m.shortest next,
         m.still next,
-        at.reader.allowed next within (rw all (all_push g.FitsLine ls k own.2 fits)),
+        at.reader.allowed next (at.reader.within_after d k may room own.0)
+            (rw all (all_push g.FitsLine ls k own.1 fits)),
         at.reader.completes next ∙ ap (λ (ks : List K). ks ++ m.still next) all,
       )
 
   -- if the draft accepts the end, its lines are all the lines of an allowed value
   pub finished : IsBegun g ls → m.takes d g.end ≡ true → g.IsAllowed (m.shortest d) × (g.body (m.shortest d) ≡ ls)
   finished begun may =
-      let own = began at.reader ls begun in
-      let all = lines_are at.reader ls at.accepted in
-      let last = at.reader.no_more _ (at.takes_is g.end ∙ may) in
-      rw (← at.value_is) (
-        at.reader.allowed _ own.1 (rw all own.2),
-        at.reader.completes _ ∙ rw (last, all) (append-nil ls),
+      let own = began begun in (
+        at.reader.allowed d own.0 (rw lines_are own.1),
+        at.reader.completes d ∙ rw (at.reader.no_more d may, lines_are) (append-nil ls),
       )
 
 -- an accepted line within the limit, other than the end, becomes the last line of a draft
@@ -267,7 +259,9 @@ module _ {V K D : Type 0} {g : Grammar V K} {m : Machine V K D} (of : IsReader g
     fits = of.fits;
     fits_end = fits_end;
     end_is_last = λ v ls more e.
-        (parts of m.start ls (g.end ∷ more) (subst (Accepts m g.end m.start) e (of.leads v).0)).1.1 refl;
+        let all = value_leads of v (ls ++ g.end ∷ more) e in
+        (rest_leads of m.start _ (m.whole v) ls (g.end ∷ more) (first_part of m.start ls (g.end ∷ more) all.0, refl)
+        all).0.1 refl;
     one_value = λ v w allowed also e.
         sym (again v allowed) ∙ ap (λ (ks : List K). m.shortest (after m g.end m.start ks)) e ∙ again w also;
   } where
@@ -289,13 +283,8 @@ module _ {V K D : Type 0} {g : Grammar V K} {m : Machine V K D} (of : IsReader g
     d = after m g.end m.start ls
 
     at : IsAt g m ls d
-    at = record {
-      reader = of;
-      accepted = (began of ls begun).0;
-      takes_is = λ k. refl;
-      full_is = λ k. refl;
-      value_is = refl;
-    }
+    at = let (v, more, allowed, e) = begun in
+        record { reader = of; comes = (first_part of m.start ls more (value_leads of v (ls ++ more) e).0, refl) }
 
     no_line : (k : K) → g.FitsLine k → text ≡ line_text g k → m.takes d k ≡ false → IsNoLine g ls text
     no_line k fits is never = refuses made ls k text fits is cause.Form (misplaced at k never)

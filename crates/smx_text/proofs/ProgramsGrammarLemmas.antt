@@ -5,7 +5,7 @@ use Rattle.std.specs.Str.{bytes_eq}
 use Rattle.smx_types.specs.declared.command.Command.{Command}
 use Rattle.smx_types.specs.declared.command.Command.TheVariants as command
 use Rattle.smx_types.specs.declared.driver.DriverSpec.{DriverSpec}
-use Rattle.smx_words.specs.Words.{line_of}
+use Rattle.smx_words.specs.Words.{line_of, AreWords}
 use Rattle.smx_words.specs.Spelling.{command_words, driver_words, process_words}
 use Rattle.smx_words.specs.Spellable.{FitsNumber, FitsDriver, FitsCommandIn}
 use Rattle.smx_text.specs.Grammar.{IsNoLine, IsOneLine, header, line_text}
@@ -16,7 +16,6 @@ use Rattle.smx_text.proofs.GrammarLemmas.{IsWellMade}
 use Rattle.smx_text.proofs.HasReadingLemmas.{HasReading, by_reading}
 use Rattle.smx_text.proofs.MachineLemmas.{IsLineOrNot, well_made as made_by, reads}
 use Rattle.smx_text.proofs.ProgramsMachineLemmas.{reader}
-use Rattle.smx_words.specs.Words.{AreWords}
 use Rattle.smx_words.proofs.DecidedCommandLemmas.{command_has_words}
 use Rattle.smx_words.proofs.DecidedLemmas.{reading}
 use Rattle.smx_words.proofs.DecidedLineLemmas.{driver_has_words, process_has_words}

@@ -218,13 +218,7 @@ reader version = record {
 
 -- the lines of programs lead the machine of their version to them
 pub stands : (v : ProgramLists) → IsAt (programs_grammar v.version) (machine v.version) (body v) v
-stands v = let all = leads v.version v in record {
-  reader = reader v.version;
-  accepted = all.0;
-  takes_is = λ k. ap (λ (w : ProgramLists). takes w k) all.1;
-  full_is = λ k. ap (λ (w : ProgramLists). is_full w k) all.1;
-  value_is = all.1;
-}
+stands v = record { reader = reader v.version; comes = leads v.version v }
 
 -- ---- limits
 

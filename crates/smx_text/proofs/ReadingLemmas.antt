@@ -25,12 +25,21 @@ behind before text after = append_assoc before (text ++ LINE_FEED ∷ []) after
     ∙ ap (λ (xs : List ℕ). before ++ xs) (append_assoc text (LINE_FEED ∷ []) after)
 
 module _ {V K : Type 0} (g : Grammar V K) where
+  -- a beginning is the header, and then the lines
+  pub beginning_is : (lines : List K) → beginning g lines ≡ header g ++ LINE_FEED ∷ text_of (map g.line_words lines)
+  beginning_is lines = append_assoc (header g) (LINE_FEED ∷ []) (text_of (map g.line_words lines))
+
+  -- a beginning with more lines is the beginning followed by these lines
+  pub beginning_append : (lines more : List K)
+      → beginning g (lines ++ more) ≡ beginning g lines ++ text_of (map g.line_words more)
+  beginning_append lines more =
+      ap (λ (ws : List (List (List ℕ))). text_of (g.header_words ∷ ws)) (map-append g.line_words lines more)
+      ∙ texts_append (g.header_words ∷ map g.line_words lines) (map g.line_words more)
+
   -- a beginning with one more line is the beginning followed by that line and its line feed
   pub beginning_more : (lines : List K) (k : K)
       → beginning g (lines ++ k ∷ []) ≡ beginning g lines ++ (line_text g k ++ LINE_FEED ∷ [])
-  beginning_more lines k =
-      ap (λ (ws : List (List (List ℕ))). text_of (g.header_words ∷ ws)) (map-append g.line_words lines (k ∷ []))
-      ∙ texts_append (g.header_words ∷ map g.line_words lines) (g.line_words k ∷ [])
+  beginning_more lines k = beginning_append lines (k ∷ [])
       ∙ ap (λ (xs : List ℕ). beginning g lines ++ xs) (append-nil (line_text g k ++ LINE_FEED ∷ []))
 
   -- a whole text is its beginning and the line `end`

@@ -105,10 +105,10 @@ still stage.History = line.Config ∷ line.Next 0 0 ∷ []
 still stage.Config = line.Next 0 0 ∷ []
 still stage.View = []
 
--- the machine that reads transcripts of a version
-abbrev pub machine : Version → Machine Transcript TranscriptLine TranscriptDraft
-machine version = record {
-  start = draft stage.History (record { version = version; drivers = []; entries = []; view = new_view 0 0 });
+-- the machine that reads transcripts of a version; until it reads the lines of a view, its view is any view
+abbrev pub machine : Version → ConfigView → Machine Transcript TranscriptLine TranscriptDraft
+machine version view = record {
+  start = draft stage.History (record { version = version; drivers = []; entries = []; view = view });
   lines = lines;
   takes = takes;
   is_full = is_full;

@@ -1,7 +1,6 @@
 -- In a transcript text, a line's text determines the line.
-use Rattle.std.proofs.Common.{◌∙◌, true, false, ◌≡◌, ◌≢◌, ℕ, true, List}
-use Rattle.std.proofs.Common.{refl, sym, ap, arith, rules, inl, inr}
-use Rattle.std.specs.Prelude.{codes}
+use Rattle.std.proofs.Common.{◌∙◌, true, false, ◌≡◌, ◌≢◌, ℕ, List, refl, sym, ap, arith, rules, inl, inr}
+use Rattle.std.specs.Prelude.{codes, Result, Ok, Err, OnOk, IfErr, if◌then◌else◌, Bool, ◌++◌, ◌∷◌, []}
 use Rattle.std.specs.Str.{all_ascii_digits}
 use Rattle.std.proofs.lemmas.Fmt.{digits_decimal}
 use Rattle.smx_types.specs.declared.command.Entry.{Entry}
@@ -15,12 +14,12 @@ use Rattle.smx_types.specs.declared.view.HungLine.{HungLine}
 use Rattle.smx_types.specs.declared.view.LinkLine.{LinkLine}
 use Rattle.smx_types.specs.declared.view.MessageLine.{MessageLine}
 use Rattle.smx_types.specs.declared.view.RouteLine.{RouteLine}
-use Rattle.smx_words.specs.Words.{line_of}
-use Rattle.smx_words.specs.Spelling.{driver_words, entry_words, descriptor_words, link_words, bind_words}
-use Rattle.smx_words.specs.Spelling.{route_words, message_words, full_words, hung_words, next_words}
+use Rattle.smx_words.specs.Words.{line_of, AreWords}
+use Rattle.smx_words.specs.Spelling.{driver_words, entry_words, descriptor_words, link_words, bind_words, route_words}
+use Rattle.smx_words.specs.Spelling.{message_words, full_words, hung_words, next_words}
 use Rattle.smx_words.specs.Spellable.{FitsDriver, FitsEntry, FitsEntryIn, FitsDescriptor, FitsLink, FitsBinding}
 use Rattle.smx_words.specs.Spellable.{FitsRoute, FitsMessage, FitsFull, FitsNext}
-use Rattle.smx_text.specs.Grammar.{IsNoLine, IsOneLine, header, line_text}
+use Rattle.smx_text.specs.Grammar.{IsNoLine, IsOneLine, header, line_text, IsBegun}
 use Rattle.smx_text.specs.TranscriptLines.{TranscriptLine}
 use Rattle.smx_text.specs.TranscriptLines as line
 use Rattle.smx_text.specs.TranscriptText.{line_words, FitsHungIn, FitsLine, transcript_grammar}
@@ -28,18 +27,15 @@ use Rattle.smx_text.proofs.GrammarLemmas.{IsWellMade, answers}
 use Rattle.smx_text.proofs.HasReadingLemmas.{HasReading, by_reading}
 use Rattle.smx_text.proofs.MachineLemmas.{IsLineOrNot, adds, longer_begun, misplaced, reads, well_made as made_by}
 use Rattle.smx_text.proofs.TranscriptMachineLemmas.{reader, stands}
-use Rattle.smx_text.proofs.TranscriptDrafts.{is_full, takes, with_line, with_view}
+use Rattle.smx_text.proofs.TranscriptDrafts.{new_view, is_full, takes, with_line, with_view}
 use Rattle.smx_text.specs.Drafts.{grammar_of, lines}
 use Rattle.smx_text.specs.Reading.{AnswersLine, AnswersText}
 use Rattle.smx_text.specs.declared.text_fault.Cause.{Cause}
 use Rattle.smx_text.specs.declared.text_fault.Cause.TheVariants as cause
 use Rattle.smx_text.specs.declared.transcript.draft.TranscriptDraft.{TranscriptDraft}
 use Rattle.smx_types.specs.declared.view.ConfigView.{ConfigView}
-use Rattle.std.specs.Prelude.{Result, Ok, Err, OnOk, IfErr, if◌then◌else◌, Bool, ◌++◌, ◌∷◌, []}
-use Rattle.smx_text.specs.Grammar.{IsBegun}
 use Rattle.smx_text.proofs.VersionLemmas.{AreVersions}
 use Rattle.smx_text.proofs.LineWordLemmas.{config_spelled, differ, end_spelled, first_word, other_first}
-use Rattle.smx_words.specs.Words.{AreWords}
 use Rattle.smx_words.proofs.NumberLemmas.{own}
 use Rattle.smx_words.proofs.DecidedCommandLemmas.{entry_has_words}
 use Rattle.smx_words.proofs.DecidedLemmas.{reading, same_or_not}
@@ -104,7 +100,8 @@ header_is_line V2 = search rules
 
 -- the transcript text is well made: a line's text determines it, each is one line, and lines determine the transcript
 pub well_made : (version : Version) → IsWellMade (transcript_grammar version)
-well_made version = made_by (reader version) (header_is_line version) (spelling version) tt (words_apart version)
+well_made version =
+    made_by (reader version (new_view 0 0)) (header_is_line version) (spelling version) tt (words_apart version)
 
 -- the grammars of transcripts are well made in both versions, and their headers differ
 abbrev pub versions : AreVersions transcript_grammar
@@ -196,4 +193,4 @@ line_or_not version ls text other =
 -- any bytes spell a transcript of this version, or have a first fault other than out of memory
 pub transcripts_have_reading : (version : Version) (bytes : List ℕ) → HasReading (transcript_grammar version) bytes
 transcripts_have_reading version =
-    reads (reader version) (well_made version) (line_or_not version)
+    reads (reader version (new_view 0 0)) (well_made version) (line_or_not version)

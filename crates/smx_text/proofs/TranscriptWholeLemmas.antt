@@ -1,6 +1,5 @@
 -- A transcript is allowed exactly if it is within the limits, can be spelled, and needs no later version.
-use Rattle.std.proofs.Common.{◌≡◌, ◌≤◌, List, ◌++◌, length, map}
-use Rattle.std.proofs.Common.{true}
+use Rattle.std.proofs.Common.{◌≡◌, ◌≤◌, List, ◌++◌, length, map, true}
 use Rattle.std.specs.List.{AllByRecursion}
 use Rattle.smx_types.specs.Versions.{is_of_hangup, least_of_transcript, most_drivers}
 use Rattle.smx_types.specs.declared.limits.TheConstants.{MAX_COMMANDS}
@@ -13,8 +12,7 @@ use Rattle.smx_text.specs.TranscriptLines.{TranscriptLine}
 use Rattle.smx_text.specs.TranscriptLines as line
 use Rattle.smx_text.specs.TranscriptText.{IsSpellable, IsSpellableView, FitsLine, view_body, body, IsAllowed}
 use Rattle.smx_text.proofs.EachLemmas.{all_left, all_right, all_append, all_map, of_map, all_both, all_parts}
-use Rattle.smx_text.proofs.TranscriptVersionLemmas.{AreHungsIn, entries_expressed, hungs_expressed}
-use Rattle.smx_text.proofs.TranscriptVersionLemmas.{needs_no_later}
+use Rattle.smx_text.proofs.TranscriptVersionLemmas.{AreHungsIn, entries_expressed, hungs_expressed, needs_no_later}
 
 module _ (version : Version) where
   -- each of these lines fits the version

@@ -15,6 +15,7 @@ use Rattle.smx_types.specs.declared.command.Sides.TheVariants as sides
 use Rattle.smx_types.specs.declared.command.Which.{Which}
 use Rattle.smx_types.specs.declared.command.Which.TheVariants as which
 use Rattle.smx_types.specs.declared.driver.DriverKind.TheVariants as kind
+use Rattle.smx_types.specs.declared.driver.DriverSpec.{DriverSpec}
 use Rattle.smx_types.specs.declared.version.Version.TheVariants.{V1, V2}
 use Rattle.smx_words.specs.HexWords.{hex_word}
 use Rattle.smx_words.specs.Spellable.{FitsBytes, FitsName, FitsNumber, FitsWhich}
@@ -36,10 +37,13 @@ use Rattle.smx_text.proofs.WorkedFaultLemmas.{later_line, wrong_words}
 
 -- ---- line 4 of a text
 
+-- the driver `ip`, a multiplexer of four minors
+abbrev pub ip : DriverSpec
+ip = record { name = codes "ip"; kind = kind.Mux; minors = 4; high = 8; low = 3; max = 16 }
+
 -- the programs before line 4: one driver, and one process without commands
 abbrev pub before : ProgramLists
-before = program_lists (record { name = codes "ip"; kind = kind.Mux; minors = 4; high = 8; low = 3; max = 16 }
-    ∷ []) ([] ∷ [])
+before = program_lists (ip ∷ []) ([] ∷ [])
 
 -- the programs before line 4 are allowed in version 1
 pub before_allowed : IsAllowed V1 before

@@ -23,7 +23,7 @@ use Rattle.smx_text.proofs.MachineLemmas.{nothing_begun}
 use Rattle.smx_text.proofs.ProgramsGrammarLemmas.{versions}
 use Rattle.smx_text.proofs.ProgramsMachineLemmas.{reader, stands}
 use Rattle.smx_text.proofs.WorkedFaultLemmas.{cut_text, misplaced_line, one_too_many, wrong_first, wrong_text}
-use Rattle.smx_text.proofs.WrongCommandLemmas.{before, before_allowed}
+use Rattle.smx_text.proofs.WrongCommandLemmas.{before, before_allowed, ip}
 
 -- ---- the header, and nothing after it
 
@@ -124,10 +124,6 @@ unfolding digits
 process_65 =
     one_too_many versions V1 (stands processes) (begun_by processes (search (rules, arith))) (line.Process 64)
     (omega arith) (codes "end\n") refl refl
-
--- the driver `ip`, a multiplexer of four minors
-abbrev pub ip : DriverSpec
-ip = record { name = codes "ip"; kind = kind.Mux; minors = 4; high = 8; low = 3; max = 16 }
 
 -- the driver `ip` can be spelled
 pub ip_fits : FitsDriver ip

@@ -1,15 +1,15 @@
 -- Transcripts with a misplaced line, a line that spells nothing, or a missing line.
-use Rattle.std.proofs.Common.{◌≤◌, ◌≡◌, ◌≢◌, ℕ, ◌<◌, List, [], ◌∷◌, ◌++◌, length, map, refl, sym}
-use Rattle.std.proofs.Common.{ap, ◌∙◌, arith, rules, None, Some}
+use Rattle.std.proofs.Common.{false, ◌≤◌, ◌≡◌, ◌≢◌, ℕ, ◌<◌, List, [], ◌∷◌, ◌++◌, length, map, refl}
+use Rattle.std.proofs.Common.{ap, ◌∙◌, arith, rules}
 use Rattle.std.specs.List.{AllByRecursion}
 use Rattle.std.specs.Fmt.{decimal, digits}
 use Rattle.std.specs.Prelude.{codes}
+use Rattle.std.specs.Str.{bytes_eq}
 use Rattle.std.specs.Str.Parse.{digits_value}
 use Rattle.std.proofs.lemmas.Fmt.{digits_value-decimal}
 use Rattle.smx_types.specs.declared.command.Command.{Command}
 use Rattle.smx_types.specs.declared.command.Command.TheVariants as command
 use Rattle.smx_types.specs.declared.command.Entry.{Entry as AnyEntry}
-use Rattle.smx_types.specs.declared.driver.DriverKind.TheVariants as kind
 use Rattle.smx_types.specs.declared.link.LinkKind.TheVariants as link
 use Rattle.smx_types.specs.declared.reply.Fault.{Fault}
 use Rattle.smx_types.specs.declared.reply.Fault.TheVariants as fault
@@ -20,14 +20,10 @@ use Rattle.smx_types.specs.declared.transcript.Transcript.{Transcript}
 use Rattle.smx_types.specs.Versions.{most_drivers}
 use Rattle.smx_types.specs.declared.version.Version.{Version}
 use Rattle.smx_types.specs.declared.version.Version.TheVariants.{V1, V2}
-use Rattle.smx_words.specs.declared.reading.verb.Verb.TheVariants as verb
 use Rattle.smx_words.specs.Spellable.{FitsDriver, FitsEntry}
 use Rattle.smx_words.specs.Spelling.{command_words, fault_words, reply_words}
 use Rattle.smx_words.specs.Words.{IsFree, SPACE, line_of}
 use Rattle.smx_words.proofs.NumberLemmas.{own}
-use Rattle.smx_words.proofs.SameCommandLemmas.{verb_first, verb_of}
-use Rattle.smx_words.proofs.SameReplyLemmas.{reply_verb_of, verb_again, verb_at}
-use Rattle.smx_words.proofs.SameWordLemmas.{fault_at, found_fault}
 use Rattle.smx_text.specs.declared.text_fault.Cause.TheVariants as cause
 use Rattle.smx_text.specs.declared.transcript.draft.Stage.TheVariants as stage
 use Rattle.smx_text.specs.declared.transcript.draft.TranscriptDraft.{TranscriptDraft}
@@ -44,32 +40,36 @@ use Rattle.smx_text.proofs.TranscriptGrammarLemmas.{versions}
 use Rattle.smx_text.proofs.TranscriptMachineLemmas.{reader, stands}
 use Rattle.smx_text.proofs.WorkedFaultLemmas.{cut_text, later_line, misplaced_line, one_too_many, wrong_first}
 use Rattle.smx_text.proofs.WorkedFaultLemmas.{wrong_words}
-use Rattle.smx_text.proofs.LineWordLemmas.{other_first}
-use Rattle.smx_text.proofs.WrongProgramLemmas.{all_same, ip, ip_fits, repeated}
+use Rattle.smx_text.proofs.LineWordLemmas.{differ, other_first}
+use Rattle.smx_text.proofs.WrongCommandLemmas.{ip}
+use Rattle.smx_text.proofs.WrongProgramLemmas.{all_same, ip_fits, repeated}
 
 -- ---- the lines before the fault
 
--- a transcript with no driver, no entry and an empty view
-abbrev nothing : Transcript
-nothing = record { version = V1; drivers = []; entries = []; view = new_view 1 1 }
+-- a transcript of a version with the driver `ip` n times, no entry and an empty view
+abbrev drivers : Version → ℕ → Transcript
+drivers version n = record { version = version; drivers = repeated ip n; entries = []; view = new_view 1 1 }
 
--- a transcript with one driver, no entry and an empty view
-abbrev one_driver : Transcript
-one_driver =
-    record nothing {
-      drivers = record {
-        name = codes "ip";
-        kind = kind.Mux;
-        minors = 4;
-        high = 8;
-        low = 3;
-        max = 16;
-      } ∷ [];
-    }
+-- the lines of the driver `ip` at most as often as a version allows are a prefix of an allowed transcript
+drivers_begun : (version : Version) (n : ℕ) → length (drivers version n).drivers ≤ most_drivers version
+    → IsBegun (transcript_grammar version) (map line.Driver (repeated ip n))
+drivers_begun version n few = (
+  drivers version n,
+  line.Config ∷ line.Next 1 1 ∷ [],
+  record {
+    version_is = refl;
+    drivers = few;
+    entries = omega arith;
+    fits = all_append (FitsLine version) (map line.Driver (repeated ip n)) (line.Config ∷ line.Next 1 1 ∷ [])
+        (all_map (FitsLine version) line.Driver (repeated ip n) (all_same FitsDriver ip n ip_fits))
+        (search (rules, arith));
+  },
+  refl,
+)
 
 -- a transcript with no driver, no entry and a view of one link
 abbrev one_link : Transcript
-one_link = record nothing {
+one_link = record (drivers V1 0) {
   view = record (new_view 2 1) {
     links = record {
       id = 1;
@@ -84,19 +84,19 @@ one_link = record nothing {
 
 -- a transcript of which `config` was read, and no line before it
 abbrev below_config : TranscriptDraft
-below_config = draft stage.Config nothing
+below_config = draft stage.Config (drivers V1 0)
 
 -- the line `config` is a prefix of an allowed transcript
 config_begun : IsBegun (transcript_grammar V1) (lines below_config)
-config_begun = (nothing, line.Next 1 1 ∷ [], search (rules, arith), refl)
+config_begun = (drivers V1 0, line.Next 1 1 ∷ [], search (rules, arith), refl)
 
 -- a transcript of which the line of one driver was read
 abbrev behind_driver : TranscriptDraft
-behind_driver = draft stage.History one_driver
+behind_driver = draft stage.History (drivers V1 1)
 
 -- the line of the driver is a prefix of an allowed transcript
 driver_begun : IsBegun (transcript_grammar V1) (lines behind_driver)
-driver_begun = (one_driver, line.Config ∷ line.Next 1 1 ∷ [], search (rules, arith), refl)
+driver_begun = drivers_begun V1 1 (omega arith)
 
 -- words of no line give line 3 the fault `Form`
 wrong_at_3 : (ws : List (List ℕ)) → AllByRecursion (IsFree SPACE) ws × (0 < length ws) × IsOneLine (line_of ws)
@@ -126,7 +126,7 @@ version_3 = wrong_first versions (codes "transcript 3") [] (search rules) refl r
 
 -- a header of version 2 with nothing after it is cut at line 2
 pub version_2_alone : IsWrongTranscript (codes "transcript 2\n") 2 cause.Cut
-version_2_alone = cut_text versions V2 [] [] (nothing_begun (reader V2)) tt
+version_2_alone = cut_text versions V2 [] [] (nothing_begun (reader V2 (new_view 0 0))) tt
 
 -- the line of descriptor 0 of process 0, open on minor 0 of `ip`
 abbrev descriptor : TranscriptLine
@@ -169,14 +169,11 @@ late_descriptor =
 pub no_end : IsWrongTranscript (codes "transcript 1\nconfig\nnext 1 1\n") 4 cause.Cut
 unfolding digits
 no_end =
-    cut_text versions V1 (line.Config ∷ line.Next 1 1 ∷ []) [] (nothing, [], search (rules, arith), refl) tt
+    cut_text versions V1 (line.Config ∷ line.Next 1 1 ∷ []) [] (drivers V1 0, [], search (rules, arith), refl) tt
 
 -- a transcript of version 2 with one hung-up stream, and nothing else
 abbrev one_hung : Transcript
-one_hung = record {
-  version = V2;
-  drivers = [];
-  entries = [];
+one_hung = record (drivers V2 0) {
   view = record (new_view 1 1) { hungs = record { driver = codes "eth"; minor = 0 } ∷ [] };
 }
 
@@ -190,27 +187,6 @@ late_full_place =
     (codes "end\n") refl
 
 -- ---- one driver over the limit
-
--- a transcript of a version with the driver `ip` n times, no entry and an empty view
-abbrev drivers : Version → ℕ → Transcript
-drivers version n = record { version = version; drivers = repeated ip n; entries = []; view = new_view 1 1 }
-
--- the lines of the driver `ip` at most as often as a version allows are a prefix of an allowed transcript
-drivers_begun : (version : Version) (n : ℕ) → length (drivers version n).drivers ≤ most_drivers version
-    → IsBegun (transcript_grammar version) (map line.Driver (repeated ip n))
-drivers_begun version n few = (
-  drivers version n,
-  line.Config ∷ line.Next 1 1 ∷ [],
-  record {
-    version_is = refl;
-    drivers = few;
-    entries = omega arith;
-    fits = all_append (FitsLine version) (map line.Driver (repeated ip n)) (line.Config ∷ line.Next 1 1 ∷ [])
-        (all_map (FitsLine version) line.Driver (repeated ip n) (all_same FitsDriver ip n ip_fits))
-        (search (rules, arith));
-  },
-  refl,
-)
 
 -- in a transcript of version 1, a 65th driver is over the limit
 pub driver_65_of_a_transcript : IsWrongTranscript (with_drivers (codes "transcript 1\n") 65) 66 cause.Many
@@ -244,28 +220,21 @@ process_64 = wrong_at_3 (codes "64" ∷ codes "clone" ∷ codes "ip" ∷ codes "
       none (line.Entry e) fits is = process_wrong e fits.0 (cc is)
       none k fits is = other_first _ _ refl is
 
--- `EINVAL` alone is not the words of a fault, which are two
-no_fault : (f : Fault) → codes "EINVAL" ∷ [] ≢ fault_words f
-no_fault f e =
-    let none : None ≡ Some f = ap fault_at e ∙ found_fault f in
-    absurd (cc none)
+-- the words of no fault are `EINVAL` alone
+no_fault : (f : Fault) → bytes_eq (codes "EINVAL") (line_of (fault_words f)) ≡ false
+no_fault fault.NoMinor = refl
+no_fault f = refl
 
 -- `EINVAL` alone is not the words of a reply
 no_reply : (r : Reply) → codes "EINVAL" ∷ [] ≢ reply_words r
-no_reply r e = by_kind r (sym (verb_again r) ∙ ap verb_at (sym e)) e where
-  by_kind : (r : Reply) → reply_verb_of r ≡ None → codes "EINVAL" ∷ [] ≢ reply_words r
-  by_kind (reply.Fault f) v e = no_fault f e
-  by_kind r v e = absurd (cc v)
+no_reply (reply.Fault f) e = differ (codes "EINVAL") (line_of (fault_words f)) (no_fault f) (ap line_of e)
+no_reply r e = other_first _ _ refl e
 
 -- no command with its reply has the words `clone ip = EINVAL`
-half_reply : (c : Command) (r : Reply) → codes "clone" ∷ codes "ip" ∷ codes "=" ∷ codes "EINVAL"
-    ∷ [] ≢ command_words c ++ codes "=" ∷ reply_words r
-half_reply c r e = by_kind c (verb_first c verb.Clone _ _ e) e where
-  by_kind : (c : Command) → verb_of c ≡ verb.Clone
-      → codes "clone" ∷ codes "ip" ∷ codes "=" ∷ codes "EINVAL" ∷ [] ≢ command_words c
-      ++ codes "=" ∷ reply_words r
-  by_kind (command.OpenClone d) v e = no_reply r (cc e)
-  by_kind c v e = absurd (cc v)
+half_reply : (c : Command) (r : Reply)
+    → codes "clone" ∷ codes "ip" ∷ codes "=" ∷ codes "EINVAL" ∷ [] ≢ command_words c ++ codes "=" ∷ reply_words r
+half_reply (command.OpenClone d) r e = no_reply r (cc e)
+half_reply c r e = other_first _ _ refl e
 
 -- `EINVAL` alone is not a reply: a second word names its cause
 pub half_a_fault : IsWrongTranscript (with_line_3 (codes "0 clone ip = EINVAL")) 3 cause.Form
