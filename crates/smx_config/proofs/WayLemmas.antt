@@ -96,7 +96,6 @@ ways_kept drivers c d process (command.Inject name minor addr bytes) r t h e =
     send_keeps drivers c (read_side s.0) addr bytes (d, r) s.2
 ways_kept drivers c d process (command.Transmit name minor) r t h e =
     let s = bound (live_leaf drivers c name minor) _ (d, r) e in receive_keeps drivers c (write_side s.0) (d, r) s.2
-ways_kept drivers c d process command.CloseAll r t h e = absurd (false≢true t)
 ways_kept drivers c d process k r t h e = absurd (false≢true t)
 
 -- moving a message

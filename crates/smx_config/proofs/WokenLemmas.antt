@@ -1,5 +1,5 @@
 -- The places that a command turns and frees are among those that it may wake.
-use Rattle.std.proofs.Common.{◌≡◌, ℕ, Bool, true, false, ◌&&◌, ◌||◌, not, eqb, List, [], ◌∷◌, filter, Option, Some}
+use Rattle.std.proofs.Common.{◌≡◌, ℕ, Bool, true, false, ◌&&◌, ◌||◌, not, eqb, List, [], filter, Option, Some}
 use Rattle.std.proofs.Common.{None, Result, Ok, Err, refl, sym, ap, ◌∙◌, subst, inl, inr}
 use Rattle.std.specs.Prelude.{◌⊎◌, IfOk, if◌then◌else◌}
 use Rattle.std.specs.List.{list_any}
@@ -150,7 +150,6 @@ turns drivers c process (command.Inject name minor addr bytes) x h e p t =
     inl (turned_on (live_leaf drivers c name minor) _ _ x.0 p (λ s u. arrived c x.0 (read_side s) p u) t)
 turns drivers c process (command.Transmit name minor) x h e p t =
     inr (transmit_stays drivers c process name minor x p e t)
-turns drivers c process command.CloseAll x h e p t = absurd (false≢true t)
 turns drivers c process k x h e p t = absurd (false≢true t)
 
 -- an accepted command turns only places that `wakes_of` says may be turned
@@ -204,13 +203,7 @@ frees drivers c new process k x p some t = absurd (false≢true t)
 -- a reply that passes `drops_none` is `Done` without serials
 undropped : (r : Reply) → drops_none r ≡ true → r ≡ reply.Done []
 undropped (reply.Done []) t = refl
-undropped (reply.Done (n ∷ ns)) t = absurd (false≢true t)
-undropped (reply.Fd fd minor) t = absurd (false≢true t)
-undropped (reply.Id id) t = absurd (false≢true t)
-undropped (reply.Took serial) t = absurd (false≢true t)
-undropped (reply.Got serial addr bytes) t = absurd (false≢true t)
-undropped reply.Eof t = absurd (false≢true t)
-undropped (reply.Fault f) t = absurd (false≢true t)
+undropped r t = absurd (false≢true t)
 
 -- a change freed only some of these places
 pub record FreesAmong (old new : Configuration) (freed_too : Place → Bool) : Type 0 where

@@ -9,7 +9,7 @@ use Rattle.std.proofs.lemmas.Bool.{cases_Bool}
 use Rattle.std.proofs.lemmas.Bool.Decides.{nat_tests}
 use Rattle.std.proofs.lemmas.List.{append-nil, length-map, map-append, map-set, get_or-map, get_or-set_same}
 use Rattle.std.proofs.lemmas.List.{get_or-set_other}
-use Rattle.std.proofs.lemmas.List.Elements.{All-push, All-set, filter-append}
+use Rattle.std.proofs.lemmas.List.Elements.{All-push, filter-append}
 use Rattle.smx_types.specs.declared.command.Command.{Command}
 use Rattle.smx_shared.specs.Seats.{Seated}
 use Rattle.smx_run.specs.Assignments.{assignment_of, assignments_of}
@@ -163,23 +163,6 @@ first_then_rest (y ∷ xs) rest x first after many =
     let same : x ≡ y = first in
     let others : rest ≡ xs = after in
     rw (same, others) refl
-
--- a fact of all items of all assignments, if one assignment gets one more item
-pub all_put : {H A : Type 0} (f : H → List A) (P : A → Type 0) (assignments : List H) (at : ℕ) (d new : H) (x : A)
-    → at < length assignments → d ≡ get_or assignments at d → f new ≡ f d ++ x ∷ []
-    → All (λ h. All P (f h)) assignments → P x → All (λ h. All P (f h)) (set assignments at new)
-all_put f P assignments at d new x within is added all here =
-    let old : All P (f d) = subst (λ h. All P (f h)) (sym is) (all at d within) in
-    All-set (λ h. All P (f h)) assignments at new (subst (All P) (sym added) (All-push P (f d) x old here)) all
-
--- the same, if the first item of one assignment is taken
-pub all_taken : {H A : Type 0} (f : H → List A) (P : A → Type 0) (assignments : List H) (at : ℕ) (d new : H) (x : A)
-    → at < length assignments → d ≡ get_or assignments at d → f d ≡ x ∷ f new
-    → All (λ h. All P (f h)) assignments → P x × All (λ h. All P (f h)) (set assignments at new)
-all_taken f P assignments at d new x within is first all =
-    let old : All P (f d) = subst (λ h. All P (f h)) (sym is) (all at d within) in
-    let both = take_off P (f d) (f new) x first old in
-    (both.0, All-set (λ h. All P (f h)) assignments at new both.1 all)
 
 -- the other assignments are unchanged
 pub keep_others : {H : Type 0} (f : H → List Calls) (assignments : List H) (at : ℕ) (new : H) (k : ℕ) → k ≢ at

@@ -1,6 +1,5 @@
 pub mod AssignmentLemmas
 pub mod FrontLemmas
-pub mod FullHistoryLemmas
 pub mod GatheringLemmas
 pub mod MeetingLemmas
 pub mod ProgramOrderLemmas

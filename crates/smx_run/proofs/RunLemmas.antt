@@ -7,17 +7,15 @@ use Rattle.smx_types.specs.declared.command.Command.{Command}
 use Rattle.smx_types.specs.declared.command.Entry.{Entry}
 use Rattle.smx_types.specs.declared.driver.DriverSpec.{DriverSpec}
 use Rattle.smx_model.specs.Histories.{call_of, commands_of, HoldsPrograms}
-use Rattle.smx_shared.specs.Calls.{AddsEntry, HasSeenMore, EndsAs, Refuses}
+use Rattle.smx_shared.specs.Calls.{HasSeenMore, EndsAs}
 use Rattle.smx_shared.specs.Fronts.{IsFrontOf}
 use Rattle.smx_shared.specs.Recorded.{Recorded}
 use Rattle.smx_shared.specs.Seats.{Known, Seated, SharedId, GoesOnNamed, IsBeginningOf, IsMetBy}
 use Rattle.smx_shared.specs.Seats.{AreMetBy, entries_of, first_seat, met_seat}
 use Rattle.smx_shared.specs.declared.front.Front.{Front}
-use Rattle.smx_shared.specs.declared.shared_fault.ApplyFault.{ApplyFault}
-use Rattle.smx_shared.specs.declared.shared_fault.ApplyFault.TheVariants as apply
 use Rattle.smx_shared.specs.declared.seat_view.MetSeat.{MetSeat}
 use Rattle.smx_run.specs.Fronts.{IsFrontAfter, AreFrontsFrom}
-use Rattle.smx_run.specs.Assignments.{called, calls_in, known_at, HasCalled, IsFresh, EndsAt}
+use Rattle.smx_run.specs.Assignments.{called, calls_in, known_at, IsFresh, EndsAt}
 use Rattle.smx_run.specs.Meeting.{IsBorneOutBy}
 use Rattle.smx_run.specs.ProgramOrder.{Calls, calls_of, calls_from, numbered}
 use Rattle.smx_run.specs.declared.worker.EndedProgram.{EndedProgram}
@@ -128,30 +126,6 @@ pub map_behind : {A B : Type 0} (f : A → B) (base xs more : List B) (ys : List
 map_behind f base xs more ys y before added =
     added ∙ ap (λ l. l ++ f y ∷ []) before ∙ append_assoc base (map f ys) (f y ∷ [])
     ∙ ap (λ l. base ++ l) (sym (map-append f ys (y ∷ [])))
-
--- what was called with a seat, and one more command
-pub called_more : (a b c : Known) (commands : List Command) (command : Command) → HasCalled a commands b
-    → HasSeenMore b c → AddsEntry b command c → HasCalled a (commands ++ command ∷ []) c
-called_more a b c commands command was more added =
-    let own : calls_in c.own ≡ calls_in b.own ++ call_of added.0 ∷ [] =
-    ap calls_in added.1.own ∙ map-append call_of b.own (added.0 ∷ []) in
-    let one : call_of added.0 ≡ (a.process, command) = added.1.call ∙ ap (λ (p : ℕ). (p, command)) was.process in
-    record {
-      process = more.process ∙ was.process;
-      calls = map_behind (λ (each : Command). (a.process, each)) (calls_in a.own) (calls_in b.own) (calls_in c.own)
-          commands command was.calls (own ∙ ap (λ (call : ℕ × Command). calls_in b.own ++ call ∷ []) one);
-    }
-
--- a call that is refused has added nothing
-pub none_added : (old new : Known) (fault : ApplyFault) → Refuses old new fault → new.own ≡ old.own
-none_added old new apply.HistoryFull refused = refused.0
-none_added old new apply.NoMemory refused = refused.0
-
--- what was called with a seat is unchanged if the seat has made nothing since
-pub called_same : (a b c : Known) (commands : List Command) → HasCalled a commands b → HasSeenMore b c → c.own ≡ b.own
-    → HasCalled a commands c
-called_same a b c commands was more same =
-    record { process = more.process ∙ was.process; calls = ap calls_in same ∙ was.calls }
 
 -- ---- the whole history
 

@@ -7,39 +7,11 @@ use Rattle.std.specs.List.{sum_by}
 use Rattle.std.proofs.lemmas.List.Sums.{sum_by-cons}
 use Rattle.smx_types.specs.declared.command.Command.{Command}
 use Rattle.smx_types.specs.declared.command.Entry.{Entry}
-use Rattle.smx_types.specs.declared.driver.DriverSpec.{DriverSpec}
-use Rattle.smx_types.specs.declared.limits.TheConstants.{MAX_COMMANDS}
-use Rattle.smx_model.specs.DriverList.{IsDriverList}
 use Rattle.smx_model.specs.Histories.{call_of}
-use Rattle.smx_model.proofs.HistoryLemmas.{lawful_throughout}
 use Rattle.smx_shared.specs.declared.shared_fault.ApplyFault.{ApplyFault}
 use Rattle.smx_shared.specs.declared.shared_fault.ApplyFault.TheVariants as apply
-use Rattle.smx_shared.specs.Recorded.{IsSoundSystem, Recorded, next_entry, with_entry}
-use Rattle.smx_run.specs.Alone.{PerformedAlone}
 use Rattle.smx_run.specs.ProgramOrder.{calls_of, calls_from}
-use Rattle.smx_run.specs.RunFaults.{RefusesAlone, RefusesRun}
-use Rattle.smx_run.specs.declared.run_fault.RunFault.{RunFault}
-use Rattle.smx_run.specs.declared.run_fault.RunFault.TheVariants as run
-use Rattle.smx_run.proofs.RunLemmas.{calls_apart, map_behind}
-
--- these commands, then one more
-pub alone_more : (process : ℕ) (a b c : Recorded) (commands : List Command) (command : Command)
-    → PerformedAlone process a commands b → c ≡ with_entry b process command
-    → PerformedAlone process a (commands ++ command ∷ []) c
-alone_more process a b c commands command was is =
-    let entry : Entry = next_entry b process command in
-    rw is (record {
-      drivers = was.drivers;
-      limit = was.limit;
-      begins = (
-        was.begins.0 ++ entry ∷ [],
-        sym (append_assoc a.history was.begins.0 (entry ∷ []))
-            ∙ ap (λ (es : List Entry). es ++ entry ∷ []) was.begins.1,
-      );
-      calls = map_behind (λ (each : Command). (process, each)) (map call_of a.history) (map call_of b.history)
-          (map call_of (b.history ++ entry ∷ [])) commands command was.calls
-          (map-append call_of b.history (entry ∷ []));
-    })
+use Rattle.smx_run.proofs.RunLemmas.{calls_apart}
 
 -- the calls up to where one program stopped, and the next command, which is the first that is left
 pub left_of : {asked was : List (ℕ × Command)} {p : ℕ} {programs behind later : List (List Command)}
@@ -87,26 +59,3 @@ room_left es programs next rest is =
 pub memory_left : (f : ApplyFault) → f ≢ apply.HistoryFull → f ≡ apply.NoMemory
 memory_left apply.HistoryFull other = absurd (other refl)
 memory_left apply.NoMemory other = refl
-
--- a run of several workers may be refused for every reason for which a run on one thread may be
-pub alone_refuses : (drivers : List DriverSpec) (fault : RunFault) → RefusesAlone drivers fault
-    → RefusesRun drivers fault
-alone_refuses drivers run.NoMemory h = h
-alone_refuses drivers run.NoThread h = absurd h
-alone_refuses drivers (run.Strange p) h = h
-alone_refuses drivers (run.ConfigFault f) h = h
-alone_refuses drivers run.HistoryFull h = absurd h
-alone_refuses drivers run.Held h = absurd h
-alone_refuses drivers (run.FewEntries count) h = absurd h
-alone_refuses drivers (run.LongPage count) h = absurd h
-
--- a system without a history is sound
-pub sound_at_first : (s : Recorded) → s.history ≡ [] → s.limit ≡ MAX_COMMANDS → IsDriverList s.drivers
-    → IsSoundSystem s
-sound_at_first s none limit drivers = record {
-  valid_drivers = drivers;
-  within = rw none (omega arith);
-  limited = omega (arith, limit);
-  legal = rw none tt;
-  lawful = rw none (lawful_throughout s.drivers [] tt);
-}

@@ -78,14 +78,6 @@ entries_early n p xs h l le =
 
 -- ---- one entry of a process, or none
 
--- one entry of the process
-pub adds_one : (p : ℕ) (old new : List Entry) (e : Entry) → e.process ≡ p → new ≡ old ++ e ∷ [] → AddsFor p old new
-adds_one p old new e is added = inr (e, is, added)
-
--- no entry
-pub adds_none : (p : ℕ) (old new : List Entry) → new ≡ old → AddsFor p old new
-adds_none p old new same = inl same
-
 -- if the process is named, the history goes on by entries of named processes
 pub adds_named : (p n : ℕ) (old new : List Entry) → AddsFor p old new → p < n → GoesOnNamed n old new
 adds_named p n old new (inl same) lt = ([], append-nil old ∙ sym same, tt)

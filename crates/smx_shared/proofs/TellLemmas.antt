@@ -133,10 +133,6 @@ ready m m1 s n h named drivers limit more sound front is =
       front = front ∙ ap (λ (ds : List DriverSpec). front_of ds s.history) drivers;
     }
 
--- ---- a command
-
--- ---- a meeting
-
 -- ---- the end
 
 -- nobody has the turn once a seat has met all others

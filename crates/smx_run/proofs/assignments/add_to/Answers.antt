@@ -1,8 +1,8 @@
-use Rattle.std.proofs.Common.{rules, ◌≡◌, ℕ, ◌%◌, ◌<◌, length, ap, refl, vec_len}
+use Rattle.std.proofs.Common.{rules, ◌≡◌, ℕ, ◌%◌, ◌<◌, ap, refl, vec_len}
 use Rattle.std.proofs.Math.Nat.{mod-lt}
-use Rattle.smx_run.specs.Assignments.{given, known_at, assigned_calls, IsFresh}
+use Rattle.smx_run.specs.Assignments.{given, known_at, assigned_calls}
 use Rattle.smx_run.specs.ProgramOrder.{Calls, calls_of}
-use Rattle.smx_run.proofs.AssignmentLemmas.{pushed, put_more, all_put}
+use Rattle.smx_run.proofs.AssignmentLemmas.{pushed, put_more}
 use Rattle.smx_run.proofs.assignments.add_to.Goals as goal
 
 pub returns-clause-given : goal.returns-clause-given
@@ -15,15 +15,3 @@ returns-clause-given g c =
     put_more assigned_calls workers c.args.assignments.now.items
     (c.get.result % c.len.result) c.push.new.self c.index_mut.result.now one (search rules) at within
     (pushed (given known_at) _ _ _ _ _ c.in_ok-push.ensures.items (ap assigned_calls c.index_mut.ensures.value) refl)
-
-pub returns-clause-fresh : goal.returns-clause-fresh
-returns-clause-fresh g c name all seat =
-    let workers : ℕ = vec_len c.args.assignments.now in
-    let at : c.get.result % c.len.result
-    ≡ c.args.seat.known.process % workers = rw (c.get.ensures.value, c.process.ensures, c.len.ensures) refl in
-    let below : c.get.result % c.len.result < workers = rw at (mod-lt c.args.seat.known.process c.requires.workers) in
-    let many : length c.args.assignments.now.items ≡ workers = search rules in
-    let within : c.get.result % c.len.result < length c.args.assignments.now.items = rw many below in
-    all_put (λ assignment. assignment.items) (λ job. IsFresh name job.seat) c.args.assignments.now.items
-    (c.get.result % c.len.result)
-    c.index_mut.result.now c.push.new.self _ within c.index_mut.ensures.value c.in_ok-push.ensures.items all seat

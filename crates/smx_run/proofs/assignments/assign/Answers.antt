@@ -48,17 +48,10 @@ loop-seat-preserved g c =
           items;
     }
 
-pub loop-seat-smaller : goal.loop-seat-smaller
-loop-seat-smaller g c = omega (arith, c.in-Some.ensures.steps.1)
-
-pub returns : goal.returns
-returns g c =
+pub returns-clause-assigned : goal.returns-clause-assigned
+returns-clause-assigned g c =
     let end = c.loop-seat.invariant in
     let none = none_left _ _ _ end.seats (omega (arith, end.counted, c.in-None.ensures.steps.0)) in
-    record {
-      fresh = λ name all. (end.fresh name all).1;
-      assigned = assignments_are c.args.workers (numbered 0 c.args.programs)
-          (map assigned_calls c.loop-seat.assignments.items)
-          (omega (arith, end.workers, length-map c.loop-seat.assignments.items assigned_calls))
-          (λ k below. all_assigned _ _ _ _ k _ (end.assigned k below) none);
-    }
+    assignments_are c.args.workers (numbered 0 c.args.programs) (map assigned_calls c.loop-seat.assignments.items)
+    (omega (arith, end.workers, length-map c.loop-seat.assignments.items assigned_calls))
+    (λ k below. all_assigned _ _ _ _ k _ (end.assigned k below) none)

@@ -28,11 +28,6 @@ take_first-requires-clause-some g c none =
     ∙ next_in_assignment workers p _ _ _ programs) in
     cc
 
-pub push_reserved-requires : goal.push_reserved-requires
-push_reserved-requires g c =
-    let before = c.loop-process.invariant in
-    omega (arith, before.room, before.counted, c.loop-process-test.true)
-
 pub loop-process-preserved : goal.loop-process-preserved
 loop-process-preserved g c =
     let before = c.loop-process.invariant in

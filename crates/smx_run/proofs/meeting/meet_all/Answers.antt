@@ -1,12 +1,11 @@
 use Rattle.std.proofs.Common.{rules, ◌≡◌, ◌∷◌, ◌++◌, [], All, length, refl, subst, sym, ap, arith, ◌∙◌}
-use Rattle.std.proofs.lemmas.List.{append-nil, length-append}
+use Rattle.std.proofs.lemmas.List.{length-append}
 use Rattle.std.proofs.lemmas.List.Elements.{All-cons}
 use Rattle.smx_shared.specs.Seats.{Seated}
 use Rattle.smx_run.specs.Meeting.{IsBorneOutBy, IsKnownTo}
 use Rattle.smx_run.specs.declared.worker.EndedProgram.{EndedProgram}
 use Rattle.smx_run.proofs.AssignmentLemmas.{all_more, first_then_rest}
-use Rattle.smx_run.proofs.RunLemmas.{still_more, bears_out_first, bears_out_next, map_behind, next_taken}
-use Rattle.smx_run.proofs.RunLemmas.{all_taken_off}
+use Rattle.smx_run.proofs.RunLemmas.{still_more, bears_out_first, bears_out_next, map_behind, next_taken, all_taken_off}
 use Rattle.smx_run.proofs.MeetingLemmas.{known_now, known_still}
 use Rattle.smx_run.proofs.meeting.meet_all.Goals as goal
 
@@ -65,27 +64,3 @@ returns-clause-known g c =
     let rest = all_taken_off _ _ _ end.rest (omega (arith, end.left, c.in-None.ensures.steps.0)) ∙ sym removed.items in
     subst (All (IsKnownTo seat)) (sym whole)
     (All-cons (IsKnownTo seat) _ _ (λ _. sym end.known.process) (subst (All (IsKnownTo seat)) rest end.met))
-
-pub push_reserved-requires-in-loop-done : goal.push_reserved-requires-in-loop-done
-push_reserved-requires-in-loop-done g c =
-    let before = c.loop-done.invariant in
-    omega (arith, before.room, before.counted, before.still, c.in-Some.ensures.steps.1)
-
-pub loop-done-smaller : goal.loop-done-smaller
-loop-done-smaller g c = omega (arith, c.in-Some.ensures.steps.1)
-
-pub loop-done-init : goal.loop-done-init
-loop-done-init g c =
-    let gives = c.into_iter-done-iterator.ensures.into_iter_gives in
-    record {
-      shared = search rules;
-      known = search rules;
-      others = λ s met k d lt. absurd (omega arith);
-      met = λ k d lt. absurd (omega arith);
-      left = search rules;
-      rest = gives.0 ∙ c.remove-first.ensures.items;
-      room = omega (arith, c.in_ok-fronts.ensures.capacity, c.len.ensures, c.push_reserved.ensures.capacity);
-      still = omega (arith, gives.1, c.remove-first.ensures.len);
-      counted = omega (arith, c.push_reserved.ensures.len, c.in_ok-fronts.ensures.len);
-      fronts = sym (append-nil _);
-    }

@@ -1,6 +1,5 @@
-use Rattle.std.proofs.Common.{rules, ◌≡◌, ◌≢◌, ◌+◌, ◌++◌, ◌∷◌, [], List, ℕ, length, map, refl, ap, sym, subst}
+use Rattle.std.proofs.Common.{rules, ◌≡◌, ◌≢◌, ◌+◌, ◌++◌, ◌∷◌, [], List, ℕ, length, map, ap, sym, subst}
 use Rattle.std.proofs.Common.{arith, ◌∙◌, Err}
-use Rattle.std.specs.Vec.Iter.{into_iter_items}
 use Rattle.std.proofs.lemmas.List.{length-append}
 use Rattle.std.proofs.lemmas.Result.{err_from_is_err_and}
 use Rattle.smx_types.specs.declared.driver.DriverSpec.{DriverSpec}
@@ -78,36 +77,3 @@ returns-in_err-perform_all-clause-refused g c =
     omega (arith, fewer, room, c.requires.room, c.in_err-perform_all.ensures.full (ap Err is)) in
     let fault = memory_left c.in_err-perform_all.field-0.0 other in
     search rules
-
-pub push_reserved-requires : goal.push_reserved-requires
-push_reserved-requires g c =
-    let before = c.loop-commands.invariant in
-    omega (
-      arith,
-      before.room,
-      before.seen,
-      ap length before.all,
-      length-append c.loop-commands.yielded (into_iter_items c.loop-commands.commands-iterator),
-      ap length c.in-Some.ensures.steps.0,
-    )
-
-pub overflow_add-number : goal.overflow_add-number
-overflow_add-number g c = omega (arith, c.loop-commands.invariant.within, ap length c.in-Some.ensures.steps.0)
-
-pub loop-commands-smaller : goal.loop-commands-smaller
-loop-commands-smaller g c = omega (arith, c.in-Some.ensures.steps.1)
-
-pub loop-commands-init : goal.loop-commands-init
-loop-commands-init g c = record {
-  drivers = refl;
-  limit = refl;
-  sound = c.requires.sound;
-  all = search rules;
-  counted = search rules;
-  within = search rules;
-  number = refl;
-  room = search rules;
-  seen = search rules;
-  calls = search rules;
-  fronts = search rules;
-}

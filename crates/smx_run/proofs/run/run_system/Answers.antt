@@ -1,9 +1,7 @@
-use Rattle.std.proofs.Common.{rules, ◌≡◌, refl, sym, subst}
-use Rattle.smx_model.specs.DriverList.{IsDriverList}
+use Rattle.std.proofs.Common.{rules, ◌≡◌, refl, subst}
 use Rattle.smx_model.specs.Histories.{HoldsPrograms}
 use Rattle.smx_run.specs.Reports.{transcript_in}
 use Rattle.smx_run.proofs.ProgramOrderLemmas.{holds, report_of}
-use Rattle.smx_run.proofs.StopLemmas.{sound_at_first}
 use Rattle.smx_run.proofs.run.run_system.Goals as goal
 
 pub returns-then-workers-lt2-clause-report : goal.returns-then-workers-lt2-clause-report
@@ -21,8 +19,3 @@ returns-clause-report g c =
     let drivers : s.drivers ≡ c.args.programs.drivers = search rules in
     report_of c.args.programs s (transcript_in c.args.programs.version s) run.sound refl refl refl drivers
     (subst (HoldsPrograms s.history) c.into_parts-drivers.ensures.programs run.holds)
-
-pub run_alone-requires-clause-sound : goal.run_alone-requires-clause-sound
-run_alone-requires-clause-sound g c =
-    let system = c.in_ok-system.ensures in
-    sound_at_first _ system.empty system.limit (subst IsDriverList (sym system.drivers.0) system.drivers.1)

@@ -24,10 +24,6 @@ run_seats-requires-clause-fresh g c κs within =
 pub meet_all-requires-clause-some : goal.meet_all-requires-clause-some
 meet_all-requires-clause-some g c = some_ended _ _ c.in_ok-ended.ensures.called c.requires.processes.0
 
-pub returns-clause-drivers : goal.returns-clause-drivers
-returns-clause-drivers g c =
-    c.in_ok-system.ensures.begun.drivers ∙ ap (λ (s : Recorded). s.drivers) c.in_ok-shared.ensures.shared.0
-
 pub returns-clause-holds : goal.returns-clause-holds
 returns-clause-holds g c =
     let s = c.in_ok-system.system in
