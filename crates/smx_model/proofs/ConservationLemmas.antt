@@ -51,15 +51,10 @@ pub record IsNumbered (c : Configuration) : Type 0 where
 record IsFewer (c d : Configuration) : Type 0 where
   each : (n : ℕ) → times n (serials d.flow) ≤ times n (serials c.flow)
 
--- a flow that is filtered twice has no serial more often than the flow
-two_filters : (n : ℕ) (f g : QueuedMessage → Bool) (hs : List QueuedMessage)
-    → times n (serials (filter g (filter f hs))) ≤ times n (serials hs)
-two_filters n f g hs = omega (arith, serials_filter n g (filter f hs), serials_filter n f hs)
-
 -- after a sweep no serial is in the flow more often
 fewer_swept : (n : ℕ) (drivers : List DriverSpec) (c : Configuration)
     → times n (serials (after_sweep drivers c).flow) ≤ times n (serials c.flow)
-fewer_swept n drivers c = two_filters n _ _ c.flow
+fewer_swept n drivers c = grind (arith, serials_filter)
 
 -- a command that is done loses and duplicates no message, if queued messages have different serials, no serial is
 -- queued more often before the sweep, and the next serial is unchanged

@@ -1,7 +1,7 @@
 -- The commands that drop messages.
 use Rattle.smx_model.proofs.Common.{◌≡◌, ℕ, Bool, true, false, not, eqb, List, [], ◌∷◌, filter, Ok, refl, sym, ap, ◌∙◌}
 use Rattle.smx_model.proofs.Common.{list_any, list_all, and_parts, and_from, or_left, eq-eqb, AllByRecursion}
-use Rattle.smx_model.proofs.Common.{All-from_recursion, Command, Entry, DriverSpec, StreamId, outcome, step}
+use Rattle.smx_model.proofs.Common.{All-from_recursion, Command, Entry, DriverSpec, StreamId, step}
 use Rattle.smx_model.proofs.Common.{done_outcome, Configuration, QueuedMessage, empty, stream_before, IsLegal}
 use Rattle.smx_model.proofs.Common.{IsLegalFrom, IsKept, dropped_by, AreDropsAllowed, mux_stream, in_rising_order}
 use Rattle.smx_model.proofs.Common.{Outcome, serials_that_left, serials, exists, IsSwept, is_hung, with_hung, arith}
@@ -69,16 +69,11 @@ hung_swept drivers c s h e = record {
   by true t = rw t h.hungs
   by false f = rw f (all_placed _ stream_before c.hungs s e h.hungs)
 
--- an accepted command that may not drop names no dropped messages
-drops_accepted : (drivers : List DriverSpec) (c : Configuration) (process : ℕ) (k : Command) → may_drop k ≡ false
-    → IsSwept drivers c → DropsNone (outcome drivers c process k)
-drops_accepted drivers c process k never h =
-    grind (arith, of_rows, idle_drops, all_placed, all_filter, hung_swept, mux_exists, leaf_exists, at_none)
-
 -- a command whose reply names dropped messages may drop messages
 pub step_drops : (drivers : List DriverSpec) (c : Configuration) (process : ℕ) (k : Command) → IsSwept drivers c
     → (dropped_by (step drivers c process k).1 ≡ [] → ⊥) → may_drop k ≡ true
-step_drops drivers c process k h some = grind (arith, drops_accepted drivers c process k)
+step_drops drivers c process k h some =
+    grind (arith, of_rows, idle_drops, all_placed, all_filter, hung_swept, mux_exists, leaf_exists, at_none)
 
 -- each entry of a history that is legal from here names dropped messages only if its command may drop
 drops_from : (drivers : List DriverSpec) (c : Configuration) (es : List Entry) → IsKept drivers c

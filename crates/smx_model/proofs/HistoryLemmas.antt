@@ -1,8 +1,7 @@
 -- Legal histories: their prefixes, their replies are determined, and they are lawful.
-use Rattle.smx_model.proofs.Common.{◌≡◌, ◌≢◌, ℕ, List, [], ◌∷◌, ◌++◌, length, map, refl, subst, arith}
-use Rattle.smx_model.proofs.Common.{AllPairs, range_with_len, Command, Entry, DriverSpec, Reply, step, Configuration}
-use Rattle.smx_model.proofs.Common.{empty, after, after_from, call_of, IsLegal, IsLegalFrom, taken_serials, IsLawful}
-use Rattle.smx_model.proofs.Common.{IsLawfulThroughout, sym}
+use Rattle.smx_model.proofs.Common.{◌≡◌, ℕ, List, [], ◌∷◌, ◌++◌, map, refl, subst, arith, Command, Entry, DriverSpec}
+use Rattle.smx_model.proofs.Common.{Reply, step, Configuration, empty, after, after_from, call_of, IsLegal, IsLegalFrom}
+use Rattle.smx_model.proofs.Common.{IsLawful, IsLawfulThroughout}
 use Rattle.std.proofs.lemmas.List.FromFn.{get_or-range_with_len, length-range_with_len}
 use Rattle.smx_model.proofs.ConservationLemmas.{conserving, numbered_from_one}
 use Rattle.smx_model.proofs.KeptLemmas.{always_is_kept}
@@ -64,21 +63,17 @@ pub determined : (drivers : List DriverSpec) (xs ys : List Entry) → IsLegal dr
     → map call_of xs ≡ map call_of ys → xs ≡ ys
 determined drivers xs ys h k e = determined_from drivers empty xs ys h k e
 
--- numbers from a on differ
-range_apart : (a n : ℕ) → AllPairs (λ x y. x ≢ y) (range_with_len a n)
-range_apart a n i j d lt within e = grind (arith, length-range_with_len, get_or-range_with_len)
-
 -- a legal history is lawful
 pub lawful : (drivers : List DriverSpec) (history : List Entry) → IsLegal drivers history → IsLawful drivers history
 lawful drivers history legal =
-    let sound = (always_is_kept drivers history).sound.links in
-    record {
-      no_cycle = sound.no_cycle;
-      lowers_apart = sound.lowers;
-      taken_once = subst (AllPairs (λ x y. x ≢ y)) (sym (numbered_from_one drivers history legal))
-          (range_apart 1 (length (taken_serials history)));
-      conserved = conserving drivers history legal;
-    }
+    grind (
+      arith,
+      always_is_kept drivers history,
+      numbered_from_one drivers history legal,
+      conserving drivers history legal,
+      length-range_with_len,
+      get_or-range_with_len,
+    )
 
 -- a legal history is lawful after each of its entries
 pub lawful_throughout : (drivers : List DriverSpec) (history : List Entry) → IsLegal drivers history

@@ -18,7 +18,7 @@ use Rattle.smx_model.proofs.RouteLemmas.{sound_routes}
 use Rattle.smx_model.proofs.SettlingLemmas.{settled_is}
 use Rattle.smx_model.proofs.SoundLemmas.{sound_accepted, sound_empty, sound_moved}
 use Rattle.smx_model.proofs.SweptLemmas.{stands_exists, swept_accepted, swept_moved}
-use Rattle.smx_model.proofs.ViewLemmas.{EachKnown, each_known, known_of_each, one_configuration}
+use Rattle.smx_model.proofs.ViewLemmas.{each_known, known_of_each, one_configuration}
 use Rattle.smx_model.proofs.EachLemmas.{each_both, later_map, each_map}
 
 -- numbers in a list, by index and by count
@@ -220,11 +220,7 @@ pub always_exists_is_stands : (drivers : List DriverSpec) (history : List Entry)
     → (exists drivers (after drivers history) s ≡ true) ↔ Stands (after drivers history) s
 always_exists_is_stands drivers history s = grind (arith, always_is_kept, exists_is_stands)
 
--- the drivers of a sound configuration have the stream of each part, and the driver of each route
-known_parts : (drivers : List DriverSpec) (c : Configuration) → IsSound drivers c → EachKnown drivers c
-known_parts drivers c h = let p = parts_of drivers c h in each_known drivers c p.named p.routed p.swept_
-
 -- two sound configurations over valid drivers are equal if their views are
 pub view_is_of_one : (drivers : List DriverSpec) (c d : Configuration) → IsDriverList drivers → IsSound drivers c
     → IsSound drivers d → view drivers c ≡ view drivers d → c ≡ d
-view_is_of_one drivers c d h k l e = grind (arith, one_configuration, known_parts)
+view_is_of_one drivers c d h k l e = grind (arith, one_configuration, parts_of, each_known)

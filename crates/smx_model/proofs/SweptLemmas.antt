@@ -164,17 +164,12 @@ lower_exists drivers c test l h e =
       links_in drivers c.links h.below,
     )
 
--- a swept configuration without a cycle, whose descriptors and links have known streams, has links that keep
--- their lower streams
-whole_keeps : (drivers : List DriverSpec) (c : Configuration) → IsWhole drivers c → AreKeepingLowers drivers c
-whole_keeps drivers c h = grind (arith, each_map)
-
 -- in a swept configuration without a cycle, whose descriptors and links have known streams, the stream of the
 -- next place exists
 next_exists : (drivers : List DriverSpec) (c : Configuration) (s : StreamId) (addr : ℕ) (which_side : Side) (q : Place)
     → IsWhole drivers c → next_place drivers c (record { stream = s; side = which_side }) addr ≡ Some q
     → exists drivers c q.stream ≡ true
-next_exists drivers c s addr side.Write q h e = grind (arith, below_link, lower_exists, whole_keeps)
+next_exists drivers c s addr side.Write q h e = grind (arith, below_link, lower_exists, each_map)
 next_exists drivers c s addr side.Read q h e = grind (arith, above_binding c.links c.binds s addr q e, found_all)
 
 -- if the places of all messages pass a test, so does a place with a first message

@@ -35,11 +35,6 @@ two_left f g (h ∷ hs) = grind (arith, two_left f g hs)
 same_part : (old new : List QueuedMessage) → new ≡ old → IsPart old new
 same_part old new e = record { keep = λ h. true; is = e ∙ sym (all_left old) }
 
--- a part of a part is a part
-part_of_part : (old mid new : List QueuedMessage) (g : QueuedMessage → Bool) → IsPart old mid → new ≡ filter g mid
-    → IsPart old new
-part_of_part old mid new g h e = grind (arith, two_left h.keep g old)
-
 -- if no message fails the test, all messages pass it
 none_out : (keep : QueuedMessage → Bool) (hs : List QueuedMessage) → filter (λ h. not (keep h)) hs ≡ []
     → filter keep hs ≡ hs
@@ -70,8 +65,7 @@ whole old new apart h none =
 -- a sweep gives a part of the flow
 swept_part : (drivers : List DriverSpec) (old : List QueuedMessage) (c : Configuration) → IsPart old c.flow
     → IsPart old (after_sweep drivers c).flow
-swept_part drivers old c h = part_of_part old (without_links c _).flow (after_sweep drivers c).flow _
-    (part_of_part old c.flow (without_links c _).flow _ h refl) refl
+swept_part drivers old c h = grind (arith, two_left)
 
 -- a command that names no dropped message frees no place
 abbrev FreesUndropped : Configuration → Configuration → Reply → Type 0
