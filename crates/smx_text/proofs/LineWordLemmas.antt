@@ -1,20 +1,17 @@
 -- Facts about the words of lines that both texts use.
-use Rattle.std.proofs.Common.{◌≡◌, ◌≢◌, ℕ, true, false, List, [], ◌∷◌, sym, ◌∙◌, arith, rules}
+use Rattle.std.proofs.Common.{◌≡◌, ◌≢◌, ℕ, ◌<◌, true, false, List, [], ◌∷◌, length, sym, ap, ◌∙◌, arith, rules}
 use Rattle.std.specs.Prelude.{codes}
 use Rattle.std.specs.Str.{bytes_eq}
 use Rattle.std.proofs.lemmas.Slice.Eq.{bytes_eq-Decides}
-use Rattle.smx_words.specs.Words.{AreWords, LINE_FEED, line_of}
-use Rattle.smx_words.proofs.LineLemmas.{line_free, same_words, words_free}
+use Rattle.smx_words.specs.Words.{AreWords, IsFree, LINE_FEED, SPACE, line_of}
+use Rattle.smx_words.proofs.LineLemmas.{line_free, same_free_words, words_free}
+use Rattle.std.specs.List.{AllByRecursion}
 use Rattle.smx_text.specs.Grammar.{IsOneLine}
 
 -- the first of some words, or no bytes if there are no words
 abbrev pub first_word : List (List ℕ) → List ℕ
 first_word [] = []
 first_word (w ∷ ws) = w
-
--- two lists of words that make the same line are equal
-pub one_spelling : (ws vs : List (List ℕ)) → AreWords ws → AreWords vs → line_of ws ≡ line_of vs → ws ≡ vs
-one_spelling ws vs h k e = same_words ws vs h.0 k.0 e
 
 -- `config` is a word
 pub config_spelled : AreWords (codes "config" ∷ [])
@@ -34,3 +31,12 @@ differ w v other e =
     let same = (bytes_eq-Decides w v).1 e in
     let bad : true ≡ false = sym same ∙ other in
     absurd (cc bad)
+
+-- words without a space are the words of any line with the same bytes
+pub told : (ws vs : List (List ℕ)) → AllByRecursion (IsFree SPACE) ws × (0 < length ws) → AreWords vs
+    → line_of ws ≡ line_of vs → ws ≡ vs
+told ws vs h k e = same_free_words ws vs h.0 (words_free SPACE (omega arith) vs k.0) h.1 k.1 e
+
+-- words with different first words are different
+pub other_first : (ws vs : List (List ℕ)) → bytes_eq (first_word ws) (first_word vs) ≡ false → ws ≢ vs
+other_first ws vs other e = differ (first_word ws) (first_word vs) other (ap first_word e)

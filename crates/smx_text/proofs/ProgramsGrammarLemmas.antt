@@ -1,56 +1,31 @@
 -- In a programs text, a line's text determines the line.
-use Rattle.std.proofs.Common.{◌≡◌, ◌≢◌, ℕ, Result, Bool, true, false, ◌||◌, List, refl, sym, ap, ◌∙◌, arith, rules}
+use Rattle.std.proofs.Common.{◌≡◌, ◌≢◌, ℕ, false, List, refl, sym, ap, arith, rules, inl, inr}
 use Rattle.std.specs.Prelude.{codes}
 use Rattle.std.specs.Str.{bytes_eq}
 use Rattle.smx_types.specs.declared.command.Command.{Command}
 use Rattle.smx_types.specs.declared.command.Command.TheVariants as command
 use Rattle.smx_types.specs.declared.driver.DriverSpec.{DriverSpec}
-use Rattle.smx_words.specs.Words.{line_of}
+use Rattle.smx_words.specs.Words.{line_of, AreWords}
 use Rattle.smx_words.specs.Spelling.{command_words, driver_words, process_words}
 use Rattle.smx_words.specs.Spellable.{FitsNumber, FitsDriver, FitsCommandIn}
-use Rattle.smx_text.specs.declared.text_fault.Cause.{Cause}
-use Rattle.smx_text.specs.Reading.{Refuses, RefusesLine, AnswersLine, AnswersText}
-use Rattle.smx_text.proofs.ReadingLemmas.{refuses, answers}
 use Rattle.smx_text.specs.Grammar.{IsNoLine, IsOneLine, header, line_text}
 use Rattle.smx_text.specs.ProgramLines.{Line}
 use Rattle.smx_text.specs.ProgramLines as line
 use Rattle.smx_text.specs.ProgramsText.{line_words, FitsLine, programs_grammar}
 use Rattle.smx_text.proofs.GrammarLemmas.{IsWellMade}
-use Rattle.smx_text.proofs.ProgramsOrderLemmas.{end_is_last}
-use Rattle.smx_text.proofs.ProgramsValueLemmas.{one_value}
-use Rattle.smx_words.specs.Words.{AreWords}
+use Rattle.smx_text.proofs.HasReadingLemmas.{HasReading, by_reading}
+use Rattle.smx_text.proofs.MachineLemmas.{IsLineOrNot, well_made as made_by, reads}
+use Rattle.smx_text.proofs.ProgramsMachineLemmas.{reader}
 use Rattle.smx_words.proofs.DecidedCommandLemmas.{command_has_words}
-use Rattle.smx_words.proofs.DecidedLemmas.{one_line}
+use Rattle.smx_words.proofs.DecidedLemmas.{reading}
 use Rattle.smx_words.proofs.DecidedLineLemmas.{driver_has_words, process_has_words}
+use Rattle.smx_words.proofs.InVersionLemmas.{reading_in}
 use Rattle.smx_words.proofs.PlainLemmas.{some_command}
 use Rattle.smx_text.proofs.VersionLemmas.{AreVersions}
-use Rattle.smx_text.proofs.LineWordLemmas.{one_spelling, first_word, end_spelled, one_line_of, differ}
+use Rattle.smx_text.proofs.LineWordLemmas.{differ, end_spelled, first_word, other_first}
+use Rattle.smx_types.specs.Versions.{is_hangup}
 use Rattle.smx_types.specs.declared.version.Version.{Version}
 use Rattle.smx_types.specs.declared.version.Version.TheVariants.{V1, V2}
-
--- ---- the first word of a command
-
--- whether a word starts a command
-abbrev is_verb : List ℕ → Bool
-is_verb w =
-    bytes_eq w (codes "clone") || bytes_eq w (codes "open") || bytes_eq w (codes "dup") || bytes_eq w
-    (codes "close") || bytes_eq w (codes "exit")
-    || bytes_eq w (codes "link") || bytes_eq w (codes "plink") || bytes_eq w (codes
-    "unlink") || bytes_eq w (codes "punlink") || bytes_eq w (codes "bind")
-    || bytes_eq w (codes "unbind") || bytes_eq w (codes "route") || bytes_eq w (codes
-    "unroute") || bytes_eq w (codes "write") || bytes_eq w (codes "read")
-    || bytes_eq w (codes "flush") || bytes_eq w (codes "inject") || bytes_eq w (codes "transmit")
-    || bytes_eq w (codes "hangup")
-
--- the first word of a command starts a command
-verb_first : (c : Command) → is_verb (first_word (command_words c)) ≡ true
-verb_first command.CloseAll = refl
-verb_first c = refl
-
--- words whose first word is no verb are not the words of a command
-pub not_verb : (c : Command) (ws : List (List ℕ)) → command_words c ≡ ws → is_verb (first_word ws) ≡ false → ⊥
-not_verb c ws e h = let t = verb_first c in
-    let same = ap (λ (vs : List (List ℕ)). is_verb (first_word vs)) e in absurd cc
 
 -- ---- lines
 
@@ -61,40 +36,32 @@ spelling version (line.Process n) fits = (process_has_words.are_words n fits, om
 spelling version (line.Command c) fits = (command_has_words.are_words c fits.0, some_command c)
 spelling version line.End fits = end_spelled
 
+-- the first word of a command is not that of another line
+command_first : (c : Command) → (bytes_eq (first_word (command_words c)) (codes "driver") ≡ false)
+    × (bytes_eq (first_word (command_words c)) (codes "process") ≡ false)
+    × (bytes_eq (first_word (command_words c)) (codes "end") ≡ false)
+command_first command.CloseAll = (refl, refl, refl)
+command_first c = (refl, refl, refl)
+
 -- two lines of programs that fit a version and have the same words are equal
 words_apart : (version : Version) (k l : Line) → FitsLine version k → FitsLine version l → line_words k ≡ line_words l
-    → line_text (programs_grammar version) k ≡ line_text (programs_grammar version) l → k ≡ l
-words_apart version (line.Driver d) (line.Driver e) fits also ws same =
-    ap (λ x. line.Driver x) (one_line driver_has_words d e fits also same)
-words_apart version (line.Process n) (line.Process m) fits also ws same =
-    ap (λ x. line.Process x) (one_line process_has_words n m fits also same)
-words_apart version (line.Command c) (line.Command d) fits also ws same =
-    ap (λ x. line.Command x) (one_line command_has_words c d fits.0 also.0 same)
-words_apart version line.End line.End fits also ws same = refl
-words_apart version (line.Command c) l fits also ws same = absurd (not_verb c _ ws refl)
-words_apart version k (line.Command c) fits also ws same = absurd (not_verb c _ (sym ws) refl)
-words_apart version k l fits also ws same = absurd cc
-
--- two lines of programs that fit a version and have the same text are equal
-pub tells_apart : (version : Version) (k l : Line) → FitsLine version k → FitsLine version l
-    → line_text (programs_grammar version) k ≡ line_text (programs_grammar version) l → k ≡ l
-tells_apart version k l fits also same =
-    words_apart version k l fits also (one_spelling (line_words k) (line_words l) (spelling version k fits)
-    (spelling version l also) same) same
-
--- a result for a parsed line is a result for its text
-pub answers_line : {A : Type 0} (version : Version) (lines longer : List Line) (k : Line) (text : List ℕ)
-    → FitsLine version k × (text ≡ line_text (programs_grammar version) k) → (r : Result A Cause)
-    → AnswersLine (programs_grammar version) lines k longer r
-    → AnswersText (programs_grammar version) lines text longer r
-answers_line version = answers (programs_grammar version) (tells_apart version)
-
--- a cause for which a line is refused is one for which its text is refused
-pub refused_line : (version : Version) (lines : List Line) (k : Line) (text : List ℕ) → FitsLine version k
-    → text ≡ line_text (programs_grammar version) k → (why : Cause) → RefusesLine (programs_grammar version) lines k why
-    → Refuses (programs_grammar version) lines text why
-refused_line version lines k text fits is why h =
-    refuses (programs_grammar version) (tells_apart version) lines k text fits is why h
+    → k ≡ l
+words_apart version (line.Driver d) (line.Driver e) fits also ws =
+    ap line.Driver (driver_has_words.one d e fits also ws)
+words_apart version (line.Process n) (line.Process m) fits also ws =
+    ap line.Process (process_has_words.one n m fits also ws)
+words_apart version (line.Command c) (line.Command d) fits also ws =
+    ap line.Command (command_has_words.one c d fits.0 also.0 ws)
+words_apart version line.End line.End fits also ws = refl
+words_apart version (line.Command c) (line.Driver d) fits also ws = absurd (other_first _ _ (command_first c).0 ws)
+words_apart version (line.Command c) (line.Process n) fits also ws = absurd (other_first _ _ (command_first c).1 ws)
+words_apart version (line.Command c) line.End fits also ws = absurd (other_first _ _ (command_first c).2 ws)
+words_apart version (line.Driver d) (line.Command c) fits also ws =
+    absurd (other_first _ _ (command_first c).0 (sym ws))
+words_apart version (line.Process n) (line.Command c) fits also ws =
+    absurd (other_first _ _ (command_first c).1 (sym ws))
+words_apart version line.End (line.Command c) fits also ws = absurd (other_first _ _ (command_first c).2 (sym ws))
+words_apart version k l fits also ws = absurd (other_first _ _ refl ws)
 
 -- a text that is no command, no driver, no process and not the end is no line of programs
 pub no_line : (version : Version) (lines : List Line) (text : List ℕ)
@@ -114,16 +81,29 @@ header_is_line V2 = search rules
 
 -- the programs text is well made: a line's text determines it, each is one line, and lines determine the programs
 pub well_made : (version : Version) → IsWellMade (programs_grammar version)
-well_made version = record {
-  header_line = header_is_line version;
-  one_line = λ k fits. one_line_of (line_words k) (spelling version k fits);
-  tells_apart = tells_apart version;
-  fits = λ v allowed. allowed.fits;
-  fits_end = tt;
-  end_is_last = end_is_last;
-  one_value = λ v w allowed also e. one_value v w (allowed.version_is ∙ sym also.version_is) e;
-}
+well_made version = made_by (reader version) (header_is_line version) (spelling version) tt (words_apart version)
 
 -- the grammars of programs are well made in both versions, and their headers differ
-pub versions : AreVersions programs_grammar
-versions = record { made = well_made; differ = differ (codes "programs 1") (codes "programs 2") refl }
+abbrev pub versions : AreVersions programs_grammar
+versions = record {
+  version_of = λ v. v.version;
+  made = well_made;
+  differ = differ (codes "programs 1") (codes "programs 2") refl;
+}
+
+-- a text other than the end is that of a line that fits, or of no line of programs
+line_or_not : (version : Version) (lines : List Line) (text : List ℕ)
+    → text ≢ line_text (programs_grammar version) line.End → IsLineOrNot (programs_grammar version) lines text
+line_or_not version lines text other =
+    by_reading command_words (reading_in command_has_words is_hangup version text some_command)
+    (λ c fits is. inl (line.Command c, fits, is)) (λ commands.
+    by_reading driver_words (reading driver_has_words (λ x. omega arith) text)
+    (λ d fits is. inl (line.Driver d, fits, is)) (λ drivers.
+    by_reading process_words (reading process_has_words (λ x. omega arith) text)
+    (λ n fits is. inl (line.Process n, fits, is)) (λ processes.
+    inr (no_line version lines text commands drivers processes other))))
+
+-- any bytes spell programs of this version, or have a first fault other than out of memory
+pub programs_have_reading : (version : Version) (bytes : List ℕ) → HasReading (programs_grammar version) bytes
+programs_have_reading version =
+    reads (reader version) (well_made version) (line_or_not version)

@@ -11,8 +11,8 @@ use Rattle.smx_text.specs.declared.text_fault.Cause.{Cause}
 use Rattle.smx_text.specs.declared.text_fault.Cause.TheVariants as cause
 use Rattle.smx_text.specs.declared.text_fault.TextFault.{TextFault}
 use Rattle.smx_text.specs.Grammar.{Grammar, IsOneLine, header, line_text, beginning, full_text, IsBegun}
-use Rattle.smx_text.specs.Grammar.{IsNoLine, MayFollow, Reaches, IsFault, Reads, ReadsAny}
-use Rattle.smx_text.specs.Reading.{Continues, Refuses, RefusesLine, EndsText, AnswersLine, AnswersText}
+use Rattle.smx_text.specs.Grammar.{IsNoLine, Reaches, IsFault, Reads, ReadsAny}
+use Rattle.smx_text.specs.Reading.{Continues, Refuses, EndsText}
 
 -- the text of two joined lists of lines is the text of the first followed by that of the second
 pub texts_append : (ls ks : List (List (List ℕ))) → text_of (ls ++ ks) ≡ text_of ls ++ text_of ks
@@ -25,12 +25,21 @@ behind before text after = append_assoc before (text ++ LINE_FEED ∷ []) after
     ∙ ap (λ (xs : List ℕ). before ++ xs) (append_assoc text (LINE_FEED ∷ []) after)
 
 module _ {V K : Type 0} (g : Grammar V K) where
+  -- a beginning is the header, and then the lines
+  pub beginning_is : (lines : List K) → beginning g lines ≡ header g ++ LINE_FEED ∷ text_of (map g.line_words lines)
+  beginning_is lines = append_assoc (header g) (LINE_FEED ∷ []) (text_of (map g.line_words lines))
+
+  -- a beginning with more lines is the beginning followed by these lines
+  pub beginning_append : (lines more : List K)
+      → beginning g (lines ++ more) ≡ beginning g lines ++ text_of (map g.line_words more)
+  beginning_append lines more =
+      ap (λ (ws : List (List (List ℕ))). text_of (g.header_words ∷ ws)) (map-append g.line_words lines more)
+      ∙ texts_append (g.header_words ∷ map g.line_words lines) (map g.line_words more)
+
   -- a beginning with one more line is the beginning followed by that line and its line feed
   pub beginning_more : (lines : List K) (k : K)
       → beginning g (lines ++ k ∷ []) ≡ beginning g lines ++ (line_text g k ++ LINE_FEED ∷ [])
-  beginning_more lines k =
-      ap (λ (ws : List (List (List ℕ))). text_of (g.header_words ∷ ws)) (map-append g.line_words lines (k ∷ []))
-      ∙ texts_append (g.header_words ∷ map g.line_words lines) (g.line_words k ∷ [])
+  beginning_more lines k = beginning_append lines (k ∷ [])
       ∙ ap (λ (xs : List ℕ). beginning g lines ++ xs) (append-nil (line_text g k ++ LINE_FEED ∷ []))
 
   -- a whole text is its beginning and the line `end`
@@ -127,25 +136,6 @@ module _ {V K : Type 0} (g : Grammar V K) where
       read_to_end (Err f) (inr (v, allowed, e, some, is)) =
           subst (λ (x : TextFault). IsFault g bytes x.line x.cause) (sym is)
           (trails v allowed e after refl some)
-
-  -- ---- results for a parsed line are results for its text
-
-  -- if a line's text determines the line, the cause for which a line is refused is one for its text
-  pub refuses : ((k l : K) → g.FitsLine k → g.FitsLine l → line_text g k ≡ line_text g l → k ≡ l)
-      → (lines : List K) (k : K) (text : List ℕ)
-      → g.FitsLine k → text ≡ line_text g k → (why : Cause) → RefusesLine g lines k why → Refuses g lines text why
-  refuses tells_apart lines k text fits is cause.Form h = λ l also may same.
-      h (subst (λ (x : K). MayFollow g lines x) (tells_apart l k also fits (sym same ∙ is)) may)
-  refuses tells_apart lines k text fits is cause.Many h = (k, is, fits, h.0, h.1)
-  refuses tells_apart lines k text fits is cause.NoMemory h = (k, is, h)
-  refuses tells_apart lines k text fits is why h = absurd h
-
-  -- if a line's text determines the line, a result for a parsed line is a result for its text
-  pub answers : {A : Type 0} → ((k l : K) → g.FitsLine k → g.FitsLine l → line_text g k ≡ line_text g l → k ≡ l)
-      → (lines longer : List K) (k : K) (text : List ℕ) → g.FitsLine k × (text ≡ line_text g k) → (r : Result A Cause)
-      → AnswersLine g lines k longer r → AnswersText g lines text longer r
-  answers tells_apart lines longer k text (fits, is) (Ok x) h = (k, is, h.0, h.1)
-  answers tells_apart lines longer k text (fits, is) (Err why) h = refuses tells_apart lines k text fits is why h
 
   -- no line after the header is refused with `Header`
   pub refused_behind : (lines : List K) (text : List ℕ) (why : Cause) → Refuses g lines text why → why ≢ cause.Header

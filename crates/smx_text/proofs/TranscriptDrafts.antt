@@ -1,14 +1,16 @@
 -- A transcript that is being read, as a machine that accepts line after line.
-use Rattle.std.specs.Prelude.{ℕ, Bool, true, false, ◌&&◌, ◌==◌, nat_le, [], ◌∷◌, ◌++◌, length, Option, Some, None}
+use Rattle.std.specs.Prelude.{◌≡◌, ◌≤◌, ℕ, Bool, true, false, ◌&&◌, ◌==◌, nat_le, List, [], ◌∷◌, ◌++◌, length}
 use Rattle.smx_types.specs.declared.limits.TheConstants.{MAX_COMMANDS}
+use Rattle.smx_types.specs.declared.transcript.Transcript.{Transcript}
 use Rattle.smx_types.specs.declared.view.ConfigView.{ConfigView}
 use Rattle.smx_text.specs.declared.transcript.draft.Stage.{Stage}
 use Rattle.smx_text.specs.declared.transcript.draft.Stage.TheVariants as stage
 use Rattle.smx_text.specs.declared.transcript.draft.TranscriptDraft.{TranscriptDraft}
-use Rattle.smx_text.specs.Drafts.{is_view, takes_fds, takes_links, takes_binds, takes_routes, takes_msgs, takes_fulls}
-use Rattle.smx_text.specs.Drafts.{takes_hungs}
+use Rattle.smx_text.specs.Drafts.{lines, is_view, takes_fds, takes_links, takes_binds, takes_routes, takes_msgs}
+use Rattle.smx_text.specs.Drafts.{takes_fulls, takes_hungs}
 use Rattle.smx_text.specs.TranscriptLines.{TranscriptLine}
 use Rattle.smx_text.specs.TranscriptLines as line
+use Rattle.smx_text.proofs.MachineLemmas.{Machine}
 use Rattle.smx_types.specs.Versions.{most_drivers}
 use Rattle.smx_types.specs.declared.version.Version.{Version}
 
@@ -27,15 +29,9 @@ new_view id serial =
       hungs = [];
     }
 
--- a draft of this version before its first line
-abbrev pub new_draft : Version → TranscriptDraft
-new_draft version =
-    record {
-      stage = stage.History;
-      transcript = record { version = version; drivers = []; entries = []; view = new_view 0 0 };
-    }
-
--- ---- stages
+-- a transcript that is being read, at this stage
+abbrev pub draft : Stage → Transcript → TranscriptDraft
+draft s t = record { stage = s; transcript = t }
 
 -- drivers and entries are read
 abbrev pub is_history : Stage → Bool
@@ -46,8 +42,6 @@ is_history s = false
 abbrev pub is_config : Stage → Bool
 is_config stage.Config = true
 is_config s = false
-
--- ---- one more line
 
 -- the line may follow
 abbrev pub takes : TranscriptDraft → TranscriptLine → Bool
@@ -70,31 +64,16 @@ is_full d (line.Driver x) = nat_le (most_drivers d.transcript.version) (length d
 is_full d (line.Entry x) = nat_le MAX_COMMANDS (length d.transcript.entries)
 is_full d k = false
 
-infixl 10 ◌>>=◌
--- applies a function to a value if it exists
-abbrev pub ◌>>=◌ : {A B : Type 0} → Option A → (A → Option B) → Option B
-(Some x) >>= f = f x
-None >>= f = None
-
--- a draft at the stage `View`, with this view
+-- a draft with this view
 abbrev pub with_view : TranscriptDraft → ConfigView → TranscriptDraft
-with_view d v =
-    record {
-      stage = stage.View;
-      transcript = record {
-        version = d.transcript.version;
-        drivers = d.transcript.drivers;
-        entries = d.transcript.entries;
-        view = v;
-      };
-    }
+with_view d v = record d { transcript = record d.transcript { view = v } }
 
 -- a draft with one more line
 abbrev pub with_line : TranscriptDraft → TranscriptLine → TranscriptDraft
 with_line d (line.Driver x) = record d { transcript = record d.transcript { drivers = d.transcript.drivers ++ x ∷ [] } }
 with_line d (line.Entry x) = record d { transcript = record d.transcript { entries = d.transcript.entries ++ x ∷ [] } }
 with_line d line.Config = record d { stage = stage.Config }
-with_line d (line.Next id serial) = with_view d (new_view id serial)
+with_line d (line.Next id serial) = record (with_view d (new_view id serial)) { stage = stage.View }
 with_line d (line.Fd x) = with_view d (record d.transcript.view { fds = d.transcript.view.fds ++ x ∷ [] })
 with_line d (line.Link x) = with_view d (record d.transcript.view { links = d.transcript.view.links ++ x ∷ [] })
 with_line d (line.Bind x) = with_view d (record d.transcript.view { binds = d.transcript.view.binds ++ x ∷ [] })
@@ -103,3 +82,39 @@ with_line d (line.Msg x) = with_view d (record d.transcript.view { msgs = d.tran
 with_line d (line.Full x) = with_view d (record d.transcript.view { fulls = d.transcript.view.fulls ++ x ∷ [] })
 with_line d (line.Hung x) = with_view d (record d.transcript.view { hungs = d.transcript.view.hungs ++ x ∷ [] })
 with_line d line.End = d
+
+-- the draft has this version, and at most as many drivers and entries as allowed
+pub record IsWithin (version : Version) (d : TranscriptDraft) : Type 0 where
+  pub version_is : d.transcript.version ≡ version
+  pub drivers : length d.transcript.drivers ≤ most_drivers version
+  pub entries : length d.transcript.entries ≤ MAX_COMMANDS
+
+-- the view as far as it was read: before its first line it is empty
+abbrev pub seen : Stage → ConfigView → ConfigView
+seen stage.History v = new_view 0 0
+seen stage.Config v = new_view 0 0
+seen stage.View v = v
+
+-- the transcript of a draft's lines and the fewest missing lines
+abbrev pub completed : TranscriptDraft → Transcript
+completed d = record d.transcript { view = seen d.stage d.transcript.view }
+
+-- the fewest lines missing before the end: `config`, and the next id and serial, unless they were read
+abbrev pub still : Stage → List TranscriptLine
+still stage.History = line.Config ∷ line.Next 0 0 ∷ []
+still stage.Config = line.Next 0 0 ∷ []
+still stage.View = []
+
+-- the machine that reads transcripts of a version; until it reads the lines of a view, its view is any view
+abbrev pub machine : Version → ConfigView → Machine Transcript TranscriptLine TranscriptDraft
+machine version view = record {
+  start = draft stage.History (record { version = version; drivers = []; entries = []; view = view });
+  lines = lines;
+  takes = takes;
+  is_full = is_full;
+  with_line = with_line;
+  IsWithin = IsWithin version;
+  whole = λ t. draft stage.View (record t { version = version });
+  shortest = completed;
+  still = λ d. still d.stage;
+}

@@ -1,14 +1,11 @@
 -- In a transcript text, a line's text determines the line.
-use Rattle.std.proofs.Common.{◌≡◌, ◌≢◌, ℕ, Bool, true, false, Result, Some, ◌++◌, List}
-use Rattle.std.proofs.Common.{[], ◌∷◌, refl, sym, ap, ◌∙◌, arith, rules}
-use Rattle.std.specs.Prelude.{codes, OnOk, IfErr, if◌then◌else◌}
-use Rattle.std.specs.Str.{bytes_eq, all_ascii_digits}
+use Rattle.std.proofs.Common.{◌∙◌, true, false, ◌≡◌, ◌≢◌, ℕ, List, refl, sym, ap, arith, rules, inl, inr}
+use Rattle.std.specs.Prelude.{codes, Result, Ok, Err, OnOk, IfErr, if◌then◌else◌, Bool, ◌++◌, ◌∷◌, []}
+use Rattle.std.specs.Str.{all_ascii_digits}
 use Rattle.std.proofs.lemmas.Fmt.{digits_decimal}
 use Rattle.smx_types.specs.declared.command.Entry.{Entry}
 use Rattle.smx_types.specs.declared.driver.DriverSpec.{DriverSpec}
-use Rattle.smx_types.specs.declared.transcript.Transcript.{Transcript}
 use Rattle.smx_types.specs.declared.view.BindingLine.{BindingLine}
-use Rattle.smx_types.specs.declared.view.ConfigView.{ConfigView}
 use Rattle.smx_types.specs.declared.view.DescriptorLine.{DescriptorLine}
 use Rattle.smx_types.specs.declared.version.Version.{Version}
 use Rattle.smx_types.specs.declared.version.Version.TheVariants.{V1, V2}
@@ -17,69 +14,36 @@ use Rattle.smx_types.specs.declared.view.HungLine.{HungLine}
 use Rattle.smx_types.specs.declared.view.LinkLine.{LinkLine}
 use Rattle.smx_types.specs.declared.view.MessageLine.{MessageLine}
 use Rattle.smx_types.specs.declared.view.RouteLine.{RouteLine}
-use Rattle.smx_words.specs.Words.{line_of}
-use Rattle.smx_words.specs.Spelling.{driver_words, entry_words, descriptor_words, link_words, bind_words}
-use Rattle.smx_words.specs.Spelling.{route_words, message_words, full_words, hung_words, next_words}
-use Rattle.smx_words.specs.Spellable.{FitsDriver, FitsEntryIn, FitsDescriptor, FitsLink, FitsBinding}
+use Rattle.smx_words.specs.Words.{line_of, AreWords}
+use Rattle.smx_words.specs.Spelling.{driver_words, entry_words, descriptor_words, link_words, bind_words, route_words}
+use Rattle.smx_words.specs.Spelling.{message_words, full_words, hung_words, next_words}
+use Rattle.smx_words.specs.Spellable.{FitsDriver, FitsEntry, FitsEntryIn, FitsDescriptor, FitsLink, FitsBinding}
 use Rattle.smx_words.specs.Spellable.{FitsRoute, FitsMessage, FitsFull, FitsNext}
-use Rattle.smx_text.specs.declared.text_fault.Cause.{Cause}
-use Rattle.smx_text.specs.declared.text_fault.Cause.TheVariants as cause
-use Rattle.smx_text.specs.declared.transcript.draft.Stage.TheVariants as stage
-use Rattle.smx_text.specs.declared.transcript.draft.TranscriptDraft.{TranscriptDraft}
-use Rattle.smx_text.specs.Drafts.{grammar_of, lines}
-use Rattle.smx_text.specs.Grammar.{IsBegun, IsNoLine, IsOneLine, header, line_text}
-use Rattle.smx_text.specs.Reading.{Refuses, RefusesLine, AnswersLine, AnswersText}
+use Rattle.smx_text.specs.Grammar.{IsNoLine, IsOneLine, header, line_text, IsBegun}
 use Rattle.smx_text.specs.TranscriptLines.{TranscriptLine}
 use Rattle.smx_text.specs.TranscriptLines as line
-use Rattle.smx_text.specs.TranscriptText.{line_words, FitsHungIn, FitsLine, body, transcript_grammar}
-use Rattle.smx_text.proofs.GrammarLemmas.{IsWellMade}
-use Rattle.smx_text.proofs.ReadingLemmas.{refuses, answers}
-use Rattle.smx_text.proofs.TranscriptDrafts.{new_draft, takes, is_full, with_line, with_view}
-use Rattle.smx_text.proofs.TranscriptDraftLemmas.{draft, run, run_append, run_body, taken}
-use Rattle.smx_text.proofs.TranscriptLemmas.{misplaced, some_of, is_group, group_answers}
+use Rattle.smx_text.specs.TranscriptText.{line_words, FitsHungIn, FitsLine, transcript_grammar}
+use Rattle.smx_text.proofs.GrammarLemmas.{IsWellMade, answers}
+use Rattle.smx_text.proofs.HasReadingLemmas.{HasReading, by_reading}
+use Rattle.smx_text.proofs.MachineLemmas.{IsLineOrNot, adds, longer_begun, misplaced, reads, well_made as made_by}
+use Rattle.smx_text.proofs.TranscriptMachineLemmas.{reader, stands}
+use Rattle.smx_text.proofs.TranscriptDrafts.{new_view, is_full, takes, with_line, with_view}
+use Rattle.smx_text.specs.Drafts.{grammar_of, lines}
+use Rattle.smx_text.specs.Reading.{AnswersLine, AnswersText}
+use Rattle.smx_text.specs.declared.text_fault.Cause.{Cause}
+use Rattle.smx_text.specs.declared.text_fault.Cause.TheVariants as cause
+use Rattle.smx_text.specs.declared.transcript.draft.TranscriptDraft.{TranscriptDraft}
+use Rattle.smx_types.specs.declared.view.ConfigView.{ConfigView}
 use Rattle.smx_text.proofs.VersionLemmas.{AreVersions}
-use Rattle.smx_text.proofs.LineWordLemmas.{one_spelling, first_word, end_spelled, config_spelled, one_line_of, differ}
-use Rattle.smx_words.specs.Words.{AreWords}
+use Rattle.smx_text.proofs.LineWordLemmas.{config_spelled, differ, end_spelled, first_word, other_first}
 use Rattle.smx_words.proofs.NumberLemmas.{own}
 use Rattle.smx_words.proofs.DecidedCommandLemmas.{entry_has_words}
-use Rattle.smx_words.proofs.DecidedLemmas.{one_line}
+use Rattle.smx_words.proofs.DecidedLemmas.{reading, same_or_not}
 use Rattle.smx_words.proofs.DecidedLineLemmas.{bind_has_words, descriptor_has_words, driver_has_words, full_has_words}
 use Rattle.smx_words.proofs.DecidedLineLemmas.{hung_has_words, link_has_words, message_has_words, next_has_words}
 use Rattle.smx_words.proofs.DecidedLineLemmas.{route_has_words}
-
--- ---- kinds of lines, by their first words
-
--- the kind of the line with this first word, as a number: 0 for digits, which start an entry, and for any other word
-abbrev pub kind_at : List ℕ → ℕ
-kind_at w =
-    if all_ascii_digits w then 0
-    else if bytes_eq w (codes "driver") then 1 else if bytes_eq w (codes "config") then 2
-    else if bytes_eq w (codes "next") then 3 else if bytes_eq w (codes "fd") then 4
-    else if bytes_eq w (codes "link") then 5 else if bytes_eq w (codes "bind") then 6
-    else if bytes_eq w (codes "route") then 7 else if bytes_eq w (codes "msg") then 8
-    else if bytes_eq w (codes "full") then 9 else if bytes_eq w (codes "hung") then 10
-    else if bytes_eq w (codes "end") then 11 else 0
-
--- the kind of a line, as a number
-abbrev pub kind_of : TranscriptLine → ℕ
-kind_of (line.Driver d) = 1
-kind_of (line.Entry e) = 0
-kind_of line.Config = 2
-kind_of (line.Next id serial) = 3
-kind_of (line.Fd d) = 4
-kind_of (line.Link l) = 5
-kind_of (line.Bind b) = 6
-kind_of (line.Route r) = 7
-kind_of (line.Msg m) = 8
-kind_of (line.Full f) = 9
-kind_of (line.Hung h) = 10
-kind_of line.End = 11
-
--- the first word of a line that fits determines its kind
-pub kind_first : (version : Version) (k : TranscriptLine) → FitsLine version k
-    → kind_at (first_word (line_words k)) ≡ kind_of k
-kind_first version (line.Entry e) fits = rw (digits_decimal own e.process (omega (arith, fits.0.process))) refl
-kind_first version k fits = refl
+use Rattle.smx_words.proofs.InVersionLemmas.{reading_in}
+use Rattle.smx_types.specs.Versions.{is_of_hangup}
 
 -- ---- lines
 
@@ -98,58 +62,36 @@ spelling version (line.Full f) fits = (full_has_words.are_words f fits, omega ar
 spelling version (line.Hung h) fits = (hung_has_words.are_words h fits.0, omega arith)
 spelling version line.End fits = end_spelled
 
-module _ (version : Version) where
-  -- two lines of one kind that fit a version and have the same text are equal
-  kinds_apart : (k l : TranscriptLine) → FitsLine version k → FitsLine version l → kind_of k ≡ kind_of l
-      → line_text (transcript_grammar version) k ≡ line_text (transcript_grammar version) l → k ≡ l
-  kinds_apart (line.Driver d) (line.Driver e) fits also kinds same =
-      ap (λ x. line.Driver x) (one_line driver_has_words d e fits also same)
-  kinds_apart (line.Entry d) (line.Entry e) fits also kinds same =
-      ap (λ x. line.Entry x) (one_line entry_has_words d e fits.0 also.0 same)
-  kinds_apart line.Config line.Config fits also kinds same = refl
-  kinds_apart (line.Next id serial) (line.Next jd terial) fits also kinds same =
-      let pair = one_line next_has_words (id, serial) (jd, terial) fits also same in ap (λ (p : ℕ × ℕ). line.Next p.0 p.1) pair
-  kinds_apart (line.Fd d) (line.Fd e) fits also kinds same = ap (λ x. line.Fd x) (one_line descriptor_has_words d e fits also same)
-  kinds_apart (line.Link d) (line.Link e) fits also kinds same = ap (λ x. line.Link x) (one_line link_has_words d e fits also same)
-  kinds_apart (line.Bind d) (line.Bind e) fits also kinds same = ap (λ x. line.Bind x) (one_line bind_has_words d e fits also same)
-  kinds_apart (line.Route d) (line.Route e) fits also kinds same =
-      ap (λ x. line.Route x) (one_line route_has_words d e fits also same)
-  kinds_apart (line.Msg d) (line.Msg e) fits also kinds same = ap (λ x. line.Msg x) (one_line message_has_words d e fits also same)
-  kinds_apart (line.Full d) (line.Full e) fits also kinds same = ap (λ x. line.Full x) (one_line full_has_words d e fits also same)
-  kinds_apart (line.Hung d) (line.Hung e) fits also kinds same =
-      ap (λ x. line.Hung x) (one_line hung_has_words d e fits.0 also.0 same)
-  kinds_apart line.End line.End fits also kinds same = refl
-  kinds_apart k l fits also kinds same = absurd cc
+-- words that do not begin with digits are not those of an entry
+not_entry : (e : Entry) → FitsEntry e → (ws : List (List ℕ)) → entry_words e ≡ ws
+    → all_ascii_digits (first_word ws) ≡ false → ⊥
+not_entry e fits ws is h =
+    let digits = digits_decimal own e.process (omega (arith, fits.process)) in
+    let same = ap (λ (vs : List (List ℕ)). all_ascii_digits (first_word vs)) is in absurd cc
 
-  -- two lines of a transcript that fit a version and have the same text are equal
-  pub tells_apart : (k l : TranscriptLine) → FitsLine version k → FitsLine version l
-      → line_text (transcript_grammar version) k ≡ line_text (transcript_grammar version) l → k ≡ l
-  tells_apart k l fits also same =
-      let ws =
-      one_spelling (line_words k) (line_words l) (spelling version k fits) (spelling version l also) same in
-      kinds_apart k l fits also (sym (kind_first version k fits)
-      ∙ ap (λ (vs : List (List ℕ)). kind_at (first_word vs)) ws ∙ kind_first version l also) same
+-- two lines of a transcript that fit a version and have the same words are equal
+words_apart : (version : Version) (k l : TranscriptLine) → FitsLine version k → FitsLine version l
+    → line_words k ≡ line_words l → k ≡ l
+words_apart version (line.Driver d) (line.Driver e) fits also ws =
+    ap line.Driver (driver_has_words.one d e fits also ws)
+words_apart version (line.Entry d) (line.Entry e) fits also ws =
+    ap line.Entry (entry_has_words.one d e fits.0 also.0 ws)
+words_apart version line.Config line.Config fits also ws = refl
+words_apart version (line.Next id serial) (line.Next jd terial) fits also ws =
+    ap (λ (p : ℕ × ℕ). line.Next p.0 p.1) (next_has_words.one (id, serial) (jd, terial) fits also ws)
+words_apart version (line.Fd d) (line.Fd e) fits also ws = ap line.Fd (descriptor_has_words.one d e fits also ws)
+words_apart version (line.Link d) (line.Link e) fits also ws = ap line.Link (link_has_words.one d e fits also ws)
+words_apart version (line.Bind d) (line.Bind e) fits also ws = ap line.Bind (bind_has_words.one d e fits also ws)
+words_apart version (line.Route d) (line.Route e) fits also ws = ap line.Route (route_has_words.one d e fits also ws)
+words_apart version (line.Msg d) (line.Msg e) fits also ws = ap line.Msg (message_has_words.one d e fits also ws)
+words_apart version (line.Full d) (line.Full e) fits also ws = ap line.Full (full_has_words.one d e fits also ws)
+words_apart version (line.Hung d) (line.Hung e) fits also ws = ap line.Hung (hung_has_words.one d e fits.0 also.0 ws)
+words_apart version line.End line.End fits also ws = refl
+words_apart version (line.Entry e) l fits also ws = absurd (not_entry e fits.0 _ ws refl)
+words_apart version k (line.Entry e) fits also ws = absurd (not_entry e also.0 _ (sym ws) refl)
+words_apart version k l fits also ws = absurd (other_first _ _ refl ws)
 
 -- ---- the whole text
-
--- the line `end` is not among the lines of a transcript between the header and the end
-end_is_last : (t : Transcript) (ls more : List TranscriptLine) → body t ≡ ls ++ line.End ∷ more → ⊥
-end_is_last t ls more e =
-    let start = new_draft t.version in
-    let all = sym (ap (run start) e) ∙ run_body t in
-    let d = some_of (run start ls) (line.End ∷ more) (draft stage.View t)
-    (sym (run_append start ls (line.End ∷ more)) ∙ all) in
-    let last = taken d.0 (draft stage.View t) line.End more d.2 in
-    absurd (cc last.1)
-
--- two transcripts of one version with the same lines are equal
-one_value : (t u : Transcript) → t.version ≡ u.version → body t ≡ body u → t ≡ u
-one_value t u version e =
-    same_value (sym (run_body t) ∙ ap (run (new_draft t.version)) e
-    ∙ ap (λ (v : Version). run (new_draft v) (body u)) version ∙ run_body u) where
-      same_value : Some (draft stage.View t) ≡ Some (draft stage.View u) → t ≡ u
-      same_value e = let same : draft stage.View t ≡ draft stage.View u = cc e in
-          ap (λ (d : TranscriptDraft). d.transcript) same
 
 -- the header of a transcript contains no line feed
 header_is_line : (version : Version) → IsOneLine (header (transcript_grammar version))
@@ -158,54 +100,36 @@ header_is_line V2 = search rules
 
 -- the transcript text is well made: a line's text determines it, each is one line, and lines determine the transcript
 pub well_made : (version : Version) → IsWellMade (transcript_grammar version)
-well_made version = record {
-  header_line = header_is_line version;
-  one_line = λ k fits. one_line_of (line_words k) (spelling version k fits);
-  tells_apart = tells_apart version;
-  fits = λ t allowed. allowed.fits;
-  fits_end = tt;
-  end_is_last = end_is_last;
-  one_value = λ t u allowed also e. one_value t u (allowed.version_is ∙ sym also.version_is) e;
-}
+well_made version =
+    made_by (reader version (new_view 0 0)) (header_is_line version) (spelling version) tt (words_apart version)
 
 -- the grammars of transcripts are well made in both versions, and their headers differ
-pub versions : AreVersions transcript_grammar
-versions = record { made = well_made; differ = differ (codes "transcript 1") (codes "transcript 2") refl }
+abbrev pub versions : AreVersions transcript_grammar
+versions = record {
+  version_of = λ t. t.version;
+  made = well_made;
+  differ = differ (codes "transcript 1") (codes "transcript 2") refl;
+}
 
--- ---- results for a parsed line are results for its text
-
--- a result for a parsed line is a result for its text
-pub answers_line : {A : Type 0} (version : Version) (ls longer : List TranscriptLine) (k : TranscriptLine)
-    (text : List ℕ) → FitsLine version k × (text ≡ line_text (transcript_grammar version) k) → (r : Result A Cause)
-    → AnswersLine (transcript_grammar version) ls k longer r → AnswersText (transcript_grammar version) ls text longer r
-answers_line version = answers (transcript_grammar version) (tells_apart version)
-
--- the result for the text of a line of a group: a function appends it to its group, if it may follow
-pub group_text : {A X : Type 0} (d : TranscriptDraft) (k : TranscriptLine) (text : List ℕ)
-    → IsBegun (grammar_of d) (lines d) → is_group k ≡ true → is_full d k ≡ false → k ≢ line.End
-    → (put : List X → ConfigView) (old new : List X) (x : X) (takes_it : Bool) → takes_it ≡ takes d k
-    → with_line d k ≡ with_view d (put (old ++ x ∷ []))
-    → FitsLine d.transcript.version k × (text ≡ line_text (grammar_of d) k)
-    → (r : Result A Cause) → OnOk r ((takes_it ≡ true) × (new ≡ old ++ x ∷ []))
-    → IfErr r (λ why. why ≡ (if takes_it then cause.NoMemory else cause.Form))
-    → AnswersText (grammar_of d) (lines d) text (lines (draft d.stage (record d.transcript { view = put new }))) r
-group_text d k text begun group room other put old new x takes_it may is spelled r ok err =
-    answers_line d.transcript.version (lines d) (lines (draft d.stage (record d.transcript { view = put new }))) k text
-    spelled r (group_answers d k begun group room other put old new x takes_it may is spelled.0 r ok err)
-
--- a cause for which a line is refused is one for which its text is refused
-pub refused_line : (version : Version) (ls : List TranscriptLine) (k : TranscriptLine) (text : List ℕ)
-    → FitsLine version k → text ≡ line_text (transcript_grammar version) k → (why : Cause)
-    → RefusesLine (transcript_grammar version) ls k why → Refuses (transcript_grammar version) ls text why
-refused_line version ls k text fits is why h =
-    refuses (transcript_grammar version) (tells_apart version) ls k text fits is why h
-
--- if a draft doesn't accept the end, a text may not end after its lines
-pub not_at_end : (d : TranscriptDraft) → takes d line.End ≡ false
-    → IsNoLine (grammar_of d) (lines d) (line_text (grammar_of d) line.End)
-not_at_end d h =
-    refused_line d.transcript.version (lines d) line.End (line_text (grammar_of d) line.End) tt refl cause.Form
-    (misplaced d line.End h)
+-- the result for the text of a line of a group, which has no limit: it is appended to its group, if it may follow
+pub group_answers : {A X : Type 0} (d : TranscriptDraft) (k : TranscriptLine) (text : List ℕ)
+    → IsBegun (grammar_of d) (lines d) → is_full d k ≡ false → k ≢ line.End → (put : List X → ConfigView)
+    (old new : List X) (x : X) (may : Bool) → may ≡ takes d k → with_line d k ≡ with_view d (put (old ++ x ∷ []))
+    → FitsLine d.transcript.version k × (text ≡ line_text (grammar_of d) k) → (r : Result A Cause)
+    → OnOk r ((may ≡ true) × (new ≡ old ++ x ∷ []))
+    → IfErr r (λ why. why ≡ (if may then cause.NoMemory else cause.Form))
+    → AnswersText (grammar_of d) (lines d) text (lines (with_view d (put new))) r
+group_answers {A} d k text begun room other put old new x may takes_is is spelled r ok err =
+    answers (well_made d.transcript.version) (lines d) _ k text spelled r (by_result may r takes_is ok err) where
+      by_result : (may : Bool) (r : Result A Cause) → may ≡ takes d k → OnOk r ((may ≡ true) × (new ≡ old ++ x ∷ []))
+          → IfErr r (λ why. why ≡ (if may then cause.NoMemory else cause.Form))
+          → AnswersLine (grammar_of d) (lines d) k (lines (with_view d (put new))) r
+      by_result may (Ok u) takes_is ok err =
+          adds {e = with_view d (put new)} (stands d) k (rw ok.1 (sym is)) begun (sym takes_is ∙ ok.0) room
+          spelled.0 other
+      by_result true (Err why) takes_is ok err =
+          rw err (longer_begun (stands d) k begun (sym takes_is) room spelled.0 other)
+      by_result false (Err why) takes_is ok err = rw err (misplaced (stands d) k (sym takes_is))
 
 -- a text that is no line of a transcript, kind by kind
 module _ (version : Version) (ls : List TranscriptLine) (text : List ℕ)
@@ -235,3 +159,38 @@ module _ (version : Version) (ls : List TranscriptLine) (text : List ℕ)
   no_line (line.Full x) fits may is = fulls x fits is
   no_line (line.Hung x) fits may is = hungs x fits is
   no_line line.End fits may is = end is
+
+-- a text other than the end is that of a line that fits, or of no line of a transcript
+line_or_not : (version : Version) (ls : List TranscriptLine) (text : List ℕ)
+    → text ≢ line_text (transcript_grammar version) line.End → IsLineOrNot (transcript_grammar version) ls text
+line_or_not version ls text other =
+    by_reading entry_words (reading_in entry_has_words is_of_hangup version text (λ x. omega arith))
+    (λ x fits is. inl (line.Entry x, fits, is)) (λ entries.
+    by_reading message_words (reading message_has_words (λ x. omega arith) text)
+    (λ x fits is. inl (line.Msg x, fits, is)) (λ messages.
+    by_reading driver_words (reading driver_has_words (λ x. omega arith) text)
+    (λ x fits is. inl (line.Driver x, fits, is)) (λ drivers.
+    by_reading next_words (reading next_has_words (λ x. omega arith) text)
+    (λ x fits is. inl (line.Next x.0 x.1, fits, is)) (λ nexts.
+    by_reading descriptor_words (reading descriptor_has_words (λ x. omega arith) text)
+    (λ x fits is. inl (line.Fd x, fits, is)) (λ fds.
+    by_reading link_words (reading link_has_words (λ x. omega arith) text)
+    (λ x fits is. inl (line.Link x, fits, is)) (λ links.
+    by_reading bind_words (reading bind_has_words (λ x. omega arith) text)
+    (λ x fits is. inl (line.Bind x, fits, is)) (λ binds.
+    by_reading route_words (reading route_has_words (λ x. omega arith) text)
+    (λ x fits is. inl (line.Route x, fits, is)) (λ routes.
+    by_reading full_words (reading full_has_words (λ x. omega arith) text)
+    (λ x fits is. inl (line.Full x, fits, is)) (λ fulls.
+    by_reading hung_words (reading_in hung_has_words (λ x. true) version text (λ x. omega arith))
+    (λ x fits is. inl (line.Hung x, fits, is)) (λ hungs.
+    elim (same_or_not text (line_text (transcript_grammar version) line.Config)) [
+      | inl is ↦ inl (line.Config, tt, is)
+      | inr config ↦ inr (no_line version ls text entries messages drivers config nexts fds links binds routes fulls
+          hungs other)
+    ]))))))))))
+
+-- any bytes spell a transcript of this version, or have a first fault other than out of memory
+pub transcripts_have_reading : (version : Version) (bytes : List ℕ) → HasReading (transcript_grammar version) bytes
+transcripts_have_reading version =
+    reads (reader version (new_view 0 0)) (well_made version) (line_or_not version)

@@ -1,8 +1,6 @@
--- The lines read so far, completed by the fewest missing lines, are those of a transcript.
-use Rattle.std.proofs.Common.{◌≡◌, ◌≤◌, List, [], ◌∷◌, ◌++◌, length, map, refl, sym, subst, ◌∙◌}
-use Rattle.std.proofs.Common.{append_assoc, true, arith, rules}
+-- A transcript is allowed exactly if it is within the limits, can be spelled, and needs no later version.
+use Rattle.std.proofs.Common.{◌≡◌, ◌≤◌, List, ◌++◌, length, map, true}
 use Rattle.std.specs.List.{AllByRecursion}
-use Rattle.std.proofs.lemmas.List.{append-nil}
 use Rattle.smx_types.specs.Versions.{is_of_hangup, least_of_transcript, most_drivers}
 use Rattle.smx_types.specs.declared.limits.TheConstants.{MAX_COMMANDS}
 use Rattle.smx_types.specs.declared.transcript.Transcript.{Transcript}
@@ -10,55 +8,11 @@ use Rattle.smx_types.specs.declared.version.Version.{Version}
 use Rattle.smx_types.specs.declared.version.Version.TheVariants.{V1}
 use Rattle.smx_types.specs.declared.view.ConfigView.{ConfigView}
 use Rattle.smx_words.specs.Spellable.{CanTell, FitsEntry, FitsHung}
-use Rattle.smx_text.specs.declared.transcript.draft.Stage.{Stage}
-use Rattle.smx_text.specs.declared.transcript.draft.Stage.TheVariants as stage
-use Rattle.smx_text.specs.declared.transcript.draft.TranscriptDraft.{TranscriptDraft}
 use Rattle.smx_text.specs.TranscriptLines.{TranscriptLine}
 use Rattle.smx_text.specs.TranscriptLines as line
 use Rattle.smx_text.specs.TranscriptText.{IsSpellable, IsSpellableView, FitsLine, view_body, body, IsAllowed}
-use Rattle.smx_text.proofs.TranscriptDrafts.{new_view}
 use Rattle.smx_text.proofs.EachLemmas.{all_left, all_right, all_append, all_map, of_map, all_both, all_parts}
-use Rattle.smx_text.proofs.TranscriptDraftLemmas.{draft}
-use Rattle.smx_text.proofs.TranscriptVersionLemmas.{AreHungsIn, entries_expressed, hungs_expressed}
-use Rattle.smx_text.proofs.TranscriptVersionLemmas.{needs_no_later}
-use Rattle.smx_text.specs.Drafts.{lines}
-
--- the transcript as far as it was read; the view is empty before its first line
-abbrev pub ended : Stage → Transcript → Transcript
-ended stage.History t = record t { view = new_view 0 0 }
-ended stage.Config t = record t { view = new_view 0 0 }
-ended stage.View t = t
-
--- the fewest lines missing before the end: `config`, and the next id and serial, unless they were read
-abbrev pub still : Stage → List TranscriptLine
-still stage.History = line.Config ∷ line.Next 0 0 ∷ []
-still stage.Config = line.Next 0 0 ∷ []
-still stage.View = []
-
--- the transcript of a draft's lines and the fewest missing lines
-abbrev pub completed : TranscriptDraft → Transcript
-completed d = ended d.stage d.transcript
-
--- lines appended to two lists that follow another list are appended to all three joined
-behind_both : (xs ys zs ws : List TranscriptLine) → xs ++ (ys ++ (zs ++ ws)) ≡ (xs ++ (ys ++ zs)) ++ ws
-behind_both xs ys zs ws = simp append_assoc
-
--- a transcript read up to a stage and then completed has the lines that were read and the fewest missing ones
-completes_by : (s : Stage) (t : Transcript) → body (ended s t) ≡ lines (draft s t) ++ still s
-completes_by stage.History t =
-    behind_both (map line.Driver t.drivers) (map line.Entry t.entries) [] (line.Config ∷ line.Next 0 0 ∷ [])
-completes_by stage.Config t =
-    behind_both (map line.Driver t.drivers) (map line.Entry t.entries) (line.Config ∷ []) (line.Next 0 0 ∷ [])
-completes_by stage.View t = sym (append-nil (body t))
-
--- a completed transcript has the lines that were read and the fewest missing ones
-pub completes : (d : TranscriptDraft) → body (completed d) ≡ lines d ++ still d.stage
-completes d = completes_by d.stage d.transcript
-
--- a draft has at most as many drivers and entries as allowed
-pub record IsWithin (d : TranscriptDraft) : Type 0 where
-  pub drivers : length d.transcript.drivers ≤ most_drivers d.transcript.version
-  pub entries : length d.transcript.entries ≤ MAX_COMMANDS
+use Rattle.smx_text.proofs.TranscriptVersionLemmas.{AreHungsIn, entries_expressed, hungs_expressed, needs_no_later}
 
 module _ (version : Version) where
   -- each of these lines fits the version
@@ -139,28 +93,3 @@ allowed_spellable version t allowed =
       record { drivers = drivers.0; entries = both.0; view = view.0 },
       needs_no_later version t allowed.drivers both.1 view.1,
     )
-
--- the fewest missing lines fit
-still_fits : (version : Version) (s : Stage) → AllByRecursion (FitsLine version) (still s)
-still_fits version stage.History = search (rules, arith)
-still_fits version stage.Config = search (rules, arith)
-still_fits version stage.View = tt
-
--- a transcript as far as it was read has the version, the drivers and the entries that were read
-same_history : (s : Stage) (t : Transcript)
-    → ((ended s t).version ≡ t.version) × ((ended s t).drivers ≡ t.drivers) × ((ended s t).entries ≡ t.entries)
-same_history stage.History t = (refl, refl, refl)
-same_history stage.Config t = (refl, refl, refl)
-same_history stage.View t = (refl, refl, refl)
-
--- a draft within the limits whose lines fit is completed to an allowed transcript
-pub allowed : (version : Version) (d : TranscriptDraft) → d.transcript.version ≡ version → IsWithin d
-    → AllByRecursion (FitsLine version) (lines d) → IsAllowed version (completed d)
-allowed version d is within h =
-    let same = same_history d.stage d.transcript in record {
-      version_is = same.0 ∙ is;
-      drivers = rw (same.1, ← is) within.drivers;
-      entries = rw same.2 within.entries;
-      fits = subst (AllByRecursion (FitsLine version)) (sym (completes d))
-          (all_append (FitsLine version) (lines d) (still d.stage) h (still_fits version d.stage));
-    }

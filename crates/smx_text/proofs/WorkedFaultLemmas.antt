@@ -1,20 +1,20 @@
--- Worked examples of lines that are not allowed at their place.
-use Rattle.std.proofs.Common.{◌≡◌, ◌≢◌, ℕ, ◌<◌, Bool, true, false, List, length, Result, Ok}
-use Rattle.std.proofs.Common.{Err, arith}
-use Rattle.std.specs.List.{AllByRecursion}
+-- Worked examples of texts with a fault, for any kind of text.
+use Rattle.std.proofs.Common.{◌≡◌, ◌≢◌, ℕ, ◌+◌, ◌<◌, Bool, true, false, List, ◌∷◌, ◌++◌, length, Result, Ok, Err}
+use Rattle.std.proofs.Common.{refl, sym, subst, ◌∙◌}
 use Rattle.smx_types.specs.declared.version.Version.{Version}
+use Rattle.std.specs.List.{AllByRecursion}
+use Rattle.std.specs.Str.{bytes_eq}
+use Rattle.smx_types.specs.declared.version.Version.TheVariants.{V1, V2}
+use Rattle.smx_words.specs.Words.{IsFree, LINE_FEED, SPACE, line_of}
 use Rattle.smx_text.specs.declared.text_fault.Cause.{Cause}
 use Rattle.smx_text.specs.declared.text_fault.Cause.TheVariants as cause
 use Rattle.smx_text.specs.declared.text_fault.TextFault.{TextFault}
-use Rattle.smx_words.specs.Words.{AreWords, IsFree, SPACE, line_of}
-use Rattle.smx_words.proofs.LineLemmas.{same_free_words, words_free}
-use Rattle.smx_text.specs.Grammar.{Grammar, IsFault, ReadsAny, Spells}
-use Rattle.smx_text.specs.ProgramsText.{programs_grammar}
-use Rattle.smx_text.specs.TranscriptText.{transcript_grammar}
-use Rattle.smx_text.specs.WorkedFaults.{AreWrongPrograms, IsWrongTranscript}
-use Rattle.smx_text.proofs.ProgramsGrammarLemmas.{versions}
-use Rattle.smx_text.proofs.ReadingLemmas.{any_of, any_of_each}
-use Rattle.smx_text.proofs.TranscriptGrammarLemmas.{versions as transcript_versions}
+use Rattle.smx_text.specs.Grammar.{Grammar, IsBegun, IsFault, IsOneLine, ReadsAny, Spells, beginning, header, line_text}
+use Rattle.smx_text.specs.Reading.{Refuses}
+use Rattle.smx_text.proofs.GrammarLemmas.{one_line, refuses, tells_apart}
+use Rattle.smx_text.proofs.LineWordLemmas.{differ, told}
+use Rattle.smx_text.proofs.MachineLemmas.{IsAt, Machine, misplaced, too_many}
+use Rattle.smx_text.proofs.ReadingLemmas.{any_of, any_of_each, cut_at, refused}
 use Rattle.smx_text.proofs.VersionLemmas.{AreVersions, one_reading_of_all}
 
 -- the cause is neither out of memory nor a wrong header
@@ -29,52 +29,82 @@ not_header cause.NoMemory h = absurd cc
 not_header cause.Header h = absurd cc
 not_header why h = ((λ e. cc), (λ e. cc))
 
-module _ {V K : Type 0} (g : Version → Grammar V K) (are : AreVersions g) (of : V → Version)
-    (bytes : List ℕ) (f : TextFault) where
+module _ {V K : Type 0} {g : Version → Grammar V K} (are : AreVersions g) where
   -- a reader of all versions may return this fault, and the bytes spell no value
-  abbrev AreWrong : Type 0
-  AreWrong = ReadsAny g bytes (Err f) × ((v : V) → Spells (g (of v)) bytes v → ⊥)
+  abbrev AreWrong : List ℕ → ℕ → Cause → Type 0
+  AreWrong bytes n why = ReadsAny g bytes (Err (record { line = n; cause = why }))
+      × ((v : V) → Spells (g (are.version_of v)) bytes v → ⊥)
 
   -- bytes for which a reader may return a fault other than out of memory spell no value
-  wrong : f.cause ≢ cause.NoMemory → ReadsAny g bytes (Err f) → AreWrong
-  wrong other reads = (
+  wrong : (bytes : List ℕ) (f : TextFault) → f.cause ≢ cause.NoMemory → ReadsAny g bytes (Err f)
+      → AreWrong bytes f.line f.cause
+  wrong bytes f other reads = (
     reads,
-    λ v spells.
-        differ (one_reading_of_all g are bytes (Ok v) (Err f) (of v, spells, tt) reads tt other),
-  ) where
-    differ : {v : V} → ◌≡◌ {A = Result V TextFault} (Ok v) (Err f) → ⊥
-    differ e = absurd (cc e)
+    λ v spells. let bad : ◌≡◌ {A = Result V TextFault} (Ok v) (Err f) =
+        one_reading_of_all g are bytes (Ok v) (Err f) (are.version_of v, spells, tt) reads tt other in absurd cc,
+  )
 
   -- bytes with a fault in one version, other than out of memory or the header, spell no value
-  wrong_behind : (version : Version) → is_behind f.cause ≡ true → IsFault (g version) bytes f.line f.cause → AreWrong
-  wrong_behind version h fault = let not = not_header f.cause h in
-      wrong not.0 (any_of g bytes version (Err f) fault not.1)
+  pub wrong_text : (version : Version) {bytes : List ℕ} {n : ℕ} {why : Cause} → is_behind why ≡ true
+      → IsFault (g version) bytes n why → AreWrong bytes n why
+  wrong_text version {bytes} {why = why} h fault = let not = not_header why h in
+      wrong bytes _ not.0 (any_of g bytes version (Err _) fault not.1)
 
--- a text with a fault in one version, other than its header, spells no programs
-pub wrong_programs : (version : Version) {bytes : List ℕ} {line : ℕ} {why : Cause} → is_behind why ≡ true
-    → IsFault (programs_grammar version) bytes line why → AreWrongPrograms bytes line why
-wrong_programs version h fault = wrong_behind programs_grammar versions (λ v. v.version) _ _ version h fault
+  -- a first line that is the header of no version is a fault
+  pub wrong_first : (text after : List ℕ) → IsOneLine text → bytes_eq text (header (g V1)) ≡ false
+      → bytes_eq text (header (g V2)) ≡ false → AreWrong (text ++ LINE_FEED ∷ after) 1 cause.Header
+  wrong_first text after one first second =
+      wrong _ (record { line = 1; cause = cause.Header }) (λ e. cc) (any_of_each g _ _ in_each) where
+        in_each : (version : Version) → IsFault (g version) (text ++ LINE_FEED ∷ after) 1 cause.Header
+        in_each V1 = (text, (after, one, refl), differ text (header (g V1)) first, refl)
+        in_each V2 = (text, (after, one, refl), differ text (header (g V2)) second, refl)
 
--- bytes with a wrong header in each version spell no programs
-pub wrong_in_each : {bytes : List ℕ} {line : ℕ} → ((version : Version)
-    → IsFault (programs_grammar version) bytes line cause.Header) → AreWrongPrograms bytes line cause.Header
-wrong_in_each each =
-    wrong programs_grammar versions (λ v. v.version) _ _ (λ e. cc) (any_of_each programs_grammar _ _ each)
+  -- bytes that end within the line after a prefix of an allowed value's lines are cut there
+  pub cut_text : (version : Version) (ls : List K) (last : List ℕ) → IsBegun (g version) ls → IsOneLine last
+      → AreWrong (beginning (g version) ls ++ last) (length ls + 2) cause.Cut
+  cut_text version ls last begun one = wrong_text version refl
+      (cut_at (g version) _ last ls _ (record { begun = begun; parts = refl; numbered = refl }) one)
 
--- a text with a fault in one version, other than its header, spells no transcript
-pub wrong_transcript : (version : Version) {bytes : List ℕ} {line : ℕ} {why : Cause} → is_behind why ≡ true
-    → IsFault (transcript_grammar version) bytes line why → IsWrongTranscript bytes line why
-wrong_transcript version h fault =
-    wrong_behind transcript_grammar transcript_versions (λ t. t.version) _ _ version h fault
+  -- a whole line after a prefix of an allowed value's lines that is refused is a fault
+  pub wrong_line : (version : Version) (ls : List K) (text after : List ℕ) (why : Cause) → is_behind why ≡ true
+      → IsBegun (g version) ls → IsOneLine text → Refuses (g version) ls text why
+      → AreWrong (beginning (g version) ls ++ (text ++ LINE_FEED ∷ after)) (length ls + 2) why
+  wrong_line version ls text after why h begun one fault =
+      wrong_text version h (refused (g version) _ (text ++ LINE_FEED ∷ after) ls (length ls + 2) text after
+      (record { begun = begun; parts = refl; numbered = refl }) (one, refl) why fault)
 
--- bytes with a wrong header in each version spell no transcript
-pub wrong_transcript_in_each : {bytes : List ℕ} {line : ℕ} → ((version : Version)
-    → IsFault (transcript_grammar version) bytes line cause.Header) → IsWrongTranscript bytes line cause.Header
-wrong_transcript_in_each each =
-    wrong transcript_grammar transcript_versions (λ t. t.version) _ _ (λ e. cc)
-    (any_of_each transcript_grammar _ _ each)
+  -- words that are those of no line that fits are a fault
+  pub wrong_words : (version : Version) (ls : List K) (ws : List (List ℕ)) (after : List ℕ) → IsBegun (g version) ls
+      → AllByRecursion (IsFree SPACE) ws × (0 < length ws) × IsOneLine (line_of ws)
+      → ((k : K) → (g version).FitsLine k → ws ≢ (g version).line_words k)
+      → AreWrong (beginning (g version) ls ++ (line_of ws ++ LINE_FEED ∷ after)) (length ls + 2) cause.Form
+  wrong_words version ls ws after begun (free, some, one) none =
+      wrong_line version ls (line_of ws) after cause.Form refl begun one (λ k fits may e.
+      none k fits (told ws ((g version).line_words k) (free, some) ((are.made version).are_words k fits) e))
 
--- words without a space are the words of any line with the same bytes
-pub told : (ws vs : List (List ℕ)) → AllByRecursion (IsFree SPACE) ws × (0 < length ws) → AreWords vs
-    → line_of ws ≡ line_of vs → ws ≡ vs
-told ws vs h k e = same_free_words ws vs h.0 (words_free SPACE (omega arith) vs k.0) h.1 k.1 e
+  -- a line of version 2 only is a fault in version 1, if lines of version 1 are also lines of version 2
+  pub later_line : ((k : K) → (g V1).FitsLine k → (g V2).FitsLine k × (line_text (g V2) k ≡ line_text (g V1) k))
+      → (ls : List K) (k : K) (after : List ℕ) → IsBegun (g V1) ls → (g V2).FitsLine k → ((g V1).FitsLine k → ⊥)
+      → AreWrong (beginning (g V1) ls ++ (line_text (g V2) k ++ LINE_FEED ∷ after)) (length ls + 2) cause.Form
+  later_line too ls k after begun fits later =
+      wrong_line V1 ls (line_text (g V2) k) after cause.Form refl begun (one_line (are.made V2) k fits)
+      (λ l first may e. let also = too l first in
+      later (subst (g V1).FitsLine (tells_apart (are.made V2) l k also.0 fits (also.1 ∙ sym e)) first))
+
+  module _ (version : Version) {D : Type 0} {m : Machine V K D} {ls : List K} {d : D} (at : IsAt (g version) m ls d)
+      (begun : IsBegun (g version) ls) (k : K) (fits : (g version).FitsLine k) (after : List ℕ) where
+    -- these lines, this line and more bytes
+    abbrev with_this : List ℕ
+    with_this = beginning (g version) ls ++ (line_text (g version) k ++ LINE_FEED ∷ after)
+
+    -- a line that may not follow is a fault
+    pub misplaced_line : m.takes d k ≡ false → AreWrong with_this (length ls + 2) cause.Form
+    misplaced_line never =
+        wrong_line version ls _ after cause.Form refl begun (one_line (are.made version) k fits)
+        (refuses (are.made version) ls k _ fits refl cause.Form (misplaced at k never))
+
+    -- a line over the limit is a fault
+    pub one_too_many : m.takes d k ≡ true → m.is_full d k ≡ true → AreWrong with_this (length ls + 2) cause.Many
+    one_too_many may full =
+        wrong_line version ls _ after cause.Many refl begun (one_line (are.made version) k fits)
+        (refuses (are.made version) ls k _ fits refl cause.Many (too_many at k may full))

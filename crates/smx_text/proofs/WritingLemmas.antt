@@ -1,6 +1,6 @@
 -- Bytes written group by group are the lines of the whole text.
-use Rattle.std.proofs.Common.{◌≡◌, ℕ, ◌+◌, ◌<◌, List, [], ◌∷◌, ◌++◌, length, get_or, take, map, refl, sym}
-use Rattle.std.proofs.Common.{ap, ◌∙◌, append_assoc, arith}
+use Rattle.std.proofs.Common.{◌≡◌, ℕ, ◌+◌, ◌<◌, List, [], ◌∷◌, ◌++◌, length, get_or, take, map, refl, sym, ap, ◌∙◌}
+use Rattle.std.proofs.Common.{append_assoc, arith}
 use Rattle.std.proofs.lemmas.List.{append-nil, length-take-le, map-append, take_more}
 use Rattle.std.proofs.lemmas.Simd.{map-map}
 use Rattle.std.specs.Fmt.{decimal}
@@ -8,24 +8,20 @@ use Rattle.std.specs.List.{AllByRecursion}
 use Rattle.std.specs.Prelude.{codes}
 use Rattle.smx_types.specs.ProgramLists.{AreWithinLimits, ProgramLists}
 use Rattle.smx_types.specs.declared.command.Command.{Command}
-use Rattle.smx_types.specs.declared.version.Version.{Version}
-use Rattle.smx_types.specs.declared.version.Version.TheVariants.{V1, V2}
+use Rattle.smx_types.specs.declared.version.Version.TheVariants.{V2}
 use Rattle.smx_types.specs.declared.view.ConfigView.{ConfigView}
 use Rattle.smx_text.specs.ProgramLines as line
-use Rattle.smx_text.specs.ProgramsText.{line_words, program_lines, programs_grammar, programs_text, FitsLine}
-use Rattle.smx_text.specs.ProgramsText.{IsAllowed, body}
-use Rattle.smx_words.specs.Spelling.{bind_words, command_words, descriptor_words, driver_words}
-use Rattle.smx_words.specs.Spelling.{full_words, hung_words, link_words, message_words, next_words, route_words}
+use Rattle.smx_text.specs.ProgramsText.{line_words, program_lines, programs_grammar, programs_text, FitsLine, IsAllowed}
+use Rattle.smx_words.specs.Spelling.{bind_words, command_words, descriptor_words, driver_words, full_words, hung_words}
+use Rattle.smx_words.specs.Spelling.{link_words, message_words, next_words, route_words}
 use Rattle.smx_words.specs.Spellable.{FitsCommand, FitsCommandIn, FitsDriver, FitsNumber}
 use Rattle.smx_text.specs.Grammar.{header}
-use Rattle.smx_text.specs.TranscriptText.{view_body}
-use Rattle.smx_text.specs.TranscriptText.{line_words as transcript_words}
-use Rattle.smx_words.specs.Words.{LINE_FEED}
+use Rattle.smx_text.specs.TranscriptText.{view_body, line_words as transcript_words}
+use Rattle.smx_words.specs.Words.{LINE_FEED, line_of, text_of}
 use Rattle.smx_text.proofs.EachLemmas.{all_append, all_map}
 use Rattle.smx_text.proofs.BodyLemmas.{lines_add}
-use Rattle.smx_text.proofs.ReadingLemmas.{texts_append}
+use Rattle.smx_text.proofs.ReadingLemmas.{beginning_append, full_is, texts_append}
 use Rattle.smx_text.proofs.ProgramsVersionLemmas.{drivers_few, programs_fit}
-use Rattle.smx_words.specs.Words.{line_of, text_of}
 
 -- bytes followed by a line and its line feed are the bytes and then the text of that line
 pub one_line_more : (before : List ℕ) (ws : List (List ℕ))
@@ -66,13 +62,12 @@ program_fits ps i cs lt e number before commands =
 pub body_text : (v : ProgramLists) → programs_text v
     ≡ (header (programs_grammar v.version) ++ LINE_FEED ∷ []) ++ text_of (map driver_words v.drivers)
     ++ text_of (map line_words (program_lines 0 v.programs)) ++ codes "end\n"
-body_text v = by_version v.version where
-  by_version : (version : Version)
-      → text_of ((programs_grammar version).header_words ∷ map line_words (body v) ++ (codes "end" ∷ []) ∷ [])
-      ≡ (header (programs_grammar version) ++ LINE_FEED ∷ []) ++ text_of (map driver_words v.drivers)
-      ++ text_of (map line_words (program_lines 0 v.programs)) ++ codes "end\n"
-  by_version V1 = simp (map-append, map-map, texts_append, append_assoc)
-  by_version V2 = simp (map-append, map-map, texts_append, append_assoc)
+body_text v =
+    let g = programs_grammar v.version in
+    full_is g v ∙ ap (λ (bytes : List ℕ). bytes ++ codes "end\n")
+    (beginning_append g (map line.Driver v.drivers) (program_lines 0 v.programs)
+    ∙ ap (λ (ws : List (List (List ℕ))). (header g ++ LINE_FEED ∷ []) ++ text_of ws
+    ++ text_of (map line_words (program_lines 0 v.programs))) (map-map line_words line.Driver v.drivers))
 
 -- programs within the limits whose drivers and lines can be spelled are allowed in their version
 pub written_allowed : (v : ProgramLists) → AreWithinLimits v → AllByRecursion FitsDriver v.drivers

@@ -1,60 +1,51 @@
--- Programs texts with a misplaced line, or with a missing line.
-use Rattle.std.proofs.Common.{◌≡◌, ◌≢◌, ℕ, zero, suc, ◌+◌, ◌≤◌, List, [], ◌∷◌, ◌++◌, length, refl, sym, ap, subst}
-use Rattle.std.proofs.Common.{◌∙◌, append_assoc, arith, rules, inl, inr}
-use Rattle.std.specs.Fmt.{decimal}
-use Rattle.std.proofs.lemmas.List.{length-append}
-use Rattle.smx_types.specs.declared.command.Command.{Command}
-use Rattle.smx_words.specs.Words.{LINE_FEED}
+-- Programs texts with a misplaced line, a missing line, or a line over the limit.
+use Rattle.std.proofs.Common.{length, map, ◌≤◌, ℕ, zero, suc, List, [], ◌∷◌, ◌++◌, refl, sym, arith, rules, inl}
 use Rattle.std.specs.Fmt.{digits}
+use Rattle.std.specs.List.{AllByRecursion}
 use Rattle.std.specs.Prelude.{codes}
+use Rattle.std.proofs.lemmas.List.{append-nil}
 use Rattle.smx_types.specs.ProgramLists.{ProgramLists, program_lists}
 use Rattle.smx_types.specs.declared.command.Command.TheVariants as command
 use Rattle.smx_types.specs.declared.driver.DriverKind.TheVariants as kind
 use Rattle.smx_types.specs.declared.driver.DriverSpec.{DriverSpec}
+use Rattle.smx_types.specs.Versions.{most_drivers}
 use Rattle.smx_types.specs.declared.version.Version.{Version}
 use Rattle.smx_types.specs.declared.version.Version.TheVariants.{V1, V2}
+use Rattle.smx_words.specs.Spellable.{FitsDriver}
 use Rattle.smx_text.specs.declared.text_fault.Cause.TheVariants as cause
-use Rattle.smx_text.specs.Grammar.{IsBegun, beginning, header}
+use Rattle.smx_text.specs.Grammar.{IsBegun}
 use Rattle.smx_text.specs.ProgramLines.{Line}
 use Rattle.smx_text.specs.ProgramLines as line
-use Rattle.smx_text.specs.ProgramsText.{body, programs_grammar}
-use Rattle.smx_text.specs.WorkedFaults.{AreWrongPrograms, process_lines, with_line_4, with_processes}
-use Rattle.smx_text.proofs.ProgramsDecidedLemmas.{nothing_begun}
-use Rattle.smx_text.proofs.ProgramsGrammarLemmas.{refused_line}
-use Rattle.smx_text.proofs.ProgramsLemmas.{longer_begun, misplaced, too_many}
-use Rattle.smx_text.proofs.BodyLemmas.{added_process}
-use Rattle.smx_text.proofs.ReadingLemmas.{beginning_more}
-use Rattle.smx_text.proofs.LineWordLemmas.{differ}
-use Rattle.smx_text.proofs.WorkedFaultLemmas.{wrong_programs, wrong_in_each}
-use Rattle.smx_text.proofs.WrongCountLemmas.{many, repeated}
-use Rattle.smx_text.proofs.WrongCommandLemmas.{before, before_allowed, wrong_at_4}
+use Rattle.smx_text.specs.ProgramsText.{FitsLine, IsAllowed, body, programs_grammar}
+use Rattle.smx_text.specs.WorkedFaults.{AreWrongPrograms, with_drivers, with_line_4, with_processes}
+use Rattle.smx_text.proofs.EachLemmas.{all_map, all_push}
+use Rattle.smx_text.proofs.MachineLemmas.{nothing_begun}
+use Rattle.smx_text.proofs.ProgramsGrammarLemmas.{versions}
+use Rattle.smx_text.proofs.ProgramsMachineLemmas.{reader, stands}
+use Rattle.smx_text.proofs.WorkedFaultLemmas.{cut_text, misplaced_line, one_too_many, wrong_first, wrong_text}
+use Rattle.smx_text.proofs.WrongCommandLemmas.{before, before_allowed, ip}
 
 -- ---- the header, and nothing after it
 
 -- an empty text is cut at line 1
 pub nothing : AreWrongPrograms [] 1 cause.Cut
-nothing = wrong_programs V1 refl ([], [], inl (refl, refl), tt, refl)
+nothing = wrong_text versions V1 refl ([], [], inl (refl, refl), tt, refl)
 
 -- a header without its line feed is cut
 pub cut_header : AreWrongPrograms (codes "programs 1") 1 cause.Cut
-cut_header = wrong_programs V1 refl ([], codes "programs 1", inl (refl, refl), search rules, refl)
-
--- `programs 3` is not the header of any version
-other_number : (version : Version) → codes "programs 3" ≢ header (programs_grammar version)
-other_number V1 = differ (codes "programs 3") (codes "programs 1") refl
-other_number V2 = differ (codes "programs 3") (codes "programs 2") refl
+cut_header = wrong_text versions V1 refl ([], codes "programs 1", inl (refl, refl), search rules, refl)
 
 -- programs of version 3 have a wrong header
 pub version_3 : AreWrongPrograms (codes "programs 3\n") 1 cause.Header
-version_3 = wrong_in_each (λ version. (codes "programs 3", ([], search rules, refl), other_number version, refl))
+version_3 = wrong_first versions (codes "programs 3") [] (search rules) refl refl
 
 -- a header of version 1 with nothing after it is cut at line 2
 pub header_alone : AreWrongPrograms (codes "programs 1\n") 2 cause.Cut
-header_alone = wrong_programs V1 refl (codes "programs 1\n", [], inr ([], nothing_begun V1, refl, refl), tt, refl)
+header_alone = cut_text versions V1 [] [] (nothing_begun (reader V1)) tt
 
 -- a header of version 2 with nothing after it is cut at line 2
 pub version_2_alone : AreWrongPrograms (codes "programs 2\n") 2 cause.Cut
-version_2_alone = wrong_programs V2 refl (codes "programs 2\n", [], inr ([], nothing_begun V2, refl, refl), tt, refl)
+version_2_alone = cut_text versions V2 [] [] (nothing_begun (reader V2)) tt
 
 -- ---- misplaced lines
 
@@ -62,36 +53,29 @@ version_2_alone = wrong_programs V2 refl (codes "programs 2\n", [], inr ([], not
 abbrev eth : DriverSpec
 eth = record { name = codes "eth"; kind = kind.Leaf; minors = 2; high = 8; low = 3; max = 16 }
 
+-- the lines of allowed programs are a prefix of themselves
+begun_by : (v : ProgramLists) → IsAllowed v.version v → IsBegun (programs_grammar v.version) (body v)
+begun_by v allowed = (v, [], allowed, sym (append-nil (body v)))
+
 -- after process 0 comes process 1, not 2
 pub out_of_turn : AreWrongPrograms (with_line_4 (codes "process 2")) 4 cause.Form
 unfolding digits
 out_of_turn =
-    wrong_at_4 (codes "process 2") (search rules)
-    (refused_line V1 (body before) (line.Process 2) _ (omega arith) refl cause.Form
-    (misplaced V1 before (line.Process 2) (λ e. omega (arith, e))))
+    misplaced_line versions V1 (stands before) (begun_by before before_allowed) (line.Process 2) (omega arith)
+    (codes "end\n") refl
 
 -- no driver comes after a process
 pub late_driver : AreWrongPrograms (with_line_4 (codes "driver eth leaf 2 8 3 16")) 4 cause.Form
 unfolding digits
 late_driver =
-    wrong_at_4 (codes "driver eth leaf 2 8 3 16") (search rules)
-    (refused_line V1 (body before) (line.Driver eth) _ (search rules) refl cause.Form
-    (misplaced V1 before (line.Driver eth) (λ e. omega (arith, e))))
-
--- the line `clone ip`
-abbrev clone : Line
-clone = line.Command (command.OpenClone (codes "ip"))
+    misplaced_line versions V1 (stands before) (begun_by before before_allowed) (line.Driver eth) (search rules)
+    (codes "end\n") refl
 
 -- no command comes before the first process
 pub no_process : AreWrongPrograms (codes "programs 1\nclone ip\nend\n") 2 cause.Form
 no_process =
-    wrong_programs V1 refl (
-      [],
-      codes "clone ip",
-      record { begun = nothing_begun V1; next = (codes "end\n", search rules, refl); numbered = refl },
-      refused_line V1 [] clone _ (search rules) refl cause.Form
-          (misplaced V1 (program_lists [] []) clone (λ e. omega (arith, e))),
-    )
+    misplaced_line versions V1 (stands (program_lists [] [])) (nothing_begun (reader V1))
+    (line.Command (command.OpenClone (codes "ip"))) (search rules) (codes "end\n") refl
 
 -- ---- the end
 
@@ -106,96 +90,76 @@ no_command = program_lists [] ([] ∷ [])
 -- programs without the line `end` are cut at the line after their last one
 pub no_end : AreWrongPrograms (codes "programs 1\ndriver ip mux 4 8 3 16\nprocess 0\nclone ip\n") 5 cause.Cut
 unfolding digits
-no_end =
-    wrong_programs V1 refl (
-      codes "programs 1\ndriver ip mux 4 8 3 16\nprocess 0\nclone ip\n",
-      [],
-      inr (body one_command, (one_command, [], search (rules, arith), refl), refl, refl),
-      tt,
-      refl,
-    )
+no_end = cut_text versions V1 (body one_command) [] (begun_by one_command (search (rules, arith))) tt
 
 -- a last line without its line feed is cut
 pub cut_line : AreWrongPrograms (codes "programs 1\ndriver ip mux 4 8 3 16\nprocess 0\nclone ip") 4 cause.Cut
 unfolding digits
-cut_line =
-    wrong_programs V1 refl (
-      codes "programs 1\ndriver ip mux 4 8 3 16\nprocess 0\n",
-      codes "clone ip",
-      inr (body before, (before, [], before_allowed, refl), refl, refl),
-      search rules,
-      refl,
-    )
+cut_line = cut_text versions V1 (body before) (codes "clone ip") (begun_by before before_allowed) (search rules)
 
 -- nothing follows the end, not even a space
 pub a_space_behind : AreWrongPrograms (codes "programs 1\nprocess 0\nend\n ") 4 cause.Trailing
 unfolding digits
-a_space_behind = wrong_programs V1 refl (no_command, 32, [], search (rules, arith), refl, refl)
+a_space_behind = wrong_text versions V1 refl (no_command, 32, [], search (rules, arith), refl, refl)
 
--- ---- one process over the limit
+-- ---- one line over a limit
 
--- programs of version 1 with one driver and n processes without commands
-abbrev processes : ℕ → ProgramLists
-processes n = record { version = V1; drivers = before.drivers; programs = repeated [] n }
+-- a list of n elements, all equal to x
+abbrev pub repeated : {X : Type 0} → X → ℕ → List X
+repeated x zero = []
+repeated x (suc n) = repeated x n ++ x ∷ []
 
--- with one more process, the line of that process comes after the others
-body_of : (n : ℕ) → body (processes (suc n)) ≡ body (processes n) ++ line.Process n ∷ []
-body_of n = added_process before.drivers (repeated [] n) n (sym (many [] n))
+-- a property of an element holds of each element in a list that repeats it
+pub all_same : {X : Type 0} (P : X → Type 0) (x : X) (n : ℕ) → P x → AllByRecursion P (repeated x n)
+all_same P x zero h = tt
+all_same P x (suc n) h = all_push P (repeated x n) x (all_same P x n h) h
 
--- a text of one driver and n processes begins with its header, the driver and the lines of the processes
-text_of_processes : (n : ℕ) → beginning (programs_grammar V1) (body (processes n))
-    ≡ codes "programs 1\ndriver ip mux 4 8 3 16\n" ++ process_lines n
-unfolding digits
-text_of_processes zero = refl
-text_of_processes (suc n) =
-    ap (beginning (programs_grammar V1)) (body_of n)
-    ∙ beginning_more (programs_grammar V1) (body (processes n)) (line.Process n)
-    ∙ ap (λ (xs : List ℕ). xs ++ (codes "process " ++ (decimal n ++ codes "\n"))) (text_of_processes n)
-    ∙ append_assoc (codes "programs 1\ndriver ip mux 4 8 3 16\n") (process_lines n) _
-
--- one driver and up to 64 processes are a prefix of some allowed programs
-begun_by : (n : ℕ) → n ≤ 64 → IsBegun (programs_grammar V1) (body (processes n))
-begun_by zero most = (before, line.Process 0 ∷ [], before_allowed, refl)
-begun_by (suc n) most =
-    let long = many {X = List Command} [] n in
-    subst (IsBegun (programs_grammar V1)) (sym (body_of n))
-    (longer_begun V1 (processes n) (line.Process n) refl (begun_by n (omega (arith, most))) (sym long)
-    (omega (arith, long, most)) (omega (arith, most)))
-
--- one driver and n processes without a command have n + 1 lines
-body_long : (n : ℕ) → length (body (processes n)) ≡ n + 1
-body_long zero = refl
-body_long (suc n) =
-    omega (
-      arith,
-      ap (length {A = Line}) (body_of n),
-      length-append (body (processes n)) (line.Process n ∷ []),
-      body_long n,
-    )
-
--- a text of 65 processes begins with the lines of 64, followed by `process 64` and `end`
-process_65_is : with_processes 65 ≡ beginning (programs_grammar V1) (body (processes 64))
-    ++ (codes "process 64" ++ LINE_FEED ∷ codes "end\n")
-unfolding digits
-process_65_is =
-    ap (λ (xs : List ℕ). codes "programs 1\ndriver ip mux 4 8 3 16\n" ++ xs)
-    (append_assoc (process_lines 64) (codes "process 64\n") (codes "end\n"))
-    ∙ sym (append_assoc (codes "programs 1\ndriver ip mux 4 8 3 16\n") (process_lines 64) (codes "process 64\nend\n"))
-    ∙ ap (λ (xs : List ℕ). xs ++ codes "process 64\nend\n") (sym (text_of_processes 64))
+-- programs of version 1 with one driver and 64 processes without commands
+abbrev processes : ProgramLists
+processes = program_lists before.drivers (repeated [] 64)
 
 -- a 65th process is over the limit
 pub process_65 : AreWrongPrograms (with_processes 65) 67 cause.Many
 unfolding digits
 process_65 =
-    let long = many {X = List Command} [] 64 in
-    wrong_programs V1 refl (
-      body (processes 64),
-      codes "process 64",
-      record {
-        begun = begun_by 64 (omega arith);
-        next = (codes "end\n", search rules, process_65_is);
-        numbered = omega (arith, body_long 64);
-      },
-      refused_line V1 (body (processes 64)) (line.Process 64) (codes "process 64") (omega arith) refl cause.Many
-          (too_many V1 (processes 64) (line.Process 64) (sym long) (omega (arith, long))),
-    )
+    one_too_many versions V1 (stands processes) (begun_by processes (search (rules, arith))) (line.Process 64)
+    (omega arith) (codes "end\n") refl refl
+
+-- the driver `ip` can be spelled
+pub ip_fits : FitsDriver ip
+ip_fits = search (rules, arith)
+
+-- programs of a version with the driver `ip` n times, and no process
+abbrev drivers : Version → ℕ → ProgramLists
+drivers version n = record { version = version; drivers = repeated ip n; programs = [] }
+
+-- programs with the driver `ip` at most as often as a version allows are allowed in it
+drivers_begun : (version : Version) (n : ℕ) → length (drivers version n).drivers ≤ most_drivers version
+    → IsBegun (programs_grammar version) (body (drivers version n))
+drivers_begun version n few = (
+  drivers version n,
+  [],
+  record {
+    version_is = refl;
+    drivers = few;
+    programs = omega arith;
+    commands = omega arith;
+    fits = rw (append-nil (map line.Driver (repeated ip n)))
+        (all_map (FitsLine version) line.Driver (repeated ip n) (all_same FitsDriver ip n ip_fits));
+  },
+  sym (append-nil (body (drivers version n))),
+)
+
+-- in programs of version 1, a 65th driver is over the limit
+pub driver_65 : AreWrongPrograms (with_drivers (codes "programs 1\n") 65) 66 cause.Many
+unfolding digits
+driver_65 =
+    one_too_many versions V1 (stands (drivers V1 64)) (drivers_begun V1 64 (omega arith)) (line.Driver ip) ip_fits
+    (codes "end\n") refl refl
+
+-- in programs of version 2, a 129th driver is over the limit
+pub driver_129 : AreWrongPrograms (with_drivers (codes "programs 2\n") 129) 130 cause.Many
+unfolding digits
+driver_129 =
+    one_too_many versions V2 (stands (drivers V2 128)) (drivers_begun V2 128 (omega arith)) (line.Driver ip) ip_fits
+    (codes "end\n") refl refl

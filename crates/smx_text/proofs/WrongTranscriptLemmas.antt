@@ -1,75 +1,75 @@
 -- Transcripts with a misplaced line, a line that spells nothing, or a missing line.
-use Rattle.std.proofs.Common.{◌≡◌, ◌≢◌, ℕ, ◌+◌, ◌<◌, true, false, List, [], ◌∷◌, ◌++◌, length, refl, sym}
-use Rattle.std.proofs.Common.{ap, ◌∙◌, arith, rules, inr, None, Some}
+use Rattle.std.proofs.Common.{false, ◌≤◌, ◌≡◌, ◌≢◌, ℕ, ◌<◌, List, [], ◌∷◌, ◌++◌, length, map, refl}
+use Rattle.std.proofs.Common.{ap, ◌∙◌, arith, rules}
 use Rattle.std.specs.List.{AllByRecursion}
 use Rattle.std.specs.Fmt.{decimal, digits}
 use Rattle.std.specs.Prelude.{codes}
+use Rattle.std.specs.Str.{bytes_eq}
 use Rattle.std.specs.Str.Parse.{digits_value}
 use Rattle.std.proofs.lemmas.Fmt.{digits_value-decimal}
 use Rattle.smx_types.specs.declared.command.Command.{Command}
 use Rattle.smx_types.specs.declared.command.Command.TheVariants as command
 use Rattle.smx_types.specs.declared.command.Entry.{Entry as AnyEntry}
-use Rattle.smx_types.specs.declared.driver.DriverKind.TheVariants as kind
 use Rattle.smx_types.specs.declared.link.LinkKind.TheVariants as link
 use Rattle.smx_types.specs.declared.reply.Fault.{Fault}
 use Rattle.smx_types.specs.declared.reply.Fault.TheVariants as fault
 use Rattle.smx_types.specs.declared.reply.Reply.{Reply}
 use Rattle.smx_types.specs.declared.reply.Reply.TheVariants as reply
-use Rattle.smx_types.specs.Versions.{is_of_hangup}
 use Rattle.smx_types.specs.declared.stream.Side.TheVariants as side
 use Rattle.smx_types.specs.declared.transcript.Transcript.{Transcript}
+use Rattle.smx_types.specs.Versions.{most_drivers}
 use Rattle.smx_types.specs.declared.version.Version.{Version}
 use Rattle.smx_types.specs.declared.version.Version.TheVariants.{V1, V2}
-use Rattle.smx_words.specs.declared.reading.verb.Verb.TheVariants as verb
-use Rattle.smx_words.specs.Spellable.{FitsEntry, FitsEntryIn}
-use Rattle.smx_words.specs.Spelling.{command_words, entry_words, fault_words, reply_words}
+use Rattle.smx_words.specs.Spellable.{FitsDriver, FitsEntry}
+use Rattle.smx_words.specs.Spelling.{command_words, fault_words, reply_words}
 use Rattle.smx_words.specs.Words.{IsFree, SPACE, line_of}
 use Rattle.smx_words.proofs.NumberLemmas.{own}
-use Rattle.smx_words.proofs.SameCommandLemmas.{verb_first, verb_of}
-use Rattle.smx_words.proofs.SameReplyLemmas.{reply_verb_of, verb_again, verb_at}
-use Rattle.smx_words.proofs.SameWordLemmas.{fault_at, found_fault}
 use Rattle.smx_text.specs.declared.text_fault.Cause.TheVariants as cause
 use Rattle.smx_text.specs.declared.transcript.draft.Stage.TheVariants as stage
 use Rattle.smx_text.specs.declared.transcript.draft.TranscriptDraft.{TranscriptDraft}
 use Rattle.smx_text.specs.Drafts.{lines}
-use Rattle.smx_text.specs.Grammar.{HasNext, IsBegun, IsNoLine, IsOneLine, beginning, header, line_text}
+use Rattle.smx_text.specs.Grammar.{IsBegun, IsOneLine}
 use Rattle.smx_text.specs.TranscriptLines.{TranscriptLine}
 use Rattle.smx_text.specs.TranscriptLines as line
 use Rattle.smx_text.specs.TranscriptText.{FitsLine, line_words, transcript_grammar}
-use Rattle.smx_text.specs.WorkedFaults.{IsWrongTranscript, with_line_3, with_line_5}
-use Rattle.smx_text.proofs.TranscriptDraftLemmas.{draft}
-use Rattle.smx_text.proofs.TranscriptDrafts.{new_view, takes}
-use Rattle.smx_text.proofs.TranscriptGrammarLemmas.{kind_at, kind_first, kind_of, not_at_end, refused_line}
-use Rattle.smx_text.proofs.TranscriptGrammarLemmas.{spelling}
-use Rattle.smx_text.proofs.TranscriptLemmas.{misplaced, nothing_begun}
-use Rattle.smx_text.proofs.LineWordLemmas.{first_word, differ}
-use Rattle.smx_text.proofs.WorkedFaultLemmas.{told, wrong_transcript, wrong_transcript_in_each}
-use Rattle.smx_words.proofs.DecidedCommandLemmas.{entry_has_words}
-use Rattle.smx_words.proofs.InVersionLemmas.{none_in}
+use Rattle.smx_text.specs.WorkedFaults.{IsWrongTranscript, with_drivers, with_line_3, with_line_5}
+use Rattle.smx_text.proofs.EachLemmas.{all_append, all_map}
+use Rattle.smx_text.proofs.MachineLemmas.{nothing_begun}
+use Rattle.smx_text.proofs.TranscriptDrafts.{draft, new_view}
+use Rattle.smx_text.proofs.TranscriptGrammarLemmas.{versions}
+use Rattle.smx_text.proofs.TranscriptMachineLemmas.{reader, stands}
+use Rattle.smx_text.proofs.WorkedFaultLemmas.{cut_text, later_line, misplaced_line, one_too_many, wrong_first}
+use Rattle.smx_text.proofs.WorkedFaultLemmas.{wrong_words}
+use Rattle.smx_text.proofs.LineWordLemmas.{differ, other_first}
+use Rattle.smx_text.proofs.WrongCommandLemmas.{ip}
+use Rattle.smx_text.proofs.WrongProgramLemmas.{all_same, ip_fits, repeated}
 
 -- ---- the lines before the fault
 
--- a transcript with no driver, no entry and an empty view
-abbrev nothing : Transcript
-nothing = record { version = V1; drivers = []; entries = []; view = new_view 1 1 }
+-- a transcript of a version with the driver `ip` n times, no entry and an empty view
+abbrev drivers : Version → ℕ → Transcript
+drivers version n = record { version = version; drivers = repeated ip n; entries = []; view = new_view 1 1 }
 
--- a transcript with one driver, no entry and an empty view
-abbrev one_driver : Transcript
-one_driver =
-    record nothing {
-      drivers = record {
-        name = codes "ip";
-        kind = kind.Mux;
-        minors = 4;
-        high = 8;
-        low = 3;
-        max = 16;
-      } ∷ [];
-    }
+-- the lines of the driver `ip` at most as often as a version allows are a prefix of an allowed transcript
+drivers_begun : (version : Version) (n : ℕ) → length (drivers version n).drivers ≤ most_drivers version
+    → IsBegun (transcript_grammar version) (map line.Driver (repeated ip n))
+drivers_begun version n few = (
+  drivers version n,
+  line.Config ∷ line.Next 1 1 ∷ [],
+  record {
+    version_is = refl;
+    drivers = few;
+    entries = omega arith;
+    fits = all_append (FitsLine version) (map line.Driver (repeated ip n)) (line.Config ∷ line.Next 1 1 ∷ [])
+        (all_map (FitsLine version) line.Driver (repeated ip n) (all_same FitsDriver ip n ip_fits))
+        (search (rules, arith));
+  },
+  refl,
+)
 
 -- a transcript with no driver, no entry and a view of one link
 abbrev one_link : Transcript
-one_link = record nothing {
+one_link = record (drivers V1 0) {
   view = record (new_view 2 1) {
     links = record {
       id = 1;
@@ -82,83 +82,51 @@ one_link = record nothing {
   };
 }
 
--- a whole line that may not follow some lines has the fault `Form`
-wrong_line : (version : Version) {bytes : List ℕ} {n : ℕ} (ls : List TranscriptLine) (text : List ℕ)
-    → IsBegun (transcript_grammar version) ls → HasNext bytes (beginning (transcript_grammar version) ls) text
-    → n ≡ length ls + 2 → IsNoLine (transcript_grammar version) ls text → IsWrongTranscript bytes n cause.Form
-wrong_line version ls text begun next at none =
-    wrong_transcript version refl (ls, text, record { begun = begun; next = next; numbered = at }, none)
-
 -- a transcript of which `config` was read, and no line before it
 abbrev below_config : TranscriptDraft
-below_config = draft stage.Config nothing
+below_config = draft stage.Config (drivers V1 0)
 
--- a text that spells no line which may follow `config` gives line 3 the fault `Form`
-wrong_below_config : (text rest : List ℕ) → IsOneLine text → IsNoLine (transcript_grammar V1) (lines below_config) text
-    → IsWrongTranscript (codes "transcript 1\nconfig\n" ++ (text ++ 10 ∷ rest)) 3 cause.Form
-wrong_below_config text rest one none =
-    wrong_line V1 (lines below_config) text (nothing, line.Next 1 1 ∷ [], search (rules, arith), refl)
-    (rest, one, refl) refl none
+-- the line `config` is a prefix of an allowed transcript
+config_begun : IsBegun (transcript_grammar V1) (lines below_config)
+config_begun = (drivers V1 0, line.Next 1 1 ∷ [], search (rules, arith), refl)
 
 -- a transcript of which the line of one driver was read
 abbrev behind_driver : TranscriptDraft
-behind_driver = draft stage.History one_driver
+behind_driver = draft stage.History (drivers V1 1)
 
--- a text that spells no line which may follow one driver gives line 3 the fault `Form`
-wrong_at_3 : (text : List ℕ) → IsOneLine text → IsNoLine (transcript_grammar V1) (lines behind_driver) text
-    → IsWrongTranscript (with_line_3 text) 3 cause.Form
+-- the line of the driver is a prefix of an allowed transcript
+driver_begun : IsBegun (transcript_grammar V1) (lines behind_driver)
+driver_begun = drivers_begun V1 1 (omega arith)
+
+-- words of no line give line 3 the fault `Form`
+wrong_at_3 : (ws : List (List ℕ)) → AllByRecursion (IsFree SPACE) ws × (0 < length ws) × IsOneLine (line_of ws)
+    → ((k : TranscriptLine) → FitsLine V1 k → ws ≢ line_words k)
+    → IsWrongTranscript (with_line_3 (line_of ws)) 3 cause.Form
 unfolding digits
-wrong_at_3 text one none =
-    wrong_line V1 (lines behind_driver) text
-    (one_driver, line.Config ∷ line.Next 1 1 ∷ [], search (rules, arith), refl)
-    (codes "config\nnext 1 1\nend\n", one, refl) refl none
+wrong_at_3 ws plain none =
+    wrong_words versions V1 (lines behind_driver) ws (codes "config\nnext 1 1\nend\n") driver_begun plain none
 
 -- a transcript of which the line of one link was read, and no later group
 abbrev behind_link : TranscriptDraft
 behind_link = draft stage.View one_link
 
--- a text that spells no line which may follow one link gives line 5 the fault `Form`
-wrong_at_5 : (text : List ℕ) → IsOneLine text → IsNoLine (transcript_grammar V1) (lines behind_link) text
-    → IsWrongTranscript (with_line_5 text) 5 cause.Form
-unfolding digits
-wrong_at_5 text one none =
-    wrong_line V1 (lines behind_link) text (one_link, [], search (rules, arith), refl)
-    (codes "end\n", one, refl) refl none
-
--- a line that may not follow one link gives line 5 the fault `Form`
-misplaced_at_5 : (text : List ℕ) → IsOneLine text → (k : TranscriptLine) → FitsLine V1 k
-    → text ≡ line_text (transcript_grammar V1) k → takes behind_link k ≡ false
-    → IsWrongTranscript (with_line_5 text) 5 cause.Form
-misplaced_at_5 text one k fits is never =
-    wrong_at_5 text one (refused_line V1 (lines behind_link) k text fits is cause.Form (misplaced behind_link k never))
+-- the lines up to the link are a prefix of an allowed transcript
+link_begun : IsBegun (transcript_grammar V1) (lines behind_link)
+link_begun = (one_link, [], search (rules, arith), refl)
 
 -- ---- misplaced lines
 
--- `programs 1` is not the header of a transcript
-no_header : (version : Version) → codes "programs 1" ≢ header (transcript_grammar version)
-no_header V1 = differ (codes "programs 1") (codes "transcript 1") refl
-no_header V2 = differ (codes "programs 1") (codes "transcript 2") refl
-
 -- the header of programs is not that of a transcript
 pub other_header : IsWrongTranscript (codes "programs 1\nend\n") 1 cause.Header
-other_header =
-    wrong_transcript_in_each
-    (λ version. (codes "programs 1", (codes "end\n", search rules, refl), no_header version, refl))
-
--- `transcript 3` is not the header of any version
-other_number : (version : Version) → codes "transcript 3" ≢ header (transcript_grammar version)
-other_number V1 = differ (codes "transcript 3") (codes "transcript 1") refl
-other_number V2 = differ (codes "transcript 3") (codes "transcript 2") refl
+other_header = wrong_first versions (codes "programs 1") (codes "end\n") (search rules) refl refl
 
 -- transcripts of version 3 have a wrong header
 pub version_3 : IsWrongTranscript (codes "transcript 3\n") 1 cause.Header
-version_3 =
-    wrong_transcript_in_each (λ version. (codes "transcript 3", ([], search rules, refl), other_number version, refl))
+version_3 = wrong_first versions (codes "transcript 3") [] (search rules) refl refl
 
 -- a header of version 2 with nothing after it is cut at line 2
 pub version_2_alone : IsWrongTranscript (codes "transcript 2\n") 2 cause.Cut
-version_2_alone =
-    wrong_transcript V2 refl (codes "transcript 2\n", [], inr ([], nothing_begun V2, refl, refl), tt, refl)
+version_2_alone = cut_text versions V2 [] [] (nothing_begun (reader V2 (new_view 0 0))) tt
 
 -- the line of descriptor 0 of process 0, open on minor 0 of `ip`
 abbrev descriptor : TranscriptLine
@@ -168,91 +136,73 @@ descriptor = line.Fd (record { process = 0; fd = 0; driver = codes "ip"; minor =
 pub missing_next : IsWrongTranscript (codes "transcript 1\nconfig\nfd 0 0 ip 0\nend\n") 3 cause.Form
 unfolding digits
 missing_next =
-    wrong_below_config (codes "fd 0 0 ip 0") (codes "end\n") (search rules)
-    (refused_line V1 (lines below_config) descriptor (codes "fd 0 0 ip 0") (search (rules, arith)) refl
-    cause.Form (misplaced below_config descriptor refl))
+    misplaced_line versions V1 (stands below_config) config_begun descriptor (search (rules, arith))
+    (codes "end\n") refl
 
 -- the next id and serial may not be missing after `config`
 pub end_too_early : IsWrongTranscript (codes "transcript 1\nconfig\nend\n") 3 cause.Form
-end_too_early = wrong_below_config (codes "end") [] (search rules) (not_at_end below_config refl)
+end_too_early = misplaced_line versions V1 (stands below_config) config_begun line.End tt [] refl
 
 -- the next id and serial come only once
 pub two_nexts : IsWrongTranscript (with_line_5 (codes "next 2 1")) 5 cause.Form
 unfolding digits
-two_nexts = misplaced_at_5 (codes "next 2 1") (search rules) (line.Next 2 1) (search (rules, arith)) refl refl
+two_nexts =
+    misplaced_line versions V1 (stands behind_link) link_begun (line.Next 2 1) (search (rules, arith))
+    (codes "end\n") refl
 
 -- no entry comes after `config`
 pub late_entry : IsWrongTranscript (with_line_5 (codes "0 exit = done")) 5 cause.Form
 unfolding digits
 late_entry =
-    misplaced_at_5 (codes "0 exit = done") (search rules)
-    (line.Entry (record { process = 0; command = command.CloseAll; reply = reply.Done [] }))
-    (search (rules, arith)) refl refl
+    misplaced_line versions V1 (stands behind_link) link_begun
+    (line.Entry (record { process = 0; command = command.CloseAll; reply = reply.Done [] })) (search (rules, arith))
+    (codes "end\n") refl
 
 -- no descriptor comes after a link
 pub late_descriptor : IsWrongTranscript (with_line_5 (codes "fd 0 0 ip 0")) 5 cause.Form
 unfolding digits
-late_descriptor = misplaced_at_5 (codes "fd 0 0 ip 0") (search rules) descriptor (search (rules, arith)) refl refl
+late_descriptor =
+    misplaced_line versions V1 (stands behind_link) link_begun descriptor (search (rules, arith))
+    (codes "end\n") refl
 
 -- a transcript without the line `end` is cut at the line after its last one
 pub no_end : IsWrongTranscript (codes "transcript 1\nconfig\nnext 1 1\n") 4 cause.Cut
 unfolding digits
 no_end =
-    wrong_transcript V1 refl (
-      codes "transcript 1\nconfig\nnext 1 1\n",
-      [],
-      inr (line.Config ∷ line.Next 1 1 ∷ [], (nothing, [], search (rules, arith), refl), refl, refl),
-      tt,
-      refl,
-    )
+    cut_text versions V1 (line.Config ∷ line.Next 1 1 ∷ []) [] (drivers V1 0, [], search (rules, arith), refl) tt
 
 -- a transcript of version 2 with one hung-up stream, and nothing else
 abbrev one_hung : Transcript
-one_hung = record {
-  version = V2;
-  drivers = [];
-  entries = [];
+one_hung = record (drivers V2 0) {
   view = record (new_view 1 1) { hungs = record { driver = codes "eth"; minor = 0 } ∷ [] };
 }
-
--- a transcript of which the line of one hung-up stream was read
-abbrev behind_hung : TranscriptDraft
-behind_hung = draft stage.View one_hung
-
--- the line of a full place, on the read side of minor 0 of `eth`
-abbrev full_place : TranscriptLine
-full_place = line.Full (record { driver = codes "eth"; minor = 0; side = side.Read })
 
 -- no full place comes after a hung-up stream
 pub late_full_place : IsWrongTranscript
     (codes "transcript 2\nconfig\nnext 1 1\nhung eth 0\nfull eth 0 r\nend\n") 5 cause.Form
 unfolding digits
 late_full_place =
-    wrong_line V2 (lines behind_hung) (codes "full eth 0 r") (one_hung, [], search (rules, arith), refl)
-    (codes "end\n", search rules, refl) refl
-    (refused_line V2 (lines behind_hung) full_place (codes "full eth 0 r") (search (rules, arith)) refl cause.Form
-    (misplaced behind_hung full_place refl))
+    misplaced_line versions V2 (stands (draft stage.View one_hung)) (one_hung, [], search (rules, arith), refl)
+    (line.Full (record { driver = codes "eth"; minor = 0; side = side.Read })) (search (rules, arith))
+    (codes "end\n") refl
+
+-- ---- one driver over the limit
+
+-- in a transcript of version 1, a 65th driver is over the limit
+pub driver_65_of_a_transcript : IsWrongTranscript (with_drivers (codes "transcript 1\n") 65) 66 cause.Many
+unfolding digits
+driver_65_of_a_transcript =
+    one_too_many versions V1 (stands (draft stage.History (drivers V1 64))) (drivers_begun V1 64 (omega arith))
+    (line.Driver ip) ip_fits (codes "end\n") refl refl
+
+-- in a transcript of version 2, a 129th driver is over the limit
+pub driver_129_of_a_transcript : IsWrongTranscript (with_drivers (codes "transcript 2\n") 129) 130 cause.Many
+unfolding digits
+driver_129_of_a_transcript =
+    one_too_many versions V2 (stands (draft stage.History (drivers V2 128))) (drivers_begun V2 128 (omega arith))
+    (line.Driver ip) ip_fits (codes "end\n") refl refl
 
 -- ---- lines that spell nothing of their kind
-
--- words that are no line of the kind that their first word names are no line of a transcript
-no_kind : (ls : List TranscriptLine) (n : ℕ) (ws : List (List ℕ)) → AllByRecursion (IsFree SPACE) ws × (0 < length ws)
-    → kind_at (first_word ws) ≡ n
-    → ((k : TranscriptLine) → FitsLine V1 k → ws ≡ line_words k → kind_of k ≡ n → ⊥)
-    → IsNoLine (transcript_grammar V1) ls (line_of ws)
-no_kind ls n ws free is none k fits may e =
-    let same = told ws (line_words k) free (spelling V1 k fits) e in
-    none k fits same (sym (kind_first V1 k fits)
-    ∙ ap (λ (vs : List (List ℕ)). kind_at (first_word vs)) (sym same) ∙ is)
-
--- words that begin like an entry but are no entry are no line after one driver
-no_entry : (ws : List (List ℕ)) → AllByRecursion (IsFree SPACE) ws × (0 < length ws)
-    → kind_at (first_word ws) ≡ 0 → ((e : AnyEntry) → FitsEntryIn V1 e → ws ≢ entry_words e)
-    → IsNoLine (transcript_grammar V1) (lines behind_driver) (line_of ws)
-no_entry ws free digit none = no_kind (lines behind_driver) 0 ws free digit by_kind where
-  by_kind : (k : TranscriptLine) → FitsLine V1 k → ws ≡ line_words k → kind_of k ≡ 0 → ⊥
-  by_kind (line.Entry x) fits same entry = none x fits same
-  by_kind k fits same entry = absurd (cc entry)
 
 -- the process of an entry is not 64
 process_wrong : (e : AnyEntry) → FitsEntry e → codes "64" ≢ decimal e.process
@@ -263,80 +213,74 @@ process_wrong e fits is =
 
 -- the processes of entries go up to 63
 pub process_64 : IsWrongTranscript (with_line_3 (codes "64 clone ip = fd 0 0")) 3 cause.Form
-process_64 =
-    wrong_at_3 (codes "64 clone ip = fd 0 0") (search rules)
-    (no_entry (codes "64" ∷ codes "clone" ∷ codes "ip" ∷ codes "=" ∷ codes "fd" ∷ codes "0" ∷ codes "0" ∷ [])
-    (search rules, omega arith) refl (λ e fits is. process_wrong e fits.0 (cc is)))
+process_64 = wrong_at_3 (codes "64" ∷ codes "clone" ∷ codes "ip" ∷ codes "=" ∷ codes "fd" ∷ codes "0" ∷ codes "0" ∷ [])
+    (search rules, omega arith, search rules) none where
+      none : (k : TranscriptLine) → FitsLine V1 k
+          → codes "64" ∷ codes "clone" ∷ codes "ip" ∷ codes "=" ∷ codes "fd" ∷ codes "0" ∷ codes "0" ∷ [] ≢ line_words k
+      none (line.Entry e) fits is = process_wrong e fits.0 (cc is)
+      none k fits is = other_first _ _ refl is
 
--- `EINVAL` alone is not the words of a fault, which are two
-no_fault : (f : Fault) → codes "EINVAL" ∷ [] ≢ fault_words f
-no_fault f e =
-    let none : None ≡ Some f = ap fault_at e ∙ found_fault f in
-    absurd (cc none)
+-- the words of no fault are `EINVAL` alone
+no_fault : (f : Fault) → bytes_eq (codes "EINVAL") (line_of (fault_words f)) ≡ false
+no_fault fault.NoMinor = refl
+no_fault f = refl
 
 -- `EINVAL` alone is not the words of a reply
 no_reply : (r : Reply) → codes "EINVAL" ∷ [] ≢ reply_words r
-no_reply r e = by_kind r (sym (verb_again r) ∙ ap verb_at (sym e)) e where
-  by_kind : (r : Reply) → reply_verb_of r ≡ None → codes "EINVAL" ∷ [] ≢ reply_words r
-  by_kind (reply.Fault f) v e = no_fault f e
-  by_kind r v e = absurd (cc v)
+no_reply (reply.Fault f) e = differ (codes "EINVAL") (line_of (fault_words f)) (no_fault f) (ap line_of e)
+no_reply r e = other_first _ _ refl e
 
 -- no command with its reply has the words `clone ip = EINVAL`
-half_reply : (c : Command) (r : Reply) → codes "clone" ∷ codes "ip" ∷ codes "=" ∷ codes "EINVAL"
-    ∷ [] ≢ command_words c ++ codes "=" ∷ reply_words r
-half_reply c r e = by_kind c (verb_first c verb.Clone _ _ e) e where
-  by_kind : (c : Command) → verb_of c ≡ verb.Clone
-      → codes "clone" ∷ codes "ip" ∷ codes "=" ∷ codes "EINVAL" ∷ [] ≢ command_words c
-      ++ codes "=" ∷ reply_words r
-  by_kind (command.OpenClone d) v e = no_reply r (cc e)
-  by_kind c v e = absurd (cc v)
+half_reply : (c : Command) (r : Reply)
+    → codes "clone" ∷ codes "ip" ∷ codes "=" ∷ codes "EINVAL" ∷ [] ≢ command_words c ++ codes "=" ∷ reply_words r
+half_reply (command.OpenClone d) r e = no_reply r (cc e)
+half_reply c r e = other_first _ _ refl e
 
 -- `EINVAL` alone is not a reply: a second word names its cause
 pub half_a_fault : IsWrongTranscript (with_line_3 (codes "0 clone ip = EINVAL")) 3 cause.Form
 half_a_fault =
-    wrong_at_3 (codes "0 clone ip = EINVAL") (search rules)
-    (no_entry (codes "0" ∷ codes "clone" ∷ codes "ip" ∷ codes "=" ∷ codes "EINVAL" ∷ [])
-    (search rules, omega arith) refl (λ e fits is. half_reply e.command e.reply (cc is)))
+    wrong_at_3 (codes "0" ∷ codes "clone" ∷ codes "ip" ∷ codes "=" ∷ codes "EINVAL" ∷ [])
+    (search rules, omega arith, search rules) none where
+      none : (k : TranscriptLine) → FitsLine V1 k
+          → codes "0" ∷ codes "clone" ∷ codes "ip" ∷ codes "=" ∷ codes "EINVAL" ∷ [] ≢ line_words k
+      none (line.Entry e) fits is = half_reply e.command e.reply (cc is)
+      none k fits is = other_first _ _ refl is
 
 -- ---- lines of version 2 only
 
--- an entry of version 2 only, as line 3 of a text of version 1
-later_entry : (x : AnyEntry) → FitsEntry x → is_of_hangup x ≡ true
-    → AllByRecursion (IsFree SPACE) (entry_words x) × (0 < length (entry_words x)) → IsOneLine (line_of (entry_words x))
-    → kind_at (first_word (entry_words x)) ≡ 0 → IsWrongTranscript (with_line_3 (line_of (entry_words x))) 3 cause.Form
-later_entry x fits hangup free one digit =
-    wrong_at_3 (line_of (entry_words x)) one (no_entry (entry_words x) free digit (λ e told same.
-    none_in entry_has_words is_of_hangup V1 (line_of (entry_words x)) x fits refl (λ can. absurd (cc (can, hangup))) e
-    told (ap line_of same)))
+-- a line that fits version 1 fits version 2
+first_too : (k : TranscriptLine) → FitsLine V1 k → FitsLine V2 k × (line_of (line_words k) ≡ line_of (line_words k))
+first_too (line.Entry e) fits = ((fits.0, tt), refl)
+first_too (line.Hung h) fits = ((fits.0, tt), refl)
+first_too k fits = (fits, refl)
 
 -- version 1 has no entry of a hangup
 pub hangup_in_version_1 : IsWrongTranscript (with_line_3 (codes "0 hangup ip 0 = done")) 3 cause.Form
 unfolding digits
 hangup_in_version_1 =
-    later_entry (record { process = 0; command = command.Hangup (codes "ip") 0; reply = reply.Done [] })
-    (search (rules, arith)) refl (search rules, omega arith) (search rules) refl
+    later_line versions first_too (lines behind_driver)
+    (line.Entry (record { process = 0; command = command.Hangup (codes "ip") 0; reply = reply.Done [] }))
+    (codes "config\nnext 1 1\nend\n") driver_begun (search (rules, arith)) (λ fits. absurd (cc fits.1))
 
 -- version 1 has no reply `eof`
 pub end_of_file : IsWrongTranscript (with_line_3 (codes "0 read 0 = eof")) 3 cause.Form
 unfolding digits
 end_of_file =
-    later_entry (record { process = 0; command = command.Read 0; reply = reply.Eof })
-    (search (rules, arith)) refl (search rules, omega arith) (search rules) refl
+    later_line versions first_too (lines behind_driver)
+    (line.Entry (record { process = 0; command = command.Read 0; reply = reply.Eof }))
+    (codes "config\nnext 1 1\nend\n") driver_begun (search (rules, arith)) (λ fits. absurd (cc fits.1))
 
 -- version 1 has no refusal for a hangup
 pub refusal : IsWrongTranscript (with_line_3 (codes "0 read 0 = ENXIO hangup")) 3 cause.Form
 unfolding digits
 refusal =
-    later_entry (record { process = 0; command = command.Read 0; reply = reply.Fault fault.HungUp })
-    (search (rules, arith)) refl (search rules, omega arith) (search rules) refl
+    later_line versions first_too (lines behind_driver)
+    (line.Entry (record { process = 0; command = command.Read 0; reply = reply.Fault fault.HungUp }))
+    (codes "config\nnext 1 1\nend\n") driver_begun (search (rules, arith)) (λ fits. absurd (cc fits.1))
 
 -- version 1 has no hung-up stream in a view
 pub hung_up_stream : IsWrongTranscript (with_line_5 (codes "hung eth 0")) 5 cause.Form
+unfolding digits
 hung_up_stream =
-    wrong_at_5 (codes "hung eth 0") (search rules)
-    (no_kind (lines behind_link) 10 (codes "hung" ∷ codes "eth" ∷ codes "0" ∷ []) (search rules, omega arith) refl
-    by_kind) where
-      by_kind : (k : TranscriptLine) → FitsLine V1 k → codes "hung" ∷ codes "eth" ∷ codes "0" ∷ [] ≡ line_words k
-          → kind_of k ≡ 10 → ⊥
-      by_kind (line.Hung h) fits same hung = absurd (cc fits.1)
-      by_kind k fits same hung = absurd (cc hung)
+    later_line versions first_too (lines behind_link) (line.Hung (record { driver = codes "eth"; minor = 0 }))
+    (codes "end\n") link_begun (search (rules, arith)) (λ fits. absurd (cc fits.1))

@@ -13,6 +13,7 @@ ghost use Rattle.smx_text.specs.TranscriptLines.{Entry as EntryLine};
 ghost use Rattle.smx_text.specs.declared.transcript.draft.Stage.TheVariants.{History};
 ghost use Rattle.smx_types.specs.declared.limits.TheConstants.{MAX_COMMANDS};
 
+use super::groups::push_if;
 use crate::reading::Draft;
 use crate::text_fault::Cause;
 use smx_types::{
@@ -133,7 +134,9 @@ impl TranscriptDraft {
         ensures version { OnOk result (self.new.transcript.version ≡ self.old.transcript.version) }
     {
         match message_of(alloc, text) {
-            Ok(Some(message)) => return self.add_message(message),
+            Ok(Some(message)) => {
+                return push_if(self.takes_msgs(), &mut self.transcript.view.msgs, message);
+            }
             Err(NoMemory) if self.takes_msgs() => return Err(Cause::NoMemory),
             Err(NoMemory) => return Err(Cause::Form),
             Ok(None) => {}

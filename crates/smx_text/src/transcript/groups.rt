@@ -10,16 +10,16 @@ ghost use Rattle.smx_words.specs.Spelling.{entry_words, message_words, driver_wo
 ghost use Rattle.smx_words.specs.Spellable.{FitsDriver, FitsEntryIn, FitsMessage, FitsNext};
 ghost use Rattle.smx_text.specs.TranscriptText.{FitsHungIn};
 ghost use Rattle.smx_text.specs.Grammar.{IsBegun, line_text};
-ghost use Rattle.smx_text.specs.Reading.{AnswersLine, AnswersText};
+ghost use Rattle.smx_text.specs.Reading.{AnswersText};
 ghost use Rattle.smx_text.specs.Drafts.{lines, takes_fds, takes_links, takes_binds, takes_routes, takes_msgs};
 ghost use Rattle.smx_text.specs.Drafts.{takes_fulls, takes_hungs, grammar_of};
 ghost use Rattle.smx_types.specs.declared.driver.DriverSpec.{DriverSpec as AnyDriver};
-ghost use Rattle.smx_text.specs.TranscriptLines.{Config as ConfigLine, Msg as MsgLine, End};
+ghost use Rattle.smx_text.specs.TranscriptLines.{Config as ConfigLine, End};
 ghost use Rattle.smx_text.specs.declared.text_fault.Cause.TheVariants.{Form, NoMemory};
 
 use super::draft::{Stage, TranscriptDraft};
 use crate::text_fault::Cause;
-use smx_types::{HungLine, Items, MessageLine, Version};
+use smx_types::{HungLine, Items, Version};
 use smx_words::{bind_of, descriptor_of, full_of, hung_of, link_of, route_of};
 
 impl TranscriptDraft {
@@ -66,16 +66,6 @@ impl TranscriptDraft {
             Some(hung) => push_if(self.takes_hungs(), &mut self.transcript.view.hungs, hung),
             None => Err(Cause::Form),
         }
-    }
-
-    pub fn add_message(&mut self, message: MessageLine) -> Result<(), Cause>
-        requires begun { IsBegun (grammar_of self.old) (lines self.old) }
-        requires fits { FitsMessage message }
-        ensures answers { AnswersLine (grammar_of self.old) (lines self.old) (MsgLine message)
-            (lines self.new) result }
-        ensures version { OnOk result (self.new.transcript.version ≡ self.old.transcript.version) }
-    {
-        push_if(self.takes_msgs(), &mut self.transcript.view.msgs, message)
     }
 
     // Returns whether a hung-up stream may follow: `next` was read. (No group comes after the hung-up streams.)
@@ -129,7 +119,7 @@ impl TranscriptDraft {
 }
 
 // Appends a line to its group if `takes` is true. Otherwise fails with `Form`.
-fn push_if<T: Drop>(takes: bool, group: &mut Items<T>, line: T) -> Result<(), Cause>
+pub fn push_if<T: Drop>(takes: bool, group: &mut Items<T>, line: T) -> Result<(), Cause>
     ensures pushed { OnOk result ((takes ≡ true) × (group.new ≡ group.old ++ line ∷ [])) }
     ensures refused { IfErr result (λ why. why ≡ if takes then NoMemory else Form) }
 {

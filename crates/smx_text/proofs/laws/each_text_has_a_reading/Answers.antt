@@ -1,6 +1,5 @@
 use Rattle.smx_text.specs.ProgramsText.{programs_grammar}
-use Rattle.smx_text.proofs.ProgramsDecidedLemmas.{programs_have_reading}
-use Rattle.smx_text.proofs.ProgramsGrammarLemmas.{versions}
+use Rattle.smx_text.proofs.ProgramsGrammarLemmas.{programs_have_reading, versions}
 use Rattle.smx_text.proofs.VersionLemmas.{has_reading_of_all}
 use Rattle.smx_text.proofs.laws.each_text_has_a_reading.Goals as goal
 

@@ -1,6 +1,5 @@
 use Rattle.smx_text.specs.TranscriptText.{transcript_grammar}
-use Rattle.smx_text.proofs.TranscriptDecidedLemmas.{transcripts_have_reading}
-use Rattle.smx_text.proofs.TranscriptGrammarLemmas.{versions}
+use Rattle.smx_text.proofs.TranscriptGrammarLemmas.{transcripts_have_reading, versions}
 use Rattle.smx_text.proofs.VersionLemmas.{has_reading_of_all}
 use Rattle.smx_text.proofs.laws.each_transcript_has_a_reading.Goals as goal
 

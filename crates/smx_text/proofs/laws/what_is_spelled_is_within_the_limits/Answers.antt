@@ -1,4 +1,4 @@
-use Rattle.smx_text.proofs.ProgramsLemmas.{allowed_within}
+use Rattle.smx_text.proofs.ProgramsMachineLemmas.{allowed_within}
 use Rattle.smx_text.proofs.laws.what_is_spelled_is_within_the_limits.Goals as goal
 
 pub returns-clause-programs : goal.returns-clause-programs

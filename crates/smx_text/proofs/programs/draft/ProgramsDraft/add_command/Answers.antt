@@ -1,11 +1,11 @@
-use Rattle.std.proofs.Common.{◌≡◌, ◌-◌, ◌<◌, List, length, ap, ◌∙◌, rules, refl}
+use Rattle.std.proofs.Common.{◌≡◌, ◌-◌, ◌<◌, List, length, ap, ◌∙◌, rules}
 use Rattle.std.proofs.Math.ListN.{set}
 use Rattle.smx_types.specs.ProgramLists.{ProgramLists}
 use Rattle.smx_types.specs.declared.command.Command.{Command}
 use Rattle.smx_text.specs.ProgramLines as line
 use Rattle.smx_text.proofs.BodyLemmas.{last_more}
-use Rattle.smx_text.proofs.ProgramsFollowLemmas.{with_line}
-use Rattle.smx_text.proofs.ProgramsLemmas.{taken_more, longer_begun}
+use Rattle.smx_text.proofs.MachineLemmas.{adds, longer_begun}
+use Rattle.smx_text.proofs.ProgramsMachineLemmas.{stands, with_line}
 use Rattle.smx_text.proofs.programs.draft.ProgramsDraft.add_command.Goals as goal
 
 pub returns-in_err-room_for_command-clause-answers : goal.returns-in_err-room_for_command-clause-answers
@@ -15,8 +15,8 @@ returns-in_err-room_for_command-clause-answers c =
 pub returns-in_err-push-clause-answers : goal.returns-in_err-push-clause-answers
 returns-in_err-push-clause-answers c =
     let room =
-    longer_begun c.args.self.now.version c.args.self.now (line.Command c.args.command) refl c.requires.begun
-    (search rules) (search rules) c.requires.fits in
+    longer_begun (stands c.args.self.now) (line.Command c.args.command) c.requires.begun
+    (search rules) (search rules) c.requires.fits (λ e. cc) in
     search rules
 
 pub returns-clause-answers : goal.returns-clause-answers
@@ -35,5 +35,5 @@ returns-clause-answers c =
     let same : more ≡ with_line c.args.self.now (line.Command c.args.command) =
     ap (λ (ps : List (List Command)). record more { programs = ps }) last
     ∙ ap (λ (v : ProgramLists). with_line v (line.Command c.args.command)) now in
-    taken_more c.args.self.now.version c.args.self.now more (line.Command c.args.command) refl same c.requires.begun
-    (search rules) (search rules) c.requires.fits
+    adds {e = more} (stands c.args.self.now) (line.Command c.args.command) same c.requires.begun
+    (search rules) (search rules) c.requires.fits (λ e. cc)

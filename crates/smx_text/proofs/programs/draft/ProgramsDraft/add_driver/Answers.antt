@@ -1,22 +1,23 @@
-use Rattle.std.proofs.Common.{rules, refl}
+use Rattle.std.proofs.Common.{rules}
 use Rattle.smx_types.specs.ProgramLists.{ProgramLists}
 use Rattle.smx_text.specs.ProgramLines as line
-use Rattle.smx_text.proofs.ProgramsLemmas.{misplaced, too_many, taken_more, longer_begun}
+use Rattle.smx_text.proofs.MachineLemmas.{misplaced, too_many, adds, longer_begun}
+use Rattle.smx_text.proofs.ProgramsMachineLemmas.{stands}
 use Rattle.smx_text.proofs.programs.draft.ProgramsDraft.add_driver.Goals as goal
 
 pub returns-then-not-is_empty-clause-answers : goal.returns-then-not-is_empty-clause-answers
 returns-then-not-is_empty-clause-answers c =
-    misplaced c.args.self.now.version c.args.self.now (line.Driver c.args.driver) (search rules)
+    misplaced (stands c.args.self.now) (line.Driver c.args.driver) (search rules)
 
 pub returns-then-len-max_drivers-clause-answers : goal.returns-then-len-max_drivers-clause-answers
 returns-then-len-max_drivers-clause-answers c =
-    too_many c.args.self.now.version c.args.self.now (line.Driver c.args.driver) (search rules) (search rules)
+    too_many (stands c.args.self.now) (line.Driver c.args.driver) (search rules) (search rules)
 
 pub returns-in_err-push-clause-answers : goal.returns-in_err-push-clause-answers
 returns-in_err-push-clause-answers c =
     let room =
-    longer_begun c.args.self.now.version c.args.self.now (line.Driver c.args.driver) refl c.requires.begun
-    (search rules) (search rules) c.requires.fits in
+    longer_begun (stands c.args.self.now) (line.Driver c.args.driver) c.requires.begun
+    (search rules) (search rules) c.requires.fits (λ e. cc) in
     search rules
 
 pub returns-clause-answers : goal.returns-clause-answers
@@ -26,5 +27,5 @@ returns-clause-answers c =
       drivers = c.push.new.self.items;
       programs = c.self.inside.programs.items;
     } in
-    taken_more c.args.self.now.version c.args.self.now more (line.Driver c.args.driver) refl (search rules)
-    c.requires.begun (search rules) (search rules) c.requires.fits
+    adds {e = more} (stands c.args.self.now) (line.Driver c.args.driver) (search rules)
+    c.requires.begun (search rules) (search rules) c.requires.fits (λ e. cc)

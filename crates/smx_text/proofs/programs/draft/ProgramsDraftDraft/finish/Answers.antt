@@ -1,6 +1,7 @@
-use Rattle.std.proofs.Common.{◌≡◌, sym, subst, rules}
+use Rattle.std.proofs.Common.{◌≡◌, refl, sym, subst, rules}
 use Rattle.smx_types.specs.ProgramLists.{AreWithinLimits}
-use Rattle.smx_text.proofs.ProgramsLemmas.{begun_within, finished}
+use Rattle.smx_text.proofs.MachineLemmas.{finished}
+use Rattle.smx_text.proofs.ProgramsMachineLemmas.{begun_within, stands}
 use Rattle.smx_text.proofs.programs.draft.ProgramsDraftDraft.finish.Goals as goal
 
 pub in_version-requires : goal.in_version-requires
@@ -13,4 +14,6 @@ in_version-requires c =
     subst AreWithinLimits (sym same) (begun_within c.args.self c.requires.begun)
 
 pub returns : goal.returns
-returns c = finished c.args.self c.in_version.result (search rules) c.requires.begun
+returns c =
+    let same : c.in_version.result ≡ c.args.self = search rules in
+    rw same (finished (stands c.args.self) c.requires.begun refl)

@@ -1,10 +1,25 @@
-use Rattle.std.proofs.Common.{rules}
-use Rattle.smx_text.proofs.TranscriptGrammarLemmas.{not_at_end}
-use Rattle.smx_text.proofs.TranscriptLemmas.{whole}
+use Rattle.std.proofs.Common.{◌≡◌, Some, ap, refl, rules, subst}
+use Rattle.smx_types.specs.declared.transcript.Transcript.{Transcript}
+use Rattle.smx_text.specs.declared.text_fault.Cause.TheVariants as cause
+use Rattle.smx_text.specs.declared.transcript.draft.Stage.{Stage}
+use Rattle.smx_text.specs.declared.transcript.draft.Stage.TheVariants as stage
+use Rattle.smx_text.specs.Drafts.{grammar_of, lines}
+use Rattle.smx_text.specs.Reading.{EndsAs}
+use Rattle.smx_text.specs.TranscriptLines as line
+use Rattle.smx_text.proofs.MachineLemmas.{finished, misplaced}
+use Rattle.smx_text.proofs.TranscriptDrafts.{seen}
+use Rattle.smx_text.proofs.GrammarLemmas.{refuses}
+use Rattle.smx_text.proofs.TranscriptGrammarLemmas.{well_made}
+use Rattle.smx_text.proofs.TranscriptMachineLemmas.{stands}
 use Rattle.smx_text.proofs.transcript.draft.TranscriptDraftDraft.finish.Goals as goal
 
 pub returns-then-ne : goal.returns-then-ne
-returns-then-ne c = not_at_end c.args.self (search rules)
+returns-then-ne c =
+    refuses (well_made _) _ line.End _ tt refl cause.Form (misplaced (stands c.args.self) line.End (search rules))
 
 pub returns : goal.returns
-returns c = whole c.args.self c.requires.begun (search rules)
+returns c =
+    let view : c.args.self.stage ≡ stage.View = search rules in
+    let same = ap (λ (s : Stage). record c.args.self.transcript { view = seen s c.args.self.transcript.view }) view in
+    subst (λ (t : Transcript). EndsAs (grammar_of c.args.self) (lines c.args.self) (Some t)) same
+    (finished (stands c.args.self) c.requires.begun (search rules))
