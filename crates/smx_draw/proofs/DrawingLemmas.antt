@@ -1,6 +1,6 @@
 -- Texts that were drawn piece by piece, and what they contain.
 use Rattle.std.proofs.Common.{◌≡◌, ℕ, ◌+◌, ◌<◌, List, [], ◌∷◌, ◌++◌, length, get_or, take, append-nil, append_assoc}
-use Rattle.std.proofs.Common.{refl, sym, ap, ◌∙◌, subst}
+use Rattle.std.proofs.Common.{sym, ap, ◌∙◌, subst}
 use Rattle.std.proofs.lemmas.List.{take_more}
 use Rattle.std.specs.List.{AllByRecursion, flat_map}
 use Rattle.smx_draw.specs.Drawing.{Draws, HasPart}
@@ -67,11 +67,6 @@ each_still_there element xs text more =
     all_of (λ x. (at : Area) × HasPart text (element x at)) (λ x. (at : Area) × HasPart (text ++ more) (element x at))
     (λ x h. (h.0, still_there text (element x h.0) more h.1)) xs
 
--- a text that was written in four steps
-pub four_put : (a b c d one two three four : List ℕ) → one ≡ a → two ≡ one ++ b → three ≡ two ++ c → four ≡ three ++ d
-    → four ≡ a ++ (b ++ (c ++ d))
-four_put a b c d one two three four e1 e2 e3 e4 = rw (e4, e3, e2, e1) (simp append_assoc)
-
 -- a text to which five others were appended
 pub put_five : (old a b c d e one two three four five : List ℕ) → one ≡ old ++ a → two ≡ one ++ b → three ≡ two ++ c
     → four ≡ three ++ d → five ≡ four ++ e → five ≡ old ++ (a ++ (b ++ (c ++ (d ++ e))))
@@ -83,7 +78,7 @@ any [] = 0
 any (c ∷ text) = 1
 
 -- the empty text contains no part, unless that is empty
-pub is_empty : (part : List ℕ) → HasPart [] part → any part ≡ 0
-is_empty [] h = refl
-is_empty (c ∷ part) ([], after, e) = sym (ap any e)
-is_empty (c ∷ part) (b ∷ before, after, e) = sym (ap any e)
+pub nothing_in : (part : List ℕ) → any part ≡ 1 → HasPart [] part → ⊥
+nothing_in [] some h = absurd (cc some)
+nothing_in (c ∷ part) some ([], after, e) = absurd (cc e)
+nothing_in (c ∷ part) some (b ∷ before, after, e) = absurd (cc e)

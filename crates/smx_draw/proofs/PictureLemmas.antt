@@ -3,7 +3,7 @@ use Rattle.std.proofs.Common.{◌≡◌, ℕ, List, [], ◌++◌, codes, append-
 use Rattle.std.specs.List.{flat_map}
 use Rattle.smx_types.specs.declared.driver.DriverSpec.{DriverSpec}
 use Rattle.smx_types.specs.declared.view.ConfigView.{ConfigView}
-use Rattle.smx_draw.specs.DotText.{dot_head, dot_text}
+use Rattle.smx_draw.specs.DotText.{dot_head, dot_text, dot_view}
 use Rattle.smx_draw.specs.Drawing.{Draws, HasPart}
 use Rattle.smx_draw.specs.Parts.{binding_text, descriptor_text, driver_text, full_text, hung_text, link_text}
 use Rattle.smx_draw.specs.Parts.{queue_row_text, route_text}
@@ -73,52 +73,53 @@ pub foot_in_svg : (drivers : List DriverSpec) (v : ConfigView) (output : List �
 foot_in_svg drivers v output h =
     (h.behind_rows, [], h.ends ∙ sym (append-nil (h.behind_rows ++ svg_foot v.next_id v.next_serial)))
 
-module _ {X : Type 0} (text : Look → X → List ℕ) (xs : List X) (before after output : List ℕ)
-    (on : output ≡ before ++ (flat_map (text Line) xs ++ after)) where
-  -- lines in the text come after the text before them
-  behind_lines : output ≡ (before ++ flat_map (text Line) xs) ++ after
-  behind_lines = on ∙ sym (append_assoc before (flat_map (text Line) xs) after)
+-- a text contains each of the lines between two parts of it
+each_written : {X : Type 0} (text : Look → X → List ℕ) (xs : List X) (before after output : List ℕ)
+    → output ≡ before ++ (flat_map (text Line) xs ++ after) → EachHasLine text xs output
+each_written text xs before after output on =
+    subst (EachHasLine text xs) (sym on) (each_line (text Line) xs before after)
+
+module _ {X : Type 0} (text : Look → X → List ℕ) (xs : List X) (after last output : List ℕ)
+    (on : (before : List ℕ) × (output ≡ before ++ ((flat_map (text Line) xs ++ after) ++ last))) where
+  -- before the end of the text there are lines, and what comes after them
+  behind_start : output ≡ on.0 ++ (flat_map (text Line) xs ++ (after ++ last))
+  behind_start =
+      on.1 ∙ ap (λ (t : List ℕ). on.0 ++ t) (append_assoc (flat_map (text Line) xs) after last)
+
+  -- the text ends with what comes after these lines
+  past : (before : List ℕ) × (output ≡ before ++ (after ++ last))
+  past = (
+    on.0 ++ flat_map (text Line) xs,
+    behind_start ∙ sym (append_assoc on.0 (flat_map (text Line) xs) (after ++ last)),
+  )
 
   -- the text contains each of them
-  each_written : EachHasLine text xs output
-  each_written = subst (EachHasLine text xs) (sym on) (each_line (text Line) xs before after)
+  each_inside : EachHasLine text xs output
+  each_inside = each_written text xs on.0 (after ++ last) output behind_start
 
 -- each line is between others
 pub each_in_dot : (drivers : List DriverSpec) (v : ConfigView) (output : List ℕ) → output ≡ dot_text drivers v
     → HasEachInDot drivers v output
 each_in_dot drivers v output is =
     let queues = queue_rows drivers v.msgs in
-    let f7 : List ℕ = filled (codes "}\n") [] in
-    let f6 : List ℕ = flat_map (full_text Line) v.fulls ++ f7 in
-    let f5 : List ℕ = flat_map (queue_row_text Line) queues ++ f6 in
-    let f4 : List ℕ = flat_map (binding_text Line) v.binds ++ f5 in
-    let f3 : List ℕ = flat_map (descriptor_text Line) v.fds ++ f4 in
-    let f2 : List ℕ = flat_map (route_text Line) v.routes ++ f3 in
-    let f1 : List ℕ = flat_map (hung_text Line) v.hungs ++ f2 in
-    let f0 : List ℕ = flat_map (link_text Line) v.links ++ f1 in
-    let b0 : List ℕ = filled dot_head [] in
-    let e0 : output ≡ b0 ++ (flat_map (driver_text Line) drivers ++ f0) = is ∙ simp append_assoc in
-    let b1 : List ℕ = b0 ++ flat_map (driver_text Line) drivers in
-    let e1 : output ≡ b1 ++ f0 = behind_lines driver_text drivers b0 f0 output e0 in
-    let b2 : List ℕ = b1 ++ flat_map (link_text Line) v.links in
-    let e2 : output ≡ b2 ++ f1 = behind_lines link_text v.links b1 f1 output e1 in
-    let b3 : List ℕ = b2 ++ flat_map (hung_text Line) v.hungs in
-    let e3 : output ≡ b3 ++ f2 = behind_lines hung_text v.hungs b2 f2 output e2 in
-    let b4 : List ℕ = b3 ++ flat_map (route_text Line) v.routes in
-    let e4 : output ≡ b4 ++ f3 = behind_lines route_text v.routes b3 f3 output e3 in
-    let b5 : List ℕ = b4 ++ flat_map (descriptor_text Line) v.fds in
-    let e5 : output ≡ b5 ++ f4 = behind_lines descriptor_text v.fds b4 f4 output e4 in
-    let b6 : List ℕ = b5 ++ flat_map (binding_text Line) v.binds in
-    let e6 : output ≡ b6 ++ f5 = behind_lines binding_text v.binds b5 f5 output e5 in
-    let b7 : List ℕ = b6 ++ flat_map (queue_row_text Line) queues in
-    let e7 : output ≡ b7 ++ f6 = behind_lines queue_row_text queues b6 f6 output e6 in
+    let head = filled dot_head [] in
+    let table = flat_map (driver_text Line) drivers in
+    let view = dot_view v queues ++ filled (codes "}\n") [] in
+    let links : (before : List ℕ) × (output ≡ before ++ view) =
+    (head ++ table, is ∙ sym (append_assoc head table view)) in
+    let hungs = past link_text v.links _ _ output links in
+    let routes = past hung_text v.hungs _ _ output hungs in
+    let fds = past route_text v.routes _ _ output routes in
+    let binds = past descriptor_text v.fds _ _ output fds in
+    let rows = past binding_text v.binds _ _ output binds in
+    let fulls = past queue_row_text queues _ _ output rows in
     record {
-      drivers = each_written driver_text drivers b0 f0 output e0;
-      links = each_written link_text v.links b1 f1 output e1;
-      hungs = each_written hung_text v.hungs b2 f2 output e2;
-      routes = each_written route_text v.routes b3 f3 output e3;
-      descriptors = each_written descriptor_text v.fds b4 f4 output e4;
-      bindings = each_written binding_text v.binds b5 f5 output e5;
-      queues = each_written queue_row_text queues b6 f6 output e6;
-      fulls = each_written full_text v.fulls b7 f7 output e7;
+      drivers = each_written driver_text drivers head view output is;
+      links = each_inside link_text v.links _ _ output links;
+      hungs = each_inside hung_text v.hungs _ _ output hungs;
+      routes = each_inside route_text v.routes _ _ output routes;
+      descriptors = each_inside descriptor_text v.fds _ _ output fds;
+      bindings = each_inside binding_text v.binds _ _ output binds;
+      queues = each_inside queue_row_text queues _ _ output rows;
+      fulls = each_written full_text v.fulls _ _ output fulls.1;
     }

@@ -1,5 +1,5 @@
 -- The words of values are visible bytes, and only an entry has an equals sign.
-use Rattle.std.proofs.Common.{◌≡◌, ◌≢◌, ℕ, ◌/◌, ◌%◌, ◌<◌, ◌≤◌, Bool, true, false, ◌&&◌, List, [], ◌∷◌}
+use Rattle.std.proofs.Common.{◌≡◌, ◌≢◌, ℕ, ◌<◌, ◌≤◌, Bool, true, false, ◌&&◌, List, [], ◌∷◌}
 use Rattle.std.proofs.Common.{length, map, arith, rules}
 use Rattle.std.specs.List.{list_all, AllByRecursion}
 use Rattle.std.specs.Fmt.{decimal}
@@ -7,7 +7,7 @@ use Rattle.std.specs.Char.{is_ascii_digit}
 use Rattle.std.proofs.lemmas.Bool.{and_parts}
 use Rattle.std.proofs.lemmas.Bool.Decides.{nat_tests}
 use Rattle.std.proofs.lemmas.Fmt.{decimal_nonempty}
-use Rattle.hex.specs.Hex.{encode_lower, encode_with}
+use Rattle.hex.specs.Hex.{encode_lower}
 use Rattle.smx_types.specs.Names.{is_name_byte}
 use Rattle.smx_types.specs.declared.command.Command.{Command}
 use Rattle.smx_types.specs.declared.command.Command.TheVariants as command
@@ -19,11 +19,11 @@ use Rattle.smx_types.specs.declared.reply.Fault.{Fault}
 use Rattle.smx_types.specs.declared.reply.Fault.TheVariants as fault
 use Rattle.smx_types.specs.declared.reply.Reply.{Reply}
 use Rattle.smx_types.specs.declared.reply.Reply.TheVariants as reply
-use Rattle.smx_words.specs.HexWords.{hex_word}
+use Rattle.smx_words.specs.HexWords.{hex_word, is_digit}
 use Rattle.smx_words.specs.Spellable.{FitsBytes, FitsCommand, FitsName, FitsNumber, FitsReply, FitsWhich}
 use Rattle.smx_words.specs.Spelling.{command_words, fault_words, reply_words, which_word, sides_word}
 use Rattle.smx_words.specs.Words.{EQUALS, IsFree, IsWord}
-use Rattle.smx_words.proofs.HexLemmas.{digit, digit_is, digit_range, long}
+use Rattle.smx_words.proofs.HexLemmas.{encoded_digits, encoded_long}
 use Rattle.smx_words.proofs.LineLemmas.{all_weaker}
 use Rattle.smx_words.proofs.NumberLemmas.{decimal_digits}
 
@@ -73,27 +73,15 @@ sides_plain sides.R = search rules
 sides_plain sides.W = search rules
 sides_plain sides.RW = search rules
 
--- a digit is visible, and is not an equals sign
-digit_plain : (k : ℕ) → k < 16 → IsPlainByte (digit k)
-digit_plain k lt = let r = digit_range k lt in (omega (arith, r.0), omega (arith, r.1), r.2)
-
--- encoded bytes are visible, and contain no equals sign
-encoded_plain : (bs : List ℕ) → FitsBytes bs → AllByRecursion IsPlainByte (encode_lower bs)
-unfolding encode_with
-encoded_plain [] h = tt
-encoded_plain (b ∷ bs) h =
-    let small = h.0 in
-    let high : b / 16 < 16 = omega arith in
-    let low : b % 16 < 16 = omega arith in
-    rw (digit_is (b / 16) high, digit_is (b % 16) low) (
-      digit_plain (b / 16) high,
-      (digit_plain (b % 16) low, encoded_plain bs h.1),
-    )
-
 -- the word of some bytes is plain
 pub hex_plain : (bs : List ℕ) → FitsBytes bs → IsPlain (hex_word bs)
 hex_plain [] fits = search rules
-hex_plain (b ∷ bs) fits = (omega (arith, long b bs), encoded_plain (b ∷ bs) fits)
+hex_plain (b ∷ bs) fits = (
+  omega (arith, encoded_long (b ∷ bs)),
+  all_plain is_digit plain (encode_lower (b ∷ bs)) (encoded_digits (b ∷ bs) fits),
+) where
+  plain : (b : ℕ) → is_digit b ≡ true → IsPlainByte b
+  plain b h = (grind (arith, nat_tests), grind (arith, nat_tests), λ e. grind (arith, nat_tests))
 
 -- ---- commands and replies
 

@@ -3,5 +3,4 @@ pub mod HexWords
 pub mod Spelling
 pub mod Spellable
 pub mod LineReading
-pub mod Numbers
 pub mod Verbs

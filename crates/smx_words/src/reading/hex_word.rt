@@ -1,11 +1,11 @@
 //! Reads words that spell the bytes of a message.
 
-ghost use Rattle.std.specs.Prelude.{◌≡◌, ◌≢◌, ◌<◌, ◌*◌, ◌%◌, ◌∷◌, ◌++◌, true, List, ℕ, length, slice_index};
+ghost use Rattle.std.specs.Prelude.{◌≡◌, ◌≢◌, ◌<◌, ◌*◌, ◌%◌, ◌∷◌, ◌++◌, true, List, ℕ, length};
 ghost use Rattle.std.specs.Prelude.{IfOk, IfErr, MatchBool, MatchOption};
-ghost use Rattle.hex.specs.Hex.{encode_lower, lower_digits};
+ghost use Rattle.hex.specs.Hex.{encode_lower};
 ghost use Rattle.std.specs.Fmt.{decimal};
 ghost use Rattle.std.specs.List.{list_all};
-ghost use Rattle.smx_words.specs.HexWords.{hex_word, is_digit};
+ghost use Rattle.smx_words.specs.HexWords.{digit_value, hex_word, is_digit};
 ghost use Rattle.smx_words.specs.LineReading.{IsFoundIn, IsSpelled};
 ghost use Rattle.smx_words.specs.Spellable.{FitsBytes, FitsNumber};
 ghost use Rattle.smx_words.specs.Words.{SPACE};
@@ -77,7 +77,7 @@ fn set_bytes(bytes: &mut [u8], digits: &[u8])
 // Returns the value of a digit.
 fn value_of(digit: u8) -> u8
     requires { is_digit digit ≡ true }
-    ensures value { slice_index lower_digits result ≡ digit }
+    ensures value { result ≡ digit_value digit }
     ensures range { result < 16 }
 {
     if digit < b'a' {

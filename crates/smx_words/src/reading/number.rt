@@ -1,10 +1,11 @@
 //! Reads numbers: decimal, below 2^32, without a sign or a leading zero.
 
-ghost use Rattle.std.specs.Prelude.{◌≡◌, ◌≢◌, ◌∷◌, ◌++◌, List, ℕ, take, drop, ◌≤◌, ◌==◌, ◌&&◌, ◌||◌, nat_lt};
+ghost use Rattle.std.specs.Prelude.{◌≡◌, ◌≢◌, ◌∷◌, ◌++◌, List, ℕ, take, ◌≤◌, ◌==◌, ◌&&◌, ◌||◌, nat_lt};
 ghost use Rattle.std.specs.Prelude.{length, slice_index, MatchOption};
+ghost use Rattle.std.specs.Char.{is_ascii_digit};
 ghost use Rattle.std.specs.Fmt.{decimal};
+ghost use Rattle.std.specs.List.{prefix_len, take_while};
 ghost use Rattle.smx_words.specs.LineReading.{IsFoundIn, BeginsWith};
-ghost use Rattle.smx_words.specs.Numbers.{NoDigitFirst};
 ghost use Rattle.smx_words.specs.Spellable.{FitsNumber, FitsProcess};
 ghost use Rattle.smx_words.specs.Words.{SPACE};
 
@@ -55,10 +56,8 @@ pub fn first_process(text: &[u8]) -> Option<(Process, &[u8])>
 
 // Parses the leading digits as a number. Returns the number, and how many digits there are.
 fn leading_number(text: &[u8]) -> Option<(u32, usize)>
-    ensures { MatchOption result
-        ((n : ℕ) (after : List ℕ) → FitsNumber n → NoDigitFirst after → text.now ≢ decimal n ++ after)
-        (λ p. FitsNumber p.0 × (p.1 ≤ length text.now) × (take p.1 text.now ≡ decimal p.0)
-        × NoDigitFirst (drop p.1 text.now)) }
+    ensures { MatchOption result ((n : ℕ) → FitsNumber n → take_while is_ascii_digit text.now ≢ decimal n)
+        (λ p. FitsNumber p.0 × (prefix_len is_ascii_digit text.now ≡ p.1) × (take p.1 text.now ≡ decimal p.0)) }
 {
     let mut value = 0u64;
     let mut end = 0;

@@ -1,12 +1,8 @@
-use Rattle.std.proofs.Common.{◌≡◌, ℕ, List, [], ◌++◌, ap, ◌∙◌}
-use Rattle.std.specs.List.{flat_map}
+use Rattle.std.proofs.Common.{◌≡◌, ℕ, List, [], ◌++◌, ap, append_assoc, ◌∙◌}
 use Rattle.smx_draw.specs.DotText.{dot_head, dot_view}
-use Rattle.smx_draw.specs.Parts.{driver_text}
 use Rattle.smx_draw.specs.Pieces.{filled}
 use Rattle.smx_draw.specs.Queues.{queue_rows}
-use Rattle.smx_draw.specs.declared.parts.Look.TheVariants.{Line}
 use Rattle.smx_draw.specs.declared.queues.QueueRow.{QueueRow}
-use Rattle.smx_draw.proofs.DrawingLemmas.{four_put}
 use Rattle.smx_draw.proofs.dot.write_dot.Goals as goal
 
 pub returns : goal.returns
@@ -19,6 +15,4 @@ returns c =
     c.in_ok-put_view.ensures ∙ ap (λ (qs : List QueueRow). c.put_lines.new.out.items ++ dot_view view qs) queues in
     let head : c.put.new.out.items ≡ filled dot_head [] =
     c.in_ok-put.ensures ∙ ap (λ (t : List ℕ). t ++ filled dot_head []) c.new-out.ensures.items in
-    four_put (filled dot_head []) (flat_map (driver_text Line) drivers) (dot_view view (queue_rows drivers view.msgs)) _
-    c.put.new.out.items c.put_lines.new.out.items c.put_view.new.out.items c.put-2.new.out.items head
-    c.in_ok-put_lines.ensures shown c.in_ok-put-2.ensures
+    rw (c.in_ok-put-2.ensures, shown, c.in_ok-put_lines.ensures, head) (simp append_assoc)

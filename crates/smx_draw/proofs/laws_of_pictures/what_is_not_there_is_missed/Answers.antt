@@ -1,78 +1,18 @@
-use Rattle.std.proofs.Math.Nat.{suc-ne-zero}
-use Rattle.smx_draw.proofs.DrawingLemmas.{is_empty}
+use Rattle.std.proofs.Common.{refl, rules}
+use Rattle.smx_draw.proofs.DrawingLemmas.{nothing_in}
 use Rattle.smx_draw.proofs.laws_of_pictures.what_is_not_there_is_missed.Goals as goal
 
 pub returns-clause-each : goal.returns-clause-each
-returns-clause-each c =
-    record {
-      drivers =
-          record {
-            svg = λ h. suc-ne-zero 0 (is_empty _ h.drivers.0.1);
-            dot = λ h. suc-ne-zero 0 (is_empty _ h.drivers.0);
-          };
-      descriptors =
-          record {
-            svg = λ h. suc-ne-zero 0 (is_empty _ h.descriptors.0.1);
-            dot = λ h. suc-ne-zero 0 (is_empty _ h.descriptors.0);
-          };
-      links =
-          record {
-            svg = λ h. suc-ne-zero 0 (is_empty _ h.links.0.1);
-            dot = λ h. suc-ne-zero 0 (is_empty _ h.links.0);
-          };
-      bindings =
-          record {
-            svg = λ h. suc-ne-zero 0 (is_empty _ h.bindings.0.1);
-            dot = λ h. suc-ne-zero 0 (is_empty _ h.bindings.0);
-          };
-      routes =
-          record {
-            svg = λ h. suc-ne-zero 0 (is_empty _ h.routes.0.1);
-            dot = λ h. suc-ne-zero 0 (is_empty _ h.routes.0);
-          };
-      messages =
-          record {
-            svg = λ h. suc-ne-zero 0 (is_empty _ h.queues.0.1);
-            dot = λ h. suc-ne-zero 0 (is_empty _ h.queues.0);
-          };
-      fulls =
-          record {
-            svg = λ h. suc-ne-zero 0 (is_empty _ h.fulls.0.1);
-            dot = λ h. suc-ne-zero 0 (is_empty _ h.fulls.0);
-          };
-      hungs =
-          record {
-            svg = λ h. suc-ne-zero 0 (is_empty _ h.hungs.0.1);
-            dot = λ h. suc-ne-zero 0 (is_empty _ h.hungs.0);
-          };
-    }
+returns-clause-each c = record {
+  drivers = record { svg = λ h. nothing_in _ refl h.drivers.0.1; dot = λ h. nothing_in _ refl h.drivers.0 };
+  descriptors = record { svg = λ h. nothing_in _ refl h.descriptors.0.1; dot = λ h. nothing_in _ refl h.descriptors.0 };
+  links = record { svg = λ h. nothing_in _ refl h.links.0.1; dot = λ h. nothing_in _ refl h.links.0 };
+  bindings = record { svg = λ h. nothing_in _ refl h.bindings.0.1; dot = λ h. nothing_in _ refl h.bindings.0 };
+  routes = record { svg = λ h. nothing_in _ refl h.routes.0.1; dot = λ h. nothing_in _ refl h.routes.0 };
+  messages = record { svg = λ h. nothing_in _ refl h.queues.0.1; dot = λ h. nothing_in _ refl h.queues.0 };
+  fulls = record { svg = λ h. nothing_in _ refl h.fulls.0.1; dot = λ h. nothing_in _ refl h.fulls.0 };
+  hungs = record { svg = λ h. nothing_in _ refl h.hungs.0.1; dot = λ h. nothing_in _ refl h.hungs.0 };
+}
 
 pub returns-clause-nothing : goal.returns-clause-nothing
-returns-clause-nothing c =
-    record {
-      svg =
-          record {
-            frames = tt;
-            ways = tt;
-            gauges = tt;
-            drivers = tt;
-            links = tt;
-            hungs = tt;
-            routes = tt;
-            descriptors = tt;
-            bindings = tt;
-            queues = tt;
-            fulls = tt;
-          };
-      dot =
-          record {
-            drivers = tt;
-            links = tt;
-            hungs = tt;
-            routes = tt;
-            descriptors = tt;
-            bindings = tt;
-            queues = tt;
-            fulls = tt;
-          };
-    }
+returns-clause-nothing c = search rules

@@ -1,25 +1,30 @@
-use Rattle.std.proofs.Common.{sym, ◌∙◌}
+use Rattle.std.proofs.Common.{sym, ◌∙◌, arith}
 use Rattle.std.specs.Prelude.{codes}
+use Rattle.std.proofs.lemmas.Bool.Decides.{nat_tests}
 use Rattle.smx_words.proofs.CutLemmas.{differs}
-use Rattle.smx_words.proofs.HexLemmas.{no_digits, not_empty, odd_is_none, spell_some, when_empty}
+use Rattle.smx_words.proofs.HexLemmas.{by_digits, spell_some}
 use Rattle.smx_words.proofs.reading.hex_word.spells_bytes.Goals as goal
 use Rattle.smx_words.proofs.reading.hex_word.spells_bytes.Goals.{then-is_empty-via-then-is_empty}
 use Rattle.smx_words.proofs.reading.hex_word.spells_bytes.Goals.{then-is_empty-via-else-is_empty+then-word-eq1}
 
 pub returns-then-is_empty : goal.returns-then-is_empty
-returns-then-is_empty c =
-    odd_is_none c.args.word.now
-    (λ some. elim c.then-is_empty.branch [
-      | then-is_empty-via-then-is_empty w ↦
-          absurd (when_empty c.args.word.now _ c.is_empty.ensures w.if-is_empty.true some)
-      | then-is_empty-via-else-is_empty+then-word-eq1 w ↦ w.if-word-eq1.true
-    ])
-    (differs c.args.word.now (codes "-") c.is.result c.is.ensures c.if-is.false)
+returns-then-is_empty c = λ bs fits e.
+    let other = differs c.args.word.now (codes "-") c.is.result c.is.ensures c.if-is.false in
+    let by = by_digits c.args.word.now bs other fits e in
+    elim c.then-is_empty.branch [
+      | then-is_empty-via-then-is_empty w ↦ let empty = sym c.is_empty.ensures ∙ w.if-is_empty.true in
+          let some = by.0 in grind (arith, nat_tests)
+      | then-is_empty-via-else-is_empty+then-word-eq1 w ↦ omega (arith, by.2, w.if-word-eq1.true)
+    ]
 
 pub returns-then-are_digits : goal.returns-then-are_digits
 returns-then-are_digits c =
-    spell_some c.args.word.now (not_empty c.args.word.now _ c.is_empty.ensures c.if-is_empty.false)
-    c.if-word-eq1.false (sym c.are_digits.ensures ∙ c.if-are_digits.true)
+    let full = sym c.is_empty.ensures ∙ c.if-is_empty.false in
+    spell_some c.args.word.now (grind (arith, nat_tests)) c.if-word-eq1.false
+    (sym c.are_digits.ensures ∙ c.if-are_digits.true)
 
 pub returns : goal.returns
-returns c = no_digits c.args.word.now c.if-word-eq1.false (sym c.are_digits.ensures ∙ c.if-are_digits.false)
+returns c = λ bs fits e.
+    let other = differs c.args.word.now (codes "-") c.is.result c.is.ensures c.if-is.false in
+    let by = by_digits c.args.word.now bs other fits e in
+    absurd (cc (by.1, c.are_digits.ensures, c.if-are_digits.false))
