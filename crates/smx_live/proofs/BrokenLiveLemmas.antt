@@ -1,25 +1,22 @@
 -- The output of a worked session if memory runs out.
-use Rattle.std.proofs.Common.{◌≡◌, ◌≢◌, ℕ, Bool, true, false, List, [], ◌∷◌, ◌++◌, map, refl, sym, ap, ap₂, subst, ◌∙◌}
+use Rattle.std.proofs.Common.{◌≡◌, ◌≢◌, ℕ, Bool, true, false, List, [], ◌∷◌, ◌++◌, refl, sym, ap, subst, ◌∙◌}
 use Rattle.std.proofs.Common.{inl, inr, arith}
 use Rattle.std.proofs.lemmas.List.{append-nil}
 use Rattle.std.specs.Prelude.{codes}
 use Rattle.smx_types.specs.ProgramLists.{ProgramLists}
-use Rattle.smx_types.specs.declared.driver.DriverSpec.{DriverSpec}
-use Rattle.smx_types.specs.declared.version.Version.{Version}
 use Rattle.smx_types.specs.declared.version.Version.TheVariants.{V2}
 use Rattle.smx_words.specs.Words.{LINE_FEED}
-use Rattle.smx_text.specs.Grammar.{Spells, beginning}
+use Rattle.smx_text.specs.Grammar.{Spells}
 use Rattle.smx_text.specs.ProgramsText.{programs_grammar}
-use Rattle.smx_text.specs.TranscriptLines as line
-use Rattle.smx_text.specs.TranscriptText.{transcript_grammar}
+use Rattle.smx_filters.proofs.ReadingLemmas.{HasOneReading, one_value}
 use Rattle.smx_explain.specs.ColumnWords.{IsExplanationOf}
 use Rattle.smx_session.specs.Sessions.{IsStartOf}
 use Rattle.smx_session.specs.WorkedSessions.{begun, drivers, opened, table}
 use Rattle.smx_live.specs.LiveText.{HasComeSoFar, IsBroken}
 use Rattle.smx_live.specs.Tables.{IsTable, table_text}
-use Rattle.smx_live.specs.Turns.{Turn, asked_text, said_text}
+use Rattle.smx_live.specs.Turns.{Turn, asked_text}
 use Rattle.smx_live.specs.WorkedLives.{worked_answers, worked_below, worked_input, worked_table}
-use Rattle.smx_live.proofs.OneOutputLemmas.{HasOneReading, asked_cons, value_once}
+use Rattle.smx_live.proofs.OneOutputLemmas.{asked_cons}
 use Rattle.smx_live.proofs.OverTableLemmas.{table_once}
 use Rattle.smx_live.proofs.LiveLemmas as live
 use Rattle.smx_live.proofs.TableLemmas.{over_at_the_end}
@@ -51,7 +48,7 @@ answers_out start told explain =
 -- the worked table has ended if the input ends after it
 over_at_end : IsTable true worked_table []
 over_at_end =
-    over_at_the_end true worked_table _ [] refl worked_lines refl (tt, search arith) (inr refl)
+    over_at_the_end worked_table _ [] refl worked_lines true refl (tt, search arith) (inr refl)
 
 -- bytes with a line feed are not empty
 some : (xs after : List ℕ) → xs ++ LINE_FEED ∷ after ≡ [] → ⊥
@@ -64,25 +61,22 @@ no_turns [] held e = refl
 no_turns (t ∷ ts) held e = absurd (some t.line (asked_text ts ++ held) (sym (asked_cons t ts held) ∙ e))
 
 -- a session whose input ends after the worked table has written only the opening
-opening_alone : HasOneReading → IsStartOf table begun → (explain : Bool) (output : List ℕ)
+opening_alone : HasOneReading programs_grammar → IsStartOf table begun → (explain : Bool) (output : List ℕ)
     → HasComeSoFar explain worked_table true output → output ≡ opening
 opening_alone reading start explain output (s, far, held, l) =
     let read : worked_table ++ [] ≡ l.table ++ (asked_text l.turns ++ held) = append-nil worked_table ∙ l.read_is in
     let same = table_once true worked_table l.table [] (asked_text l.turns ++ held) over_at_end l.over read in
     let none : l.turns ≡ [] = no_turns l.turns held (sym same.1) in
-    let spelled : Spells (programs_grammar s.version) table l.programs =
-    subst (λ (t : List ℕ). Spells (programs_grammar s.version) (table_text t) l.programs) (sym same.0) l.spelled in
-    let value : l.programs ≡ start.programs = value_once reading table s.version V2 l.programs start.programs
-    spelled start.spelled in
+    let value : l.programs ≡ start.programs = one_value programs_grammar reading table s.version V2 l.programs
+    start.programs (subst (λ (t : List ℕ). Spells (programs_grammar s.version) (table_text t) l.programs) (sym same.0)
+    l.spelled) start.spelled in
     let version : s.version ≡ V2 = sym l.spelled.allowed.version_is
     ∙ ap (λ (p : ProgramLists). p.version) value ∙ start.spelled.allowed.version_is in
     let own : s.drivers ≡ drivers = l.drivers ∙ ap (λ (p : ProgramLists). p.drivers) value ∙ sym start.drivers in
-    l.written ∙ ap (λ (ts : List Turn). l.opening ++ said_text ts) none ∙ append-nil l.opening ∙ l.begins.written
-    ∙ ap₂ (λ (v : Version) (ds : List DriverSpec). beginning (transcript_grammar v)
-    (map line.Driver ds ++ map line.Entry [])) version own ∙ sym opening_is
+    rw (l.written, none, append-nil, l.begins.written, version, own) (sym opening_is)
 
 -- so an output that is neither empty nor the opening is impossible
-pub not_out : HasOneReading → IsStartOf table begun → (output : List ℕ) → output ≢ [] → output ≢ opening
+pub not_out : HasOneReading programs_grammar → IsStartOf table begun → (output : List ℕ) → output ≢ [] → output ≢ opening
     → (explain : Bool) → IsBroken explain worked_table true output → ⊥
 not_out reading start output some other explain (inl none) = some none
 not_out reading start output some other explain (inr far) = other (opening_alone reading start explain output far)

@@ -117,28 +117,23 @@ module _ (stays : StaysLegal) (tells : TellsOfNone) (leaves : LeavesNone)
       sym (append_assoc start (view_lines shown) (codes "end\n"))
       ∙ finished o.s.version o.s.drivers es shown start _ _ refl refl begins
 
+  -- the session has no more drivers than its version allows
+  few : length o.s.drivers ≤ most_drivers o.s.version
+  few = rw o.live.drivers o.live.spelled.allowed.drivers
+
   -- in version 1 the session's transcript needs no later version
   told : o.s.version ≡ V1 → least_of_transcript (transcript_of o) ≡ V1
   told first =
       let none : list_any (λ e. is_hangup e.command) es ≡ false =
-      quiet o.s.drivers [] o.live.turns
-      (subst (λ (v : Version). AreAnswered v o.s.drivers [] o.live.turns) first o.live.answered) in
+      quiet o.s.drivers [] o.live.turns (rw first at o.live.answered) in
       let hung : o.s.configuration.hungs ≡ [] =
       ap (λ (c : Configuration). c.hungs) o.live.now ∙ leaves o.s.drivers es none in
-      let few : are_more_drivers o.s.drivers ≡ false =
-      few_drivers (length o.s.drivers)
-      (subst (λ (v : Version). length o.s.drivers ≤ most_drivers v) first drivers_few) in
-      let shown_none : nat_lt 0 (length shown.hungs) ≡ false = none_shown o.s.drivers o.s.configuration hung in
-      ap version_2_where (or_from _ _ few (or_from _ _ (tells o.s.drivers es legal none) shown_none)) where
-        drivers_few : length o.s.drivers ≤ most_drivers o.s.version
-        drivers_few = subst (λ (ds : List DriverSpec). length ds ≤ most_drivers o.s.version) (sym o.live.drivers)
-            o.live.spelled.allowed.drivers
+      ap version_2_where (or_from _ _ (few_drivers (length o.s.drivers) (rw first at few))
+      (or_from _ _ (tells o.s.drivers es legal none) (none_shown o.s.drivers o.s.configuration hung)))
 
   -- the session's transcript is allowed in its version
   allowed : IsAllowed o.s.version (transcript_of o)
-  allowed = spellable_allowed o.s.version (transcript_of o) refl
-      (subst (λ (ds : List DriverSpec). length ds ≤ most_drivers o.s.version) (sym o.live.drivers)
-      o.live.spelled.allowed.drivers) o.live.few
+  allowed = spellable_allowed o.s.version (transcript_of o) refl few o.live.few
       record { drivers = o.live.begins.drivers_fit; entries = fit; view = o.spellable } told
 
   -- what a session wrote, without the answers that are not entries, is a transcript that a check finds legal

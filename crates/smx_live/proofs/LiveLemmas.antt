@@ -82,20 +82,12 @@ traces_more tracing (u ∷ ts) t = traces_more (traces_after tracing u.line u.an
 line_more : (ts : List Turn) (line rest : List ℕ) (a : Answer) (below : List ℕ)
     → asked_text ts ++ (line ++ LINE_FEED ∷ rest)
     ≡ asked_text (ts ++ (record { line = line; answer = a; below = below }) ∷ []) ++ rest
-line_more ts line rest a below =
-    let t : Turn = record { line = line; answer = a; below = below } in
-    let last : List ℕ = line ++ LINE_FEED ∷ [] in
-    let inner : asked_text (ts ++ t ∷ []) ++ rest ≡ asked_text ts ++ (line ++ LINE_FEED ∷ rest) =
-    ap (λ (l : List ℕ). l ++ rest) (flat_more (λ (u : Turn). u.line ++ LINE_FEED ∷ []) ts t)
-    ∙ append_assoc (asked_text ts) last rest
-    ∙ ap (λ (l : List ℕ). asked_text ts ++ l) (append_assoc line (LINE_FEED ∷ []) rest) in sym inner
+line_more ts line rest a below = sym (simp (flat_more, append_assoc))
 
 -- the opening and the answers, with one more answer, are the opening and the answers with that one added
 said_more : (opening output : List ℕ) (ts : List Turn) (t : Turn) → output ≡ opening ++ said_text ts
     → output ++ turn_text t ≡ opening ++ said_text (ts ++ t ∷ [])
-said_more opening output ts t was =
-    ap (λ (l : List ℕ). l ++ turn_text t) was ∙ append_assoc opening (said_text ts) (turn_text t)
-    ∙ ap (λ (l : List ℕ). opening ++ l) (sym (flat_more turn_text ts t))
+said_more opening output ts t was = rw was (simp (flat_more, append_assoc))
 
 -- ---- one more turn
 
@@ -116,135 +108,81 @@ module _ (further : OneFurther) {explain : Bool} {read : List ℕ} {ended : Bool
   behind a below = ap (λ (h : List ℕ). asked_text l.turns ++ h) line.parts
       ∙ line_more l.turns (take n held) (drop (n + 1) held) a below
 
-  -- what was read is the table, the lines of the turns with this one added, and the bytes after it
-  read_more : (a : Answer) (below : List ℕ)
-      → read ≡ l.table ++ (asked_text (l.turns ++ turn a below ∷ []) ++ drop (n + 1) held)
-  read_more a below = l.read_is ∙ ap (λ (h : List ℕ). l.table ++ h) (behind a below)
-
-  -- the table still ends at the same place if this line is one of the turns
-  over_more : (a : Answer) (below : List ℕ)
-      → IsTable ended l.table (asked_text (l.turns ++ turn a below ∷ []) ++ drop (n + 1) held)
-  over_more a below = subst (IsTable ended l.table) (behind a below) l.over
-
-  -- after an answer that is not an entry, the session's state is as before
-  stays : (a : Answer) → entries_in a ≡ [] → (below : List ℕ)
-      → ((tracing : Bool) (c d : Configuration)
-      → IsBelow explain s.version s.drivers tracing c d (take n held) a below)
+  -- the session goes on after an answer, if it then has the configuration and the count of entries after it
+  goes_on : (a : Answer) (below : List ℕ) (next : State) (more : Progress) → next.version ≡ s.version
+      → next.drivers ≡ s.drivers → next.configuration ≡ after s.drivers (entries_of l.turns ++ entries_in a)
+      → more.entries ≡ length (entries_of l.turns ++ entries_in a) → more.entries ≤ MAX_COMMANDS
+      → more.tracing ≡ traces_after far.tracing (take n held) a
       → IsAnswer s.version s.drivers (entries_of l.turns) (take n held) a
-      → (later : Progress) → later.entries ≡ far.entries → later.tracing ≡ traces_after far.tracing (take n held) a
-      → IsLive explain read ended (output ++ (answer_text a ++ below)) s later (drop (n + 1) held)
-  stays a none below belongs right later entries tracing =
-      let same : entries_of (l.turns ++ turn a below ∷ []) ≡ entries_of l.turns =
-      flat_more (λ (u : Turn). entries_in u.answer) l.turns (turn a below)
-      ∙ ap (λ (es : List Entry). entries_of l.turns ++ es) none ∙ append-nil (entries_of l.turns) in
+      → IsBelow explain s.version s.drivers far.tracing s.configuration next.configuration (take n held) a below
+      → IsLive explain read ended (output ++ (answer_text a ++ below)) next more (drop (n + 1) held)
+  goes_on a below next more version drivers now counted few tracing right belongs =
+      let t : Turn = turn a below in
+      let longer : entries_of (l.turns ++ t ∷ []) ≡ entries_of l.turns ++ entries_in a =
+      flat_more (λ (u : Turn). entries_in u.answer) l.turns t in
       record {
         table = l.table;
-        turns = l.turns ++ turn a below ∷ [];
-        read_is = read_more a below;
-        over = over_more a below;
+        turns = l.turns ++ t ∷ [];
+        read_is = l.read_is ∙ ap (λ (h : List ℕ). l.table ++ h) (behind a below);
+        over = subst (IsTable ended l.table) (behind a below) l.over;
         fits = l.fits;
         programs = l.programs;
-        spelled = l.spelled;
-        drivers = l.drivers;
-        valid_drivers = l.valid_drivers;
-        answered = answered_more s.version s.drivers [] l.turns (turn a below) l.answered short right;
-        few = subst (λ (es : List Entry). length es ≤ MAX_COMMANDS) (sym same) l.few;
-        followed = followed_more explain s.version s.drivers [] false l.turns (turn a below) l.followed
-            (belongs (traces_behind false l.turns) (after s.drivers (entries_of l.turns))
-            (after s.drivers (entries_of l.turns ++ entries_in a)));
+        spelled = rw version l.spelled;
+        drivers = drivers ∙ l.drivers;
+        valid_drivers = rw drivers l.valid_drivers;
+        answered = rw (version, drivers)
+            (answered_more s.version s.drivers [] l.turns t l.answered short right);
+        few = rw (longer, ← counted) few;
+        followed = rw (version, drivers) (followed_more explain s.version s.drivers [] false l.turns t l.followed
+            (rw (now, l.now, l.tracing) at belongs));
         tracing = tracing ∙ ap (λ (b : Bool). traces_after b (take n held) a) l.tracing
-            ∙ sym (traces_more false l.turns (turn a below));
+            ∙ sym (traces_more false l.turns t);
         opening = l.opening;
-        begins = l.begins;
-        written = said_more l.opening output l.turns (turn a below) l.written;
-        now = l.now ∙ ap (after s.drivers) (sym same);
-        counted = entries ∙ l.counted ∙ ap (λ (es : List Entry). length es) (sym same);
+        begins = rw (version, drivers) l.begins;
+        written = said_more l.opening output l.turns t l.written;
+        now = rw (drivers, longer) now;
+        counted = rw longer counted;
       }
 
-  -- after an entry that the session made, the session goes on
-  enters : (e : Entry) (next : State) (more : Progress) → IsEntered s far (take n held) e next more
-      → IsLive explain read ended (output ++ (entry_line e
-      ++ traced_changes far.tracing s.drivers s.configuration next.configuration)) next more (drop (n + 1) held)
-  enters e next more h =
-      let p = h.performs in
-      let is : Some e ≡ Some p.entry = sym h.last ∙ p.last in
-      let same : p.entry ≡ e = cc in
-      let a : Answer = Entered e in
-      let es : List Entry = entries_of l.turns in
-      let below : List ℕ = traced_changes far.tracing s.drivers s.configuration next.configuration in
-      let longer : entries_of (l.turns ++ turn a below ∷ []) ≡ es ++ e ∷ [] =
-      flat_more (λ (u : Turn). entries_in u.answer) l.turns (turn a below) in
-      let does : step s.drivers (after s.drivers es) e.process e.command ≡ (next.configuration, e.reply) =
-      ap (λ (c : Configuration). step s.drivers c e.process e.command) (sym l.now)
-      ∙ subst (λ (x : Entry). step s.drivers s.configuration x.process x.command ≡ (next.configuration, x.reply)) same
-      p.does in
-      let right : IsEntryOf s.version s.drivers es (take n held) e = record {
-        in_version = subst (λ (x : Entry). FitsCallIn s.version (call_of x)) same p.fits;
-        is_read = subst (λ (x : Entry). take n held ≡ line_of (call_words (call_of x))) same p.is_read;
-        legal = ap (λ (x : Configuration × Reply). x.1) does;
-        spelled = h.spelled;
-        room = omega (arith, h.room, l.counted);
-      } in
-      let answered : AreAnswered s.version s.drivers [] (l.turns ++ turn a below ∷ []) =
-      answered_more s.version s.drivers [] l.turns (turn a below) l.answered short right in
-      let now_is : next.configuration ≡ after s.drivers (es ++ e ∷ []) =
-      sym (ap (λ (x : Configuration × Reply). x.0) does) ∙ sym (further s.drivers es e) in
-      let shown : below ≡ traced_changes (traces_behind false l.turns) s.drivers (after s.drivers es)
-      (after s.drivers (es ++ e ∷ [])) =
-      ap (λ (b : Bool). traced_changes b s.drivers s.configuration next.configuration) l.tracing
-      ∙ ap (λ (c : Configuration). traced_changes (traces_behind false l.turns) s.drivers c next.configuration) l.now
-      ∙ ap (λ (c : Configuration). traced_changes (traces_behind false l.turns) s.drivers (after s.drivers es) c)
-      now_is in
-      let followed : AreFollowed explain s.version s.drivers [] false (l.turns ++ turn a below ∷ []) =
-      followed_more explain s.version s.drivers [] false l.turns (turn a below) l.followed shown in
-      let length_is : length (entries_of (l.turns ++ turn a below ∷ [])) ≡ length es + 1 =
-      ap (λ (xs : List Entry). length xs) longer ∙ length-append es (e ∷ []) in
-      record {
-        table = l.table;
-        turns = l.turns ++ turn a below ∷ [];
-        read_is = read_more a below;
-        over = over_more a below;
-        fits = l.fits;
-        programs = l.programs;
-        spelled = subst (λ (v : Version). Spells (programs_grammar v) (table_text l.table) l.programs) (sym p.version)
-            l.spelled;
-        drivers = p.drivers ∙ l.drivers;
-        valid_drivers = rw p.drivers l.valid_drivers;
-        answered = rw (p.version, p.drivers) answered;
-        followed = rw (p.version, p.drivers) followed;
-        tracing = h.tracing ∙ l.tracing ∙ sym (traces_more false l.turns (turn a below));
-        few = omega (arith, length_is, h.room, l.counted);
-        opening = l.opening;
-        begins = rw (p.version, p.drivers) l.begins;
-        written = said_more l.opening output l.turns (turn a below) l.written;
-        now = now_is ∙ ap (after s.drivers) (sym longer)
-            ∙ ap (λ (ds : List DriverSpec). after ds (entries_of (l.turns ++ turn a below ∷ []))) (sym p.drivers);
-        counted = omega (arith, h.counted, length_is, l.counted);
-      }
+  -- the session stays as it is after an answer that is not an entry
+  stays : (a : Answer) → entries_in a ≡ [] → (below : List ℕ) (next : State) (more : Progress) → next ≡ s
+      → more.entries ≡ far.entries → more.tracing ≡ traces_after far.tracing (take n held) a
+      → IsAnswer s.version s.drivers (entries_of l.turns) (take n held) a
+      → IsBelow explain s.version s.drivers far.tracing s.configuration next.configuration (take n held) a below
+      → IsLive explain read ended (output ++ (answer_text a ++ below)) next more (drop (n + 1) held)
+  stays a none below next more same entries tracing =
+      goes_on a below next more (ap (λ (x : State). x.version) same) (ap (λ (x : State). x.drivers) same)
+      (rw (none, append-nil) (ap (λ (x : State). x.configuration) same ∙ l.now))
+      (rw (none, append-nil) (entries ∙ l.counted)) (omega (arith, entries, l.counted, l.few)) tracing
 
   -- the session goes on after any answer to the first line, with what belongs below it
   pub turned : (a : Answer) (below : List ℕ) (next : State) (more : Progress) → IsTaken s far (take n held) a next more
       → IsBelow explain s.version s.drivers far.tracing s.configuration next.configuration (take n held) a below
       → IsLive explain read ended (output ++ (answer_text a ++ below)) next more (drop (n + 1) held)
-  turned (Entered e) below next more h is = rw is (enters e next more h)
-  turned (Shown v) below next more h is =
-      let shown : AsksToShow (take n held) × (v ≡ view s.drivers (after s.drivers (entries_of l.turns))) =
-      (h.0, h.1 ∙ ap (view s.drivers) l.now) in
-      rw h.2 (stays (Shown v) refl below (λ tracing c d. is) shown more (ap (λ (p : Progress). p.entries) h.3)
-      (ap (λ (p : Progress). p.tracing) h.3))
-  turned (NotDone w) below next more h is =
-      let right = subst (λ (k : ℕ). IsRefusedFor s.version k (take n held) w) l.counted h.0 in
-      rw h.1 (stays (NotDone w) refl below (any w is) right more (ap (λ (p : Progress). p.entries) h.2)
-      (ap (λ (p : Progress). p.tracing) h.2)) where
-        -- what is below a refusal doesn't depend on the configuration
-        any : (w : TurnFault)
-            → IsBelow explain s.version s.drivers far.tracing s.configuration next.configuration (take n held)
-            (NotDone w) below
-            → (tracing : Bool) (c d : Configuration)
-            → IsBelow explain s.version s.drivers tracing c d (take n held) (NotDone w) below
-        any NoCommand is tracing c d = is
-        any NoMemory is tracing c d = is
-        any Full is tracing c d = is
+  turned (Entered e) below next more h belongs =
+      let p = h.performs in
+      let es : List Entry = entries_of l.turns in
+      let is : Some e ≡ Some p.entry = sym h.last ∙ p.last in
+      let same : p.entry ≡ e = cc in
+      let does : step s.drivers (after s.drivers es) e.process e.command ≡ (next.configuration, e.reply) =
+      rw (same, l.now) at p.does in
+      let right : IsEntryOf s.version s.drivers es (take n held) e = record {
+        in_version = rw same at p.fits;
+        is_read = subst (λ (x : Entry). take n held ≡ line_of (call_words (call_of x))) same p.is_read;
+        legal = ap (λ (x : Configuration × Reply). x.1) does;
+        spelled = h.spelled;
+        room = omega (arith, h.room, l.counted);
+      } in
+      goes_on (Entered e) below next more p.version p.drivers
+      (sym (ap (λ (x : Configuration × Reply). x.0) does) ∙ sym (further s.drivers es e))
+      (omega (arith, h.counted, l.counted, length-append es (e ∷ []))) (omega (arith, h.counted, h.room)) h.tracing right
+      belongs
+  turned (Shown v) below next more h belongs =
+      stays (Shown v) refl below next more h.2 (ap (λ (p : Progress). p.entries) h.3)
+      (ap (λ (p : Progress). p.tracing) h.3) (h.0, h.1 ∙ ap (view s.drivers) l.now) belongs
+  turned (NotDone w) below next more h belongs =
+      stays (NotDone w) refl below next more h.1 (ap (λ (p : Progress). p.entries) h.2)
+      (ap (λ (p : Progress). p.tracing) h.2) (rw l.counted at h.0) belongs
 
   -- if the first line asks for the end, the session has ended once its last lines are written
   pub ended_by_line : (whole : List ℕ) → IsClosing s (take n held) whole → IsOver explain read ended (output ++ whole)

@@ -3,8 +3,7 @@ use Rattle.std.proofs.Common.{◌≡◌, ◌≢◌, ℕ, ◌+◌, ◌<◌, ◌�
 use Rattle.std.proofs.Common.{map, take, drop}
 use Rattle.std.proofs.Common.{Result, Ok, Err, refl, sym, ap, subst, ◌∙◌, append_assoc, arith, inl, inr}
 use Rattle.std.proofs.lemmas.List.{append-nil, append_cancel_left}
-use Rattle.std.specs.List.{AllByRecursion}
-use Rattle.std.specs.Prelude.{◌⊎◌, IfErr, codes}
+use Rattle.std.specs.Prelude.{◌⊎◌, codes}
 use Rattle.smx_types.specs.ProgramLists.{ProgramLists}
 use Rattle.smx_types.specs.declared.command.Command.{Command}
 use Rattle.smx_types.specs.declared.command.Entry.{Entry}
@@ -20,38 +19,24 @@ use Rattle.smx_words.specs.Spellable.{FitsCall}
 use Rattle.smx_words.specs.Spelling.{call_words}
 use Rattle.smx_words.specs.Words.{LINE_FEED, line_of}
 use Rattle.smx_text.proofs.LineLemmas.{not_one}
-use Rattle.smx_text.specs.Grammar.{IsOneLine, ReadsAny, Spells, beginning}
+use Rattle.smx_text.specs.Grammar.{IsOneLine, beginning}
 use Rattle.smx_text.specs.ProgramsText.{programs_grammar}
 use Rattle.smx_text.specs.TranscriptLines as line
 use Rattle.smx_text.specs.TranscriptText.{transcript_grammar, view_lines}
-use Rattle.smx_text.specs.declared.text_fault.Cause.TheVariants as cause
-use Rattle.smx_text.specs.declared.text_fault.TextFault.{TextFault}
-use Rattle.smx_run.specs.RunFaults.{RefusesAlone}
-use Rattle.smx_run.specs.declared.run_fault.RunFault.{RunFault}
-use Rattle.smx_run.specs.declared.run_fault.RunFault.TheVariants as run
 use Rattle.smx_explain.specs.ColumnWords.{IsExplanationOf}
-use Rattle.smx_session.specs.Sessions.{State}
-use Rattle.smx_filters.specs.declared.input.TheConstants.{MAX_INPUT}
-use Rattle.smx_filters.proofs.AnswerLemmas.{HaveOneFault, only_memory_refuses}
+use Rattle.smx_filters.proofs.ReadingLemmas.{HasOneReading, one_value}
 use Rattle.smx_live.specs.Inboxes.{IsShort}
-use Rattle.smx_live.specs.LiveText.{HasComeSoFar, IsAtEnd, IsLive, IsOver, RefusesDriversOf}
-use Rattle.smx_live.specs.Tables.{HasTableOf, table_text}
+use Rattle.smx_live.specs.LiveText.{IsAtEnd, IsOver}
+use Rattle.smx_live.specs.Tables.{table_text}
 use Rattle.smx_live.specs.Turns.{Answer, AreAnswered, AsksToShow, Entered, HasEnoughMemory, IsAnswer, IsEntryOf}
 use Rattle.smx_live.specs.Turns.{NotDone}
 use Rattle.smx_live.specs.Turns.{AreFollowed, IsBelow, Shown, Turn, asked_text, entries_in, entries_of, said_text}
 use Rattle.smx_live.specs.Turns.{traces_after}
-use Rattle.smx_live.specs.declared.talk.Progress.{Progress}
 use Rattle.smx_live.specs.declared.turn_fault.TurnFault.TheVariants.{NoCommand, NoMemory, Full}
 use Rattle.smx_live.proofs.AskedLineLemmas.{end_shows_nothing, no_call_line, no_digit_shows}
 use Rattle.smx_live.proofs.OverTableLemmas.{table_once}
 
 -- ---- what other crates' laws say
-
--- a programs text has one reading, apart from out-of-memory
-abbrev pub HasOneReading : Type 0
-HasOneReading = (bytes : List ℕ) (r s : Result ProgramLists TextFault) → ReadsAny programs_grammar bytes r
-    → ReadsAny programs_grammar bytes s → IfErr r (λ f. f.cause ≢ cause.NoMemory)
-    → IfErr s (λ f. f.cause ≢ cause.NoMemory) → r ≡ s
 
 -- no two calls have the same line
 abbrev pub AreDistinguished : Type 0
@@ -187,22 +172,15 @@ module _ (explain : Bool) (once : IsExplainedOnce) (version : Version) (drivers 
       e =
       let cut = apart LINE_FEED t.line u.line (asked_text ts ++ held) (asked_text us ++ more) was.0.0 was_too.0.0
       (sym (asked_cons t ts held) ∙ e ∙ asked_cons u us more) in
-      let said_too = subst (λ (l : List ℕ). IsAnswer version drivers history l u.answer) (sym cut.0) was_too.1 in
       let answer : t.answer ≡ u.answer = answer_once version drivers history t.line told_apart t.answer u.answer was.1
-      said_too had.0 had_too.0 in
+      (rw cut.0 was_too.1) had.0 had_too.0 in
       let below : t.below ≡ u.below = below_once once explain version drivers tracing (after drivers history)
       (after drivers (history ++ entries_in t.answer)) t.line t.answer t.below u.below told.0
       (rw (cut.0, answer) told_too.0) in
       let same : t ≡ u = ap (λ (l : List ℕ). turn l t.answer t.below) cut.0
       ∙ ap (λ (a : Answer). turn u.line a t.below) answer ∙ ap (turn u.line u.answer) below in
-      let behind = subst (λ (a : Answer). AreAnswered version drivers (history ++ entries_in a) us) (sym answer)
-      was_too.2 in
-      let told_behind = subst (λ (a : Answer). AreFollowed explain version drivers (history ++ entries_in a)
-      (traces_after tracing t.line a) us) (sym answer)
-      (subst (λ (l : List ℕ). AreFollowed explain version drivers (history ++ entries_in u.answer)
-      (traces_after tracing l u.answer) us) (sym cut.0) told_too.1) in
       let others = turns_once (history ++ entries_in t.answer) (traces_after tracing t.line t.answer) ts us held more
-      words said was.2 behind told.1 told_behind had.1 had_too.1 at at_too cut.1 in
+      words said was.2 (rw answer was_too.2) told.1 (rw (cut.0, answer) told_too.1) had.1 had_too.1 at at_too cut.1 in
       (ap (λ (x : Turn). x ∷ ts) same ∙ ap (λ (xs : List Turn). u ∷ xs) others.0, others.1) where
         turn : List ℕ → Answer → List ℕ → Turn
         turn l a below = record { line = l; answer = a; below = below }
@@ -218,27 +196,11 @@ whole_output version drivers turns words =
 -- what a session that has ended wrote is its output, by its drivers, its turns and its last words
 output_is : {explain : Bool} (read : List ℕ) (ended : Bool) (output : List ℕ) (o : IsOver explain read ended output)
     → output ≡ whole_output o.s.version o.s.drivers o.live.turns o.words
-output_is read ended output o =
-    o.written ∙ ap (λ (x : List ℕ). x ++ (o.words ++ closing o.s.configuration)) o.live.written
-    ∙ ap (λ (x : List ℕ). (x ++ said_text o.live.turns) ++ (o.words ++ closing o.s.configuration)) o.live.begins.written
-    ∙ ap (λ (c : Configuration). (opening ++ said_text o.live.turns) ++ (o.words ++ closing c)) o.live.now where
-      opening : List ℕ
-      opening = beginning (transcript_grammar o.s.version) (map line.Driver o.s.drivers ++ map line.Entry [])
-
-      closing : Configuration → List ℕ
-      closing c = view_lines (view o.s.drivers c) ++ codes "end\n"
-
--- a text spells one value, in either version
-pub value_once : HasOneReading → (text : List ℕ) (v w : Version) (x y : ProgramLists)
-    → Spells (programs_grammar v) text x → Spells (programs_grammar w) text y → x ≡ y
-value_once reading text v w x y h k =
-    let one : Result ProgramLists TextFault = Ok x in
-    let other : Result ProgramLists TextFault = Ok y in
-    let same : one ≡ other = reading text one other (v, h, tt) (w, k, tt) tt tt in cc
+output_is read ended output o = rw (o.written, o.live.written, o.live.begins.written, o.live.now) refl
 
 -- two sessions that ended over the same bytes, and never ran out of memory, have written the same
-pub one_output : HasOneReading → AreDistinguished → IsExplainedOnce → (explain : Bool) (read : List ℕ) (ended : Bool)
-    (one other : List ℕ) (o : IsOver explain read ended one) (p : IsOver explain read ended other)
+pub one_output : HasOneReading programs_grammar → AreDistinguished → IsExplainedOnce → (explain : Bool) (read : List ℕ)
+    (ended : Bool) (one other : List ℕ) (o : IsOver explain read ended one) (p : IsOver explain read ended other)
     → HasEnoughMemory o.live.turns → HasEnoughMemory p.live.turns → one ≡ other
 one_output reading told_apart once explain read ended one other o p had had_too =
     output_is read ended one o ∙ ap (λ (v : Version). whole_output v o.s.drivers o.live.turns o.words) version
@@ -251,9 +213,8 @@ one_output reading told_apart once explain read ended one other o p had had_too 
           (sym o.live.read_is ∙ p.live.read_is)
 
       programs : o.live.programs ≡ p.live.programs
-      programs = value_once reading (table_text p.live.table) o.s.version p.s.version o.live.programs p.live.programs
-          (subst (λ (t : List ℕ). Spells (programs_grammar o.s.version) (table_text t) o.live.programs) table.0
-          o.live.spelled) p.live.spelled
+      programs = one_value programs_grammar reading (table_text p.live.table) o.s.version p.s.version o.live.programs
+          p.live.programs (rw table.0 at o.live.spelled) p.live.spelled
 
       version : o.s.version ≡ p.s.version
       version = sym o.live.spelled.allowed.version_is ∙ ap (λ (x : ProgramLists). x.version) programs
@@ -264,51 +225,5 @@ one_output reading told_apart once explain read ended one other o p had had_too 
 
       turns : (o.live.turns ≡ p.live.turns) × (o.words ≡ p.words)
       turns = turns_once explain once p.s.version p.s.drivers told_apart ended [] false o.live.turns p.live.turns o.held
-          p.held o.words p.words
-          (subst (λ (ds : List DriverSpec). AreAnswered p.s.version ds [] o.live.turns) drivers
-          (subst (λ (v : Version). AreAnswered v o.s.drivers [] o.live.turns) version o.live.answered))
-          p.live.answered
-          (subst (λ (ds : List DriverSpec). AreFollowed explain p.s.version ds [] false o.live.turns) drivers
-          (subst (λ (v : Version). AreFollowed explain v o.s.drivers [] false o.live.turns) version o.live.followed))
-          p.live.followed had had_too o.at_end p.at_end table.1
-
--- ---- the session's table and lines
-
--- the table of a session has no fault as a programs text, except out-of-memory
-pub no_fault : HasOneReading → (explain : Bool) (read output : List ℕ) (ended : Bool) (fault : TextFault)
-    → HasComeSoFar explain read ended output
-    → HasTableOf read ended (λ text. ReadsAny programs_grammar text (Err fault)) → fault.cause ≢ cause.NoMemory → ⊥
-no_fault reading explain read output ended fault (s, far, held, l) (table, rest, parts, over, bad) known =
-    let same = table_once ended table l.table rest _ over l.over (sym parts ∙ l.read_is) in
-    let there = subst (λ (t : List ℕ). ReadsAny programs_grammar (table_text t) (Err fault)) same.0 bad in
-    let one : Result ProgramLists TextFault = Ok l.programs in
-    let other : Result ProgramLists TextFault = Err fault in
-    let wrong : one ≡ other = reading (table_text l.table) one other (s.version, l.spelled, tt) there tt known in
-    absurd (cc wrong)
-
--- the drivers of a session's table are not refused, except for lack of memory
-pub no_refusal : HasOneReading → HaveOneFault → (explain : Bool) (read output : List ℕ) (ended : Bool)
-    (fault : RunFault) → HasComeSoFar explain read ended output
-    → HasTableOf read ended (RefusesDriversOf fault) → fault ≡ run.NoMemory
-no_refusal reading determined explain read output ended fault (s, far, held, l)
-    (table, rest, parts, over, (version, p, spelled, refused)) =
-    let same = table_once ended table l.table rest _ over l.over (sym parts ∙ l.read_is) in
-    let there = subst (λ (t : List ℕ). Spells (programs_grammar version) (table_text t) p) same.0 spelled in
-    let programs : p ≡ l.programs = value_once reading (table_text l.table) version s.version p l.programs there
-    l.spelled in
-    let drivers : p.drivers ≡ s.drivers = ap (λ (x : ProgramLists). x.drivers) programs ∙ sym l.drivers in
-    only_memory_refuses determined s.drivers l.valid_drivers fault
-    (subst (λ (ds : List DriverSpec). RefusesAlone ds fault) drivers refused)
-
--- each line that was answered is within the limit
-all_short : (version : Version) (drivers : List DriverSpec) (history : List Entry) (ts : List Turn)
-    → AreAnswered version drivers history ts → AllByRecursion (λ t. length t.line ≤ MAX_INPUT) ts
-all_short version drivers history [] was = tt
-all_short version drivers history (t ∷ ts) was =
-    (was.0.1, all_short version drivers (history ++ entries_in t.answer) ts was.2)
-
--- the table of a session and each line that it answered are within the limit
-pub are_short : (explain : Bool) (read output held : List ℕ) (ended : Bool) (s : State) (far : Progress)
-    (l : IsLive explain read ended output s far held)
-    → (length l.table ≤ MAX_INPUT) × AllByRecursion (λ t. length t.line ≤ MAX_INPUT) l.turns
-are_short explain read output held ended s far l = (l.fits, all_short s.version s.drivers [] l.turns l.answered)
+          p.held o.words p.words (rw (version, drivers) at o.live.answered) p.live.answered
+          (rw (version, drivers) at o.live.followed) p.live.followed had had_too o.at_end p.at_end table.1

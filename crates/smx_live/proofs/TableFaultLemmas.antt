@@ -1,7 +1,11 @@
--- Tables with a fault, by what a live session answers.
-use Rattle.std.proofs.Common.{◌≡◌, ◌≢◌, ℕ, Bool, List, [], Result, Ok, Err, refl, sym, ap, subst, ◌∙◌, inl, inr}
+-- The text of a table, read as a programs text: it has one value, or one fault.
+use Rattle.std.proofs.Common.{◌≡◌, ◌≢◌, ℕ, ◌≤◌, Bool, List, [], ◌∷◌, ◌++◌, length, Err, refl, sym, ap, subst}
+use Rattle.std.proofs.Common.{◌∙◌, inl, inr}
+use Rattle.std.specs.List.{AllByRecursion}
 use Rattle.smx_types.specs.ProgramLists.{ProgramLists}
+use Rattle.smx_types.specs.declared.command.Entry.{Entry}
 use Rattle.smx_types.specs.declared.driver.DriverSpec.{DriverSpec}
+use Rattle.smx_types.specs.declared.version.Version.{Version}
 use Rattle.smx_config.specs.DriverFaults.{RefusesDrivers}
 use Rattle.smx_config.specs.declared.config_fault.ConfigFault.{ConfigFault}
 use Rattle.smx_run.specs.RunFaults.{RefusesAlone}
@@ -11,64 +15,86 @@ use Rattle.smx_text.specs.Grammar.{ReadsAny, Spells}
 use Rattle.smx_text.specs.ProgramsText.{programs_grammar}
 use Rattle.smx_text.specs.declared.text_fault.Cause.TheVariants as cause
 use Rattle.smx_text.specs.declared.text_fault.TextFault.{TextFault}
+use Rattle.smx_session.specs.Sessions.{HasDrivers, State}
+use Rattle.smx_filters.specs.declared.input.TheConstants.{MAX_INPUT}
 use Rattle.smx_filters.specs.declared.main_fault.MainFault.TheVariants.{Refused, Text}
-use Rattle.smx_live.specs.LiveText.{IsOutcome, RefusesDriversOf}
-use Rattle.smx_live.specs.Tables.{HasShortTableOf, IsEndlessTable, table_text}
-use Rattle.smx_filters.proofs.AnswerLemmas.{HaveOneFault}
-use Rattle.smx_live.proofs.OneOutputLemmas.{HasOneReading, value_once}
+use Rattle.smx_filters.proofs.AnswerLemmas.{HaveOneFault, only_memory_refuses}
+use Rattle.smx_filters.proofs.ReadingLemmas as texts
+use Rattle.smx_filters.proofs.ReadingLemmas.{HasOneReading, one_value}
+use Rattle.smx_live.specs.LiveText.{HasComeSoFar, IsLive, IsOutcome, RefusesDriversOf}
+use Rattle.smx_live.specs.Tables.{HasShortTableOf, HasTableOf, IsEndlessTable, table_text}
+use Rattle.smx_live.specs.Turns.{AreAnswered, Turn, entries_in}
+use Rattle.smx_live.specs.declared.talk.Progress.{Progress}
 use Rattle.smx_live.proofs.OverTableLemmas.{not_endless, table_once}
 
+-- ---- one table
+
+-- what was read starts with one table, so two facts about the text of a table are about one text
+both : {read : List ℕ} {ended : Bool} (IsOne IsOther : List ℕ → Type 0) → HasTableOf read ended IsOne
+    → HasTableOf read ended IsOther → (text : List ℕ) × IsOne text × IsOther text
+both {read} {ended} IsOne IsOther (table, rest, parts, over, one) (second, more, parts_too, over_too, so) =
+    let same = table_once ended table second rest more over over_too (sym parts ∙ parts_too) in
+    (table_text second, subst (λ (t : List ℕ). IsOne (table_text t)) same.0 one, so)
+
+-- a table within the limit is a table
+of_short : {read : List ℕ} {ended : Bool} (IsSo : List ℕ → Type 0) → HasShortTableOf read ended IsSo
+    → HasTableOf read ended IsSo
+of_short IsSo (table, rest, parts, over, fits, so) = (table, rest, parts, over, so)
+
 -- bytes that start with a table within the limit don't start with one that is too long
-no_endless : (read : List ℕ) (ended : Bool) (IsSo : List ℕ → Type 0) → HasShortTableOf read ended IsSo
+pub no_endless : (read : List ℕ) (ended : Bool) (IsSo : List ℕ → Type 0) → HasShortTableOf read ended IsSo
     → IsEndlessTable read → ⊥
 no_endless read ended IsSo (table, rest, parts, over, fits, so) long =
-    not_endless ended table rest over fits (subst IsEndlessTable parts long)
+    not_endless ended table rest over fits (rw parts at long)
 
-module _ (explain : Bool) (read output : List ℕ) (ended flushed : Bool) (reads writes : ℕ) where
-  -- out-of-memory is not reported as the fault of a table
-  pub is_known : (fault : TextFault) → IsOutcome explain read output ended flushed reads writes (Err (Text fault))
-      → fault.cause ≢ cause.NoMemory
-  is_known fault h = h.2
+-- what holds of the drivers of a text holds of those of any programs that the text spells
+pub drivers_of : HasOneReading programs_grammar → (text : List ℕ) (AreSuch : List DriverSpec → Type 0)
+    → HasDrivers text AreSuch → (v : Version) (p : ProgramLists) → Spells (programs_grammar v) text p
+    → AreSuch p.drivers
+drivers_of reading text AreSuch (w, q, also, such) v p spelled =
+    subst (λ (x : ProgramLists). AreSuch x.drivers) (one_value programs_grammar reading text w v q p also spelled) such
 
-  -- nothing was written if a table has a fault
-  pub is_silent : (fault : TextFault) → IsOutcome explain read output ended flushed reads writes (Err (Text fault))
-      → output ≡ []
-  is_silent fault h = h.1
+-- ---- the table of a session
 
-  -- nothing was written if drivers are refused
-  pub drivers_are_silent : (fault : RunFault)
-      → IsOutcome explain read output ended flushed reads writes (Err (Refused fault)) → fault ≢ run.NoMemory
-      → output ≡ []
-  drivers_are_silent fault (fine, inl (is, broken)) other = absurd (other is)
-  drivers_are_silent fault (fine, inr (none, bad)) other = none
+-- the table of a session spells the session's programs
+spells : {explain : Bool} {read : List ℕ} {ended : Bool} {output : List ℕ} {s : State} {far : Progress} {held : List ℕ}
+    (l : IsLive explain read ended output s far held)
+    → HasTableOf read ended (λ text. Spells (programs_grammar s.version) text l.programs)
+spells l = (l.table, _, l.read_is, l.over, l.spelled)
 
-  -- a table that is reported to have a fault is not too long
-  pub is_short : (fault : TextFault) → IsOutcome explain read output ended flushed reads writes (Err (Text fault))
-      → IsEndlessTable read → ⊥
-  is_short fault h long =
-      no_endless read ended (λ text. ReadsAny programs_grammar text (Err fault)) h.3 long
+-- it has no fault as a programs text, except out-of-memory
+pub no_fault : HasOneReading programs_grammar → (explain : Bool) (read output : List ℕ) (ended : Bool)
+    (fault : TextFault) → HasComeSoFar explain read ended output
+    → HasTableOf read ended (λ text. ReadsAny programs_grammar text (Err fault)) → fault.cause ≢ cause.NoMemory → ⊥
+no_fault reading explain read output ended fault (s, far, held, l) bad =
+    let (text, spelled, also) = both (λ t. Spells (programs_grammar s.version) t l.programs)
+    (λ t. ReadsAny programs_grammar t (Err fault)) (spells l) bad in
+    texts.no_fault programs_grammar reading text s.version l.programs fault spelled also
 
-  -- a table whose drivers are refused is not too long
-  pub drivers_are_short : (fault : RunFault)
-      → IsOutcome explain read output ended flushed reads writes (Err (Refused fault)) → fault ≢ run.NoMemory
-      → IsEndlessTable read → ⊥
-  drivers_are_short fault (fine, inl (is, broken)) other long = absurd (other is)
-  drivers_are_short fault (fine, inr (none, bad)) other long =
-      no_endless read ended (RefusesDriversOf fault) bad long
+-- its drivers are not refused, except for lack of memory
+pub no_refusal : HasOneReading programs_grammar → HaveOneFault → (explain : Bool) (read output : List ℕ) (ended : Bool)
+    (fault : RunFault) → HasComeSoFar explain read ended output
+    → HasTableOf read ended (RefusesDriversOf fault) → fault ≡ run.NoMemory
+no_refusal reading determined explain read output ended fault (s, far, held, l) bad =
+    let (text, spelled, refused) = both (λ t. Spells (programs_grammar s.version) t l.programs)
+    (RefusesDriversOf fault) (spells l) bad in
+    only_memory_refuses determined s.drivers l.valid_drivers fault
+    (rw l.drivers (drivers_of reading text (λ ds. RefusesAlone ds fault) refused s.version l.programs spelled))
 
--- only one fault is reported for a table
-pub one_fault : HasOneReading → (explain : Bool) (read output : List ℕ) (ended flushed : Bool)
-    (reads writes : ℕ)
-    (one other : TextFault) → IsOutcome explain read output ended flushed reads writes (Err (Text one))
-    → IsOutcome explain read output ended flushed reads writes (Err (Text other)) → one ≡ other
-one_fault reading explain read output ended flushed reads writes one other
-    (fine, none, known, (table, rest, parts, over, fits, bad))
-    (fine_too, none_too, known_too, (second, behind, parts_too, over_too, fits_too, bad_too)) =
-    let same = table_once ended table second rest behind over over_too (sym parts ∙ parts_too) in
-    let there = subst (λ (t : List ℕ). ReadsAny programs_grammar (table_text t) (Err one)) same.0 bad in
-    let first : Result ProgramLists TextFault = Err one in
-    let last : Result ProgramLists TextFault = Err other in
-    let is : first ≡ last = reading (table_text second) first last there bad_too known known_too in cc is
+-- each line that was answered is within the limit
+all_short : (version : Version) (drivers : List DriverSpec) (history : List Entry) (ts : List Turn)
+    → AreAnswered version drivers history ts → AllByRecursion (λ t. length t.line ≤ MAX_INPUT) ts
+all_short version drivers history [] was = tt
+all_short version drivers history (t ∷ ts) was =
+    (was.0.1, all_short version drivers (history ++ entries_in t.answer) ts was.2)
+
+-- the table of a session and each line that it answered are within the limit
+pub are_short : (explain : Bool) (read output held : List ℕ) (ended : Bool) (s : State) (far : Progress)
+    (l : IsLive explain read ended output s far held)
+    → (length l.table ≤ MAX_INPUT) × AllByRecursion (λ t. length t.line ≤ MAX_INPUT) l.turns
+are_short explain read output held ended s far l = (l.fits, all_short s.version s.drivers [] l.turns l.answered)
+
+-- ---- a table with a fault
 
 -- drivers that are refused, but not for lack of memory, have a fault of their own
 fault_of_drivers : (drivers : List DriverSpec) (fault : RunFault) → RefusesAlone drivers fault → fault ≢ run.NoMemory
@@ -82,40 +108,39 @@ fault_of_drivers drivers run.Held never other = absurd never
 fault_of_drivers drivers (run.FewEntries count) never other = absurd never
 fault_of_drivers drivers (run.LongPage count) never other = absurd never
 
--- the drivers of a table are refused for one fault, if it is not out-of-memory
-pub one_refusal : HasOneReading → HaveOneFault → (explain : Bool) (read output : List ℕ) (ended flushed : Bool)
-    (reads writes : ℕ)
-    (one other : RunFault) → IsOutcome explain read output ended flushed reads writes (Err (Refused one))
-    → IsOutcome explain read output ended flushed reads writes (Err (Refused other)) → one ≢ run.NoMemory
-    → other ≢ run.NoMemory → one ≡ other
-one_refusal reading determined explain read output ended flushed reads writes one other (fine, inl (is, broken)) bad
-    no_want none = absurd (no_want is)
-one_refusal reading determined explain read output ended flushed reads writes one other bad (fine, inl (is, broken))
-    no_want none = absurd (none is)
-one_refusal reading determined explain read output ended flushed reads writes one other
-    (fine, inr (silent, (table, rest, parts, over, fits, (v, p, spelled, refused))))
-    (fine_too, inr (silent_too, (second, behind, parts_too, over_too, fits_too, (w, q, spelled_too, refused_too))))
-    no_want none =
-    let same = table_once ended table second rest behind over over_too (sym parts ∙ parts_too) in
-    let there = subst (λ (t : List ℕ). Spells (programs_grammar v) (table_text t) p) same.0 spelled in
-    let programs : p ≡ q = value_once reading (table_text second) v w p q there spelled_too in
-    let also = subst (λ (x : ProgramLists). RefusesAlone x.drivers one) programs refused in
-    let first = fault_of_drivers q.drivers one also no_want in
-    let last = fault_of_drivers q.drivers other refused_too none in
-    first.1 ∙ ap run.ConfigFault (determined q.drivers first.0 last.0 first.2 last.2) ∙ sym last.1
+module _ (reading : HasOneReading programs_grammar) (explain : Bool) (read output : List ℕ) (ended flushed : Bool)
+    (reads writes : ℕ) where
+  -- only one fault is reported for a table
+  pub one_fault : (one other : TextFault) → IsOutcome explain read output ended flushed reads writes (Err (Text one))
+      → IsOutcome explain read output ended flushed reads writes (Err (Text other)) → one ≡ other
+  one_fault one other (fine, none, known, bad) (fine_too, none_too, known_too, bad_too) =
+      let IsBad : TextFault → List ℕ → Type 0 = λ f t. ReadsAny programs_grammar t (Err f) in
+      let (text, first, last) = both (IsBad one) (IsBad other) (of_short (IsBad one) bad)
+      (of_short (IsBad other) bad_too) in
+      texts.one_fault programs_grammar reading text one other first last known known_too
 
--- if the text of a table has a fault, its drivers are not refused
-pub text_or_drivers : HasOneReading → (explain : Bool) (read output : List ℕ) (ended flushed : Bool)
-    (reads writes : ℕ)
-    (fault : TextFault) (other : RunFault) → IsOutcome explain read output ended flushed reads writes (Err (Text fault))
-    → IsOutcome explain read output ended flushed reads writes (Err (Refused other)) → other ≡ run.NoMemory
-text_or_drivers reading explain read output ended flushed reads writes fault other bad (fine, inl (is, broken)) = is
-text_or_drivers reading explain read output ended flushed reads writes fault other
-    (fine, silent, known, (table, rest, parts, over, fits, bad))
-    (fine_too, inr (silent_too, (second, behind, parts_too, over_too, fits_too, (w, q, spelled, refused)))) =
-    let same = table_once ended table second rest behind over over_too (sym parts ∙ parts_too) in
-    let there = subst (λ (t : List ℕ). ReadsAny programs_grammar (table_text t) (Err fault)) same.0 bad in
-    let one : Result ProgramLists TextFault = Ok q in
-    let wrong : Result ProgramLists TextFault = Err fault in
-    let is : one ≡ wrong = reading (table_text second) one wrong (w, spelled, tt) there tt known in
-    absurd (cc is)
+  -- if the text of a table has a fault, its drivers are not refused
+  pub text_or_drivers : (fault : TextFault) (other : RunFault)
+      → IsOutcome explain read output ended flushed reads writes (Err (Text fault))
+      → IsOutcome explain read output ended flushed reads writes (Err (Refused other)) → other ≡ run.NoMemory
+  text_or_drivers fault other h (fine, inl (is, broken)) = is
+  text_or_drivers fault other (fine, none, known, bad) (fine_too, inr (none_too, refused)) =
+      let IsBad : List ℕ → Type 0 = λ t. ReadsAny programs_grammar t (Err fault) in
+      let (text, first, (w, q, spelled, last)) = both IsBad (RefusesDriversOf other) (of_short IsBad bad)
+      (of_short (RefusesDriversOf other) refused) in
+      absurd (texts.no_fault programs_grammar reading text w q fault spelled first known)
+
+  -- the drivers of a table are refused for one fault, if it is not out-of-memory
+  pub one_refusal : HaveOneFault → (one other : RunFault)
+      → IsOutcome explain read output ended flushed reads writes (Err (Refused one))
+      → IsOutcome explain read output ended flushed reads writes (Err (Refused other)) → one ≢ run.NoMemory
+      → other ≢ run.NoMemory → one ≡ other
+  one_refusal determined one other (fine, inl (is, broken)) h known known_too = absurd (known is)
+  one_refusal determined one other h (fine, inl (is, broken)) known known_too = absurd (known_too is)
+  one_refusal determined one other (fine, inr (none, bad)) (fine_too, inr (none_too, bad_too)) known known_too =
+      let (text, (v, p, spelled, refused), also) = both (RefusesDriversOf one) (RefusesDriversOf other)
+      (of_short (RefusesDriversOf one) bad) (of_short (RefusesDriversOf other) bad_too) in
+      let first = fault_of_drivers p.drivers one refused known in
+      let last = fault_of_drivers p.drivers other
+      (drivers_of reading text (λ ds. RefusesAlone ds other) also v p spelled) known_too in
+      first.1 ∙ ap run.ConfigFault (determined p.drivers first.0 last.0 first.2 last.2) ∙ sym last.1

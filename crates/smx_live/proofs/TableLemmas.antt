@@ -1,11 +1,10 @@
 -- Tables that grow by a line, and what is read after them.
 use Rattle.std.proofs.Common.{◌≡◌, ◌≢◌, ℕ, ◌+◌, ◌<◌, ◌≤◌, Bool, true, false, List, [], ◌∷◌, ◌++◌, length, take, refl}
-use Rattle.std.proofs.Common.{sym, ap, subst, ◌∙◌, append_assoc, arith, inl, inr}
+use Rattle.std.proofs.Common.{sym, ap, ◌∙◌, append_assoc, arith, inl, inr}
 use Rattle.std.proofs.lemmas.List.{append-nil, length-append, take-append-le}
 use Rattle.std.specs.List.{flat_map}
 use Rattle.std.specs.Global.{Global}
-use Rattle.std.specs.Io.KnownBytes.{Consumes}
-use Rattle.std.specs.Prelude.{◌⊎◌, Option, Result, Vec, Ok, Err}
+use Rattle.std.specs.Prelude.{◌⊎◌, Result, Vec, Ok, Err}
 use Rattle.smx_words.specs.Words.{LINE_FEED, lines_text}
 use Rattle.smx_text.specs.Grammar.{IsOneLine}
 use Rattle.smx_text.proofs.EachLemmas.{all_push}
@@ -13,11 +12,11 @@ use Rattle.smx_filters.specs.declared.input.TheConstants.{MAX_INPUT}
 use Rattle.smx_filters.specs.declared.main_fault.MainFault.{MainFault}
 use Rattle.smx_filters.specs.declared.main_fault.MainFault.TheVariants.{Refused, Text, TooLong, ReadFailed, WriteFailed}
 use Rattle.smx_live.specs.Inboxes.{FailsToRead, HasLine, IsShort, IsTooLong}
-use Rattle.smx_live.specs.LiveStages.{HasTable, TakesCutLine}
-use Rattle.smx_live.specs.Tables.{AreOfTable, BeginsAsTable, EndsBehind, IsCutDriver, IsEndlessTable, IsOverAt, IsTable}
-use Rattle.smx_live.specs.Tables.{IsUnfinished, begins_driver}
+use Rattle.smx_live.specs.LiveStages.{TableComes, TakesCutLine}
+use Rattle.smx_live.specs.Tables.{AreOfTable, IsCutDriver, IsEndlessTable, IsOverAt, IsTable, IsUnfinished}
+use Rattle.smx_live.specs.Tables.{begins_driver}
 use Rattle.smx_live.specs.declared.inbox.Inbox.{Inbox}
-use Rattle.smx_live.proofs.InboxLemmas.{line_stays, unmoved, with_line_feed}
+use Rattle.smx_live.proofs.InboxLemmas.{fails_as, line_stays, with_line_feed}
 
 -- `flat_map` over a list with one more item appends what that item gives
 pub flat_more : {A B : Type 0} (f : A → List B) (xs : List A) (x : A) → flat_map f (xs ++ x ∷ []) ≡ flat_map f xs ++ f x
@@ -27,7 +26,7 @@ flat_more f (y ∷ xs) x = ap (λ l. f y ++ l) (flat_more f xs x) ∙ sym (appen
 -- ---- one more line
 
 -- the text of at least one line is not empty, since each line has a line feed
-some_text : (line : List ℕ) (lines : List (List ℕ)) → length (lines_text (line ∷ lines)) ≡ 0 → ⊥
+some_text : (line : List ℕ) (lines : List (List ℕ)) → length (lines_text (line ∷ lines)) ≢ 0
 some_text line lines none =
     omega (
       arith,
@@ -47,210 +46,107 @@ one_line_more (l ∷ ls) line were one (inr is) = record {
   last = inl refl;
 }
 
--- the text of a table, followed by the first line and its line feed, is the text of the table with that line
-pub text_more : (table : List ℕ) (lines : List (List ℕ)) (n : ℕ) (held : List ℕ) → table ≡ lines_text lines
-    → HasLine n held
-    → table ++ take (n + 1) held ≡ lines_text (lines ++ take n held ∷ [])
-text_more table lines n held text line =
-    ap (λ (t : List ℕ). table ++ t) (with_line_feed n held line)
-    ∙ ap (λ (t : List ℕ). t ++ (take n held ++ LINE_FEED ∷ [])) text
+-- the text of lines, followed by the first line and its line feed, is the text of the lines with that line
+pub text_more : (lines : List (List ℕ)) (n : ℕ) (held : List ℕ) → HasLine n held
+    → lines_text lines ++ take (n + 1) held ≡ lines_text (lines ++ take n held ∷ [])
+text_more lines n held line =
+    ap (λ (t : List ℕ). lines_text lines ++ t) (with_line_feed n held line)
     ∙ sym (flat_more (λ (l : List ℕ). l ++ LINE_FEED ∷ []) lines (take n held))
-
--- what was read begins like a table of these lines, with a cut line after them or none
-pub begins_as : (bytes table rest : List ℕ) (lines : List (List ℕ)) (cut : List ℕ) (AreSo : List ℕ → List ℕ → Type 0)
-    → bytes ≡ table ++ rest → table ≡ lines_text lines ++ cut → AreOfTable lines cut → AreSo table rest
-    → BeginsAsTable bytes AreSo
-begins_as bytes table rest lines cut AreSo parts text were so = (
-  lines,
-  cut,
-  rest,
-  parts ∙ ap (λ (t : List ℕ). t ++ rest) text,
-  were,
-  subst (λ (t : List ℕ). AreSo t rest) text so,
-)
-
--- the text of whole lines is their text with nothing after it
-whole : (table : List ℕ) (lines : List (List ℕ)) → table ≡ lines_text lines → table ≡ lines_text lines ++ []
-whole table lines text = text ∙ sym (append-nil (lines_text lines))
-
--- if no line can be read after these lines, the table is too long, or unfinished
-pub fails_with : (start read piece table held : List ℕ) (lines : List (List ℕ)) → start ++ read ≡ table ++ held
-    → table ≡ lines_text lines → AreOfTable lines [] → (failures : ℕ) (e : MainFault)
-    → FailsToRead (IsTooLong (held ++ piece)) (IsOneLine (held ++ piece)) failures e
-    → FailsToRead (IsEndlessTable (start ++ (read ++ piece))) (IsUnfinished (start ++ (read ++ piece))) failures e
-fails_with start read piece table held lines parts text were failures e = by_fault e where
-  all : start ++ (read ++ piece) ≡ table ++ (held ++ piece)
-  all = unmoved start read piece table held (held ++ piece) parts refl
-
-  by_fault : (f : MainFault) → FailsToRead (IsTooLong (held ++ piece)) (IsOneLine (held ++ piece)) failures f
-      → FailsToRead (IsEndlessTable (start ++ (read ++ piece))) (IsUnfinished (start ++ (read ++ piece))) failures f
-  by_fault TooLong is = (
-    is.0,
-    begins_as (start ++ (read ++ piece)) table (held ++ piece) lines []
-        (λ text rest. (MAX_INPUT < length text) ⊎ IsTooLong rest) all (whole table lines text) were (inr is.1),
-  )
-  by_fault ReadFailed is = (
-    is.0,
-    begins_as (start ++ (read ++ piece)) table (held ++ piece) lines [] (λ text rest. IsOneLine rest) all
-        (whole table lines text) were is.1,
-  )
-  by_fault (Refused f) is = is
-  by_fault (Text f) is = absurd is
-  by_fault WriteFailed is = absurd is
 
 -- ---- the end of a table
 
--- a table with a line has ended if the next line doesn't begin like a driver line
-pub over_at_a_line : (ended : Bool) (table : List ℕ) (lines : List (List ℕ)) (n : ℕ) (held : List ℕ)
-    → table ≡ lines_text lines → AreOfTable lines [] → HasLine n held → n ≤ MAX_INPUT → length table ≢ 0
-    → begins_driver (take n held) ≡ false → IsTable ended table held
-over_at_a_line ended table lines n held text were line small some other = record {
-  lines = lines;
-  cut = [];
-  text = whole table lines text;
-  of_table = were;
-  over = inl (
-    n,
-    refl,
-    line,
-    small,
-    λ none. some (ap (λ (t : List ℕ). length t) text
-        ∙ ap (λ (ls : List (List ℕ)). length (lines_text ls)) none),
-    other,
-  );
-}
+module _ (table : List ℕ) (lines : List (List ℕ)) (held : List ℕ) (text : table ≡ lines_text lines)
+    (were : AreOfTable lines []) where
+  -- if no line can be read after these lines, the table is too long, or unfinished
+  pub fails_with : {all : List ℕ} (failures : ℕ) → all ≡ table ++ held → (e : MainFault)
+      → FailsToRead (IsTooLong held) (IsOneLine held) failures e
+      → FailsToRead (IsEndlessTable all) (IsUnfinished all) failures e
+  fails_with {all} failures parts = fails_as failures (λ long. (lines, [], held, split, were, inr long))
+      (λ one. (lines, [], held, split, were, one)) where
+        split : all ≡ (lines_text lines ++ []) ++ held
+        split = rw (append-nil, ← text) parts
 
--- a table without bytes has no lines
-no_lines : (lines : List (List ℕ)) → lines_text lines ≡ [] → lines ≡ []
-no_lines [] none = refl
-no_lines (l ∷ ls) none = absurd (some_text l ls (ap (λ (t : List ℕ). length t) none))
+  -- the table has ended if it is over at its whole lines
+  over_so : (ended : Bool) → IsOverAt ended lines [] held → IsTable ended table held
+  over_so ended over =
+      record { lines = lines; cut = []; text = rw append-nil text; of_table = were; over = over }
 
-module _ (ended : Bool) (table : List ℕ) (lines : List (List ℕ)) (held : List ℕ) (text : table ≡ lines_text lines)
-    (were : AreOfTable lines []) (end : ended ≡ true) (short : IsShort held) where
-  -- a table has ended if the input ended without a next line, or within one that is not a driver line
-  pub over_at_the_end : (table ≡ []) ⊎ (begins_driver held ≡ false) → IsTable ended table held
-  over_at_the_end other = record {
-    lines = lines;
-    cut = [];
-    text = whole table lines text;
-    of_table = were;
-    over = inr (
-      end,
-      inr (
-        refl,
-        short,
-        elim other [
-          | inl none ↦ inl (no_lines lines (sym text ∙ none))
-          | inr is ↦ inr is
-        ],
-      ),
-    );
-  }
+  -- a table without bytes has no lines
+  some_lines : table ≢ [] → lines ≢ []
+  some_lines some none = some (text ∙ ap lines_text none)
 
-  -- the cut driver line comes after a first line
-  is_driver : table ≢ [] → begins_driver held ≡ true → IsCutDriver lines held
-  is_driver some driver = (λ none. some (text ∙ ap lines_text none), short.0, driver)
+  -- a table with a line has ended if the next line doesn't begin like a driver line
+  pub over_at_a_line : (ended : Bool) (n : ℕ) → HasLine n held → n ≤ MAX_INPUT → length table ≢ 0
+      → begins_driver (take n held) ≡ false → IsTable ended table held
+  over_at_a_line ended n line small some other =
+      over_so ended (inl (n, refl, line, small, some_lines (λ none. some (rw none refl)), other))
 
-  -- a table has ended if the input ended within a driver line, which belongs to it
-  pub over_within : table ≢ [] → begins_driver held ≡ true → IsTable ended (table ++ held) []
-  over_within some driver = record {
-    lines = lines;
-    cut = held;
-    text = ap (λ (t : List ℕ). t ++ held) text;
-    of_table = record { each = were.each; drivers = were.drivers; last = inr (is_driver some driver) };
-    over = inr (end, inl (is_driver some driver, refl));
-  }
+  module _ (ended : Bool) (end : ended ≡ true) (short : IsShort held) where
+    -- a table has ended if the input ended without a next line, or within one that is not a driver line
+    pub over_at_the_end : (table ≡ []) ⊎ (begins_driver held ≡ false) → IsTable ended table held
+    over_at_the_end other = over_so ended (inr (end, inr (refl, short, by_lines lines text other))) where
+      by_lines : (ls : List (List ℕ)) → table ≡ lines_text ls → (table ≡ []) ⊎ (begins_driver held ≡ false)
+          → (ls ≡ []) ⊎ (begins_driver held ≡ false)
+      by_lines [] is why = inl refl
+      by_lines (l ∷ ls) is (inl none) = absurd (some_text l ls (ap (λ (t : List ℕ). length t) (sym is ∙ none)))
+      by_lines (l ∷ ls) is (inr other) = inr other
 
-  -- if the input has ended, and the held bytes were taken into the table or left, the table has ended
-  ended_so : (made : Vec ℕ Global) (now : List ℕ) → TakesCutLine table held now (Ok made)
-      → IsTable ended made.items now
-  ended_so made now (inl (same, kept, other)) =
-      subst (λ (t : List ℕ). IsTable ended t now) (sym same)
-      (subst (IsTable ended table) (sym kept) (over_at_the_end other))
-  ended_so made now (inr (grown, none, some, driver, fits)) =
-      subst (λ (t : List ℕ). IsTable ended t now) (sym grown)
-      (subst (IsTable ended (table ++ held)) (sym none) (over_within some driver))
+    -- a cut driver line comes after a first line, and belongs to the table
+    with_cut : table ≢ [] → begins_driver held ≡ true → AreOfTable lines held × IsCutDriver lines held
+    with_cut some driver =
+        let cut : IsCutDriver lines held = (some_lines some, short.0, driver) in
+        (record { each = were.each; drivers = were.drivers; last = inr cut }, cut)
 
-  -- all bytes stay in order if the held bytes were taken into the table or left
-  in_order : (made : Vec ℕ Global) (now : List ℕ) → TakesCutLine table held now (Ok made)
-      → table ++ held ≡ made.items ++ now
-  in_order made now (inl (same, kept, other)) =
-      ap (λ (h : List ℕ). table ++ h) (sym kept) ∙ ap (λ (t : List ℕ). t ++ now) (sym same)
-  in_order made now (inr (grown, none, some, driver, fits)) =
-      sym (append-nil (table ++ held)) ∙ ap (λ (h : List ℕ). (table ++ held) ++ h) (sym none)
-      ∙ ap (λ (t : List ℕ). t ++ now) (sym grown)
+    -- a table has ended if the input ended within a driver line, which belongs to it
+    pub over_within : table ≢ [] → begins_driver held ≡ true → IsTable ended (table ++ held) []
+    over_within some driver =
+        let (of_table, cut) = with_cut some driver in
+        record {
+          lines = lines;
+          cut = held;
+          text = rw text refl;
+          of_table = of_table;
+          over = inr (end, inl (cut, refl));
+        }
 
-  -- a table within the limit stays within it if the held bytes were taken into it or left
-  still_fits : (made : Vec ℕ Global) (now : List ℕ) → length table ≤ MAX_INPUT
-      → TakesCutLine table held now (Ok made) → length made.items ≤ MAX_INPUT
-  still_fits made now small (inl (same, kept, other)) = omega (arith, small, ap (λ (t : List ℕ). length t) same)
-  still_fits made now small (inr (grown, none, some, driver, fits)) =
-      omega (arith, fits, ap (λ (t : List ℕ). length t) grown)
+    -- at the end of the input a table was read, with the held bytes or without, or these could not be taken into it
+    pub has_table : (new : Inbox) {failures : ℕ} {all : List ℕ} → all ≡ table ++ held → length table ≤ MAX_INPUT
+        → ended ≡ new.ended → failures ≡ 0 → (r : Result (Vec ℕ Global) MainFault)
+        → TakesCutLine table held new.held.items r → TableComes ended failures new all r
+    has_table new parts small still fine (Ok made) (inl (same, kept, other)) = record {
+      parts = rw (same, kept) parts;
+      over = rw (same, kept) (over_at_the_end other);
+      end = still;
+      fine = fine;
+      fits = rw same small;
+    }
+    has_table new parts small still fine (Ok made) (inr (grown, none, some, driver, fits)) = record {
+      parts = rw (grown, none, append-nil) parts;
+      over = rw (grown, none) (over_within some driver);
+      end = still;
+      fine = fine;
+      fits = rw grown fits;
+    }
+    has_table new parts small still fine (Err TooLong) (some, driver, long) =
+        (fine, (lines, held, [], rw (append-nil, ← text) parts, (with_cut some driver).0, inl (rw (← text) long)))
+    has_table new parts small still fine (Err (Refused f)) memory = (fine, memory)
+    has_table new parts small still fine (Err ReadFailed) is = absurd is
+    has_table new parts small still fine (Err (Text f)) is = absurd is
+    has_table new parts small still fine (Err WriteFailed) is = absurd is
 
-  -- if the held bytes could not be taken into the table, it would have been too long, or memory ran out
-  not_taken : (bytes now : List ℕ) (failures : ℕ) → bytes ≡ table ++ held → failures ≡ 0 → (e : MainFault)
-      → TakesCutLine table held now (Err e) → FailsToRead (IsEndlessTable bytes) (IsUnfinished bytes) failures e
-  not_taken bytes now failures parts fine TooLong (some, driver, long) = (
-    fine,
-    begins_as bytes (table ++ held) [] lines held (λ text rest. (MAX_INPUT < length text) ⊎ IsTooLong rest)
-        (parts ∙ sym (append-nil (table ++ held))) (ap (λ (t : List ℕ). t ++ held) text)
-        (record { each = were.each; drivers = were.drivers; last = inr (is_driver some driver) })
-        (inl long),
-  )
-  not_taken bytes now failures parts fine (Refused f) memory = (fine, memory)
-  not_taken bytes now failures parts fine ReadFailed is = absurd is
-  not_taken bytes now failures parts fine (Text f) is = absurd is
-  not_taken bytes now failures parts fine WriteFailed is = absurd is
-
-  -- at the end of the input a table was read, with the held bytes or without, or these could not be taken into it
-  pub has_table : {had left : Option (List ℕ)} {failures : ℕ} {old new : Inbox} {read : List ℕ} → Consumes had left read
-      → old.held.items ++ read ≡ table ++ held → length table ≤ MAX_INPUT → ended ≡ new.ended → failures ≡ 0
-      → (r : Result (Vec ℕ Global) MainFault) → TakesCutLine table held new.held.items r
-      → HasTable had left ended failures old new read r
-  has_table {had} {left} {failures} {old} {new} {read} consumed parts small still fine (Ok made) took = record {
-    consumed = consumed;
-    parts = parts ∙ in_order made new.held.items took;
-    over = ended_so made new.held.items took;
-    end = still;
-    fine = fine;
-    fits = still_fits made new.held.items small took;
-    fault = tt;
-  }
-  has_table {had} {left} {failures} {old} {new} {read} consumed parts small still fine (Err e) took = record {
-    consumed = consumed;
-    parts = tt;
-    over = tt;
-    end = tt;
-    fine = tt;
-    fits = tt;
-    fault = not_taken (old.held.items ++ read) new.held.items failures parts fine e took;
-  }
-
--- if the input ended after a table, nothing more is read
-behind_still : (lines : List (List ℕ)) (cut rest more : List ℕ) → EndsBehind lines cut rest → more ≡ []
-    → EndsBehind lines cut (rest ++ more)
-behind_still lines cut rest more behind none =
-    subst (EndsBehind lines cut) (sym (ap (λ (m : List ℕ). rest ++ m) none ∙ append-nil rest)) behind
-
--- a table that has ended stays so when more is read from an input that has not ended
-over_still : (ended now : Bool) (lines : List (List ℕ)) (cut rest more : List ℕ) → IsOverAt ended lines cut rest
-    → (ended ≡ true → (more ≡ []) × (now ≡ true)) → IsOverAt now lines cut (rest ++ more)
-over_still ended now lines cut rest more (inl (n, none, line, small, some, other)) stays =
-    let same : take n (rest ++ more) ≡ take n rest = take-append-le n rest more (omega (arith, line.within)) in
-    inl (n, none, line_stays n rest more line, small, some, ap begins_driver same ∙ other)
-over_still ended now lines cut rest more (inr (end, behind)) stays =
-    let (none, still) = stays end in inr (still, behind_still lines cut rest more behind none)
+-- ---- more bytes
 
 -- bytes that are a table stay one when more is read from an input that has not ended
 pub still_a_table : (ended now : Bool) (table rest more : List ℕ) → IsTable ended table rest
     → (ended ≡ true → (more ≡ []) × (now ≡ true)) → IsTable now table (rest ++ more)
-still_a_table ended now table rest more t stays = record {
-  lines = t.lines;
-  cut = t.cut;
-  text = t.text;
-  of_table = t.of_table;
-  over = over_still ended now t.lines t.cut rest more t.over stays;
-}
+still_a_table ended now table rest more t stays =
+    record { lines = t.lines; cut = t.cut; text = t.text; of_table = t.of_table; over = by_over t.over } where
+      by_over : IsOverAt ended t.lines t.cut rest → IsOverAt now t.lines t.cut (rest ++ more)
+      by_over (inl (n, none, line, small, some, other)) =
+          let same : take n (rest ++ more) ≡ take n rest = take-append-le n rest more (omega (arith, line.within)) in
+          inl (n, none, line_stays n rest more line, small, some, rw same other)
+      by_over (inr (end, behind)) =
+          let (none, still) = stays end in inr (still, rw (none, append-nil) behind)
 
 -- ---- what is too long
 

@@ -15,6 +15,7 @@ use Rattle.smx_words.specs.Words.{line_of}
 use Rattle.smx_explain.specs.ColumnWords.{IsExplanationOf}
 use Rattle.smx_session.specs.Sessions.{IsStartOf}
 use Rattle.smx_session.specs.WorkedSessions.{begun, drivers, opened, table}
+use Rattle.smx_live.specs.Inboxes.{HasLine}
 use Rattle.smx_live.specs.LiveText.{IsLive, IsOver, closing_text}
 use Rattle.smx_live.specs.Tables.{AreOfTable, IsTable}
 use Rattle.smx_live.specs.Turns.{IsEntryOf, IsExplained, asked_text, said_text}
@@ -39,19 +40,24 @@ drivers_lines = record { each = search (rules, arith); drivers = (refl, tt); las
 
 -- the worked table has ended if `3 clone eth` follows it
 pub worked_over : (more : List ℕ) → IsTable false worked_table (codes "3 clone eth\n" ++ more)
-worked_over more = over_at_a_line false worked_table _ 11 (codes "3 clone eth\n" ++ more) refl worked_lines
-    (record { within = omega (arith, length-append (codes "3 clone eth\n") more); one = search (rules, arith); parts = refl })
-    (search arith) (λ none. absurd (cc none)) refl
+worked_over more =
+    let line : HasLine 11 (codes "3 clone eth\n" ++ more) = record {
+      within = omega (arith, length-append (codes "3 clone eth\n") more);
+      one = search (rules, arith);
+      parts = refl;
+    } in
+    over_at_a_line worked_table _ (codes "3 clone eth\n" ++ more) refl worked_lines false 11 line (search arith)
+    (λ none. absurd (cc none)) refl
 
 -- a table of the header only has ended if `show` follows it
 pub header_alone : IsTable false (codes "programs 2\n") (codes "show\nend\n")
-header_alone = over_at_a_line false (codes "programs 2\n") _ 4 (codes "show\nend\n") refl header_lines
+header_alone = over_at_a_line (codes "programs 2\n") _ (codes "show\nend\n") refl header_lines false 4
     (record { within = search arith; one = search (rules, arith); parts = refl })
     (search arith) (λ none. absurd (cc none)) refl
 
 -- a line `drivers` belongs to the table, and a line `drive` does not
 pub behind_drivers : IsTable false (codes "programs 2\ndrivers\n") (codes "drive\n")
-behind_drivers = over_at_a_line false (codes "programs 2\ndrivers\n") _ 5 (codes "drive\n") refl drivers_lines
+behind_drivers = over_at_a_line (codes "programs 2\ndrivers\n") _ (codes "drive\n") refl drivers_lines false 5
     (record { within = search arith; one = search (rules, arith); parts = refl })
     (search arith) (λ none. absurd (cc none)) refl
 

@@ -54,14 +54,19 @@ abbrev pub IsFound : Bool → List ℕ → Option ℕ → Type 0
 IsFound ended held (Some n) = HasLine n held × (n ≤ MAX_INPUT)
 IsFound ended held None = (ended ≡ true) × IsShort held
 
+-- a whole line or the end of the feed came, and all that was read is held; or nothing that can be taken came
+abbrev pub LineComes : Bool → ℕ → Inbox → List ℕ → Result (Option ℕ) MainFault → Type 0
+LineComes ended failures new all (Ok line) = record {
+  held : new.held.items ≡ all;
+  end : ended ≡ new.ended;
+  fine : failures ≡ 0;
+  found : IsFound ended new.held.items line;
+}
+LineComes ended failures new all (Err fault) = FailsToRead (IsTooLong all) (IsOneLine all) failures fault
+
 -- reads up to a whole line read exactly these bytes; none if there was such a line, or if the feed had ended
 pub record IsNextLine (had left : Option (List ℕ)) (ended : Bool) (failures : ℕ) (old new : Inbox) (read : List ℕ)
     (result : Result (Option ℕ) MainFault) : Type 0 where
   pub consumed : Consumes had left read
-  pub held : OnOk result (new.held.items ≡ old.held.items ++ read)
-  pub end : OnOk result (ended ≡ new.ended)
-  pub found : IfOk result (IsFound ended new.held.items)
-  pub fine : OnOk result (failures ≡ 0)
-  pub fault : IfErr result (FailsToRead (IsTooLong (old.held.items ++ read)) (IsOneLine (old.held.items ++ read))
-      failures)
+  pub came : LineComes ended failures new (old.held.items ++ read) result
   pub stays : old.ended ≡ true → (read ≡ []) × (ended ≡ true)

@@ -1,8 +1,8 @@
 -- The stages of a live session: its table, its beginning, a turn, all turns, its end.
 use Rattle.std.specs.Prelude.{◌≡◌, ◌≢◌, ℕ, ◌<◌, ◌≤◌, ◌⊎◌, Bool, true, false, List, [], ◌++◌, length, Option, Result}
-use Rattle.std.specs.Prelude.{Vec, Ok, Err, IfOk, IfErr, OnOk, codes, nat_eq}
+use Rattle.std.specs.Prelude.{Vec, Ok, Err, ⊤, codes, nat_eq}
 use Rattle.std.specs.Global.{Global}
-use Rattle.std.specs.Io.KnownBytes.{Consumes, Appends, Keeps}
+use Rattle.std.specs.Io.KnownBytes.{Consumes, Appends}
 use Rattle.std.specs.List.{ends_with}
 use Rattle.smx_run.specs.declared.run_fault.RunFault.TheVariants.{NoMemory}
 use Rattle.smx_text.specs.Grammar.{ReadsAny}
@@ -13,26 +13,30 @@ use Rattle.smx_session.specs.Sessions.{IsStartOf, State, WantsMemory}
 use Rattle.smx_filters.specs.declared.input.TheConstants.{MAX_INPUT}
 use Rattle.smx_live.specs.Inboxes.{FailsToRead}
 use Rattle.smx_live.specs.LiveText.{HasComeSoFar, IsLive, IsOutcome, IsOver, RefusesDriversOf}
+use Rattle.smx_live.specs.LiveTurns.{Says}
 use Rattle.smx_live.specs.Tables.{IsEndlessTable, IsTable, IsUnfinished, begins_driver, table_text}
-use Rattle.smx_filters.specs.Output.{AppendsBeginning}
 use Rattle.smx_filters.specs.declared.main_fault.MainFault.{MainFault}
 use Rattle.smx_filters.specs.declared.main_fault.MainFault.TheVariants.{Refused, Text, TooLong, ReadFailed, WriteFailed}
 use Rattle.smx_live.specs.declared.inbox.Inbox.{Inbox}
 use Rattle.smx_live.specs.declared.talk.Progress.{Progress}
 use Rattle.smx_live.specs.declared.talk.Talk.{Talk}
 
--- a table was read, and what was read after it is held
+-- A table of what was read, `all`, was taken, and what was read after it is held; or no table ends in what was read.
+abbrev pub TableComes : Bool → ℕ → Inbox → List ℕ → Result (Vec ℕ Global) MainFault → Type 0
+TableComes ended failures new all (Ok table) = record {
+  parts : all ≡ table.items ++ new.held.items;
+  over : IsTable ended table.items new.held.items;
+  end : ended ≡ new.ended;
+  fine : failures ≡ 0;
+  fits : length table.items ≤ MAX_INPUT;
+}
+TableComes ended failures new all (Err fault) = FailsToRead (IsEndlessTable all) (IsUnfinished all) failures fault
+
+-- these bytes were read for a table, and no others
 pub record HasTable (had left : Option (List ℕ)) (ended : Bool) (failures : ℕ) (old new : Inbox) (read : List ℕ)
     (result : Result (Vec ℕ Global) MainFault) : Type 0 where
   pub consumed : Consumes had left read
-  pub parts : IfOk result (λ table. old.held.items ++ read ≡ table.items ++ new.held.items)
-  pub over : IfOk result (λ table. IsTable ended table.items new.held.items)
-  pub end : OnOk result (ended ≡ new.ended)
-  pub fine : OnOk result (failures ≡ 0)
-  pub fits : IfOk result (λ table. length table.items ≤ MAX_INPUT)
-  pub fault : IfErr result (FailsToRead (IsEndlessTable (old.held.items ++ read))
-      (IsUnfinished (old.held.items ++ read))
-      failures)
+  pub came : TableComes ended failures new (old.held.items ++ read) result
 
 -- What `with_cut_line` does at the end of the input. The held bytes join the table if it has a line and they
 -- begin like a driver line; else they stay held. It fails if the table would become too long, or if memory
@@ -64,53 +68,29 @@ Begins table (Err TooLong) = ⊥
 Begins table (Err ReadFailed) = ⊥
 Begins table (Err WriteFailed) = ⊥
 
-module _ (explain : Bool) (read output : List ℕ) (ended : Bool) (s : State) (far : Progress) (held : List ℕ)
-    (before after : Option (List ℕ)) (flushed : Bool) (failures : ℕ) where
-  -- The session `IsLive` up to here takes a turn: it goes on with this state, or it has ended.
-  abbrev pub TurnsOn : Result Bool MainFault → Type 0
-  TurnsOn (Ok true) = (failures ≡ 0) × (flushed ≡ true)
-      × (said : List ℕ) × Appends before after said × IsOver explain read ended (output ++ said)
-  TurnsOn (Ok false) = (failures ≡ 0) × (flushed ≡ true)
-      × (said : List ℕ) × Appends before after said × IsLive explain read ended (output ++ said) s far held
-  TurnsOn (Err (Refused fault)) = (failures ≡ 0) × (fault ≡ NoMemory) × Keeps before after
-  TurnsOn (Err WriteFailed) = (failures ≡ 1) × (said : List ℕ) × AppendsBeginning before after said
-      × (HasComeSoFar explain read ended (output ++ said) ⊎ IsOver explain read ended (output ++ said))
-  TurnsOn (Err (Text fault)) = ⊥
-  TurnsOn (Err TooLong) = ⊥
-  TurnsOn (Err ReadFailed) = ⊥
-
--- a text was written and flushed, or the writer failed within it
-abbrev pub Writes : List ℕ → Option (List ℕ) → Option (List ℕ) → Bool → ℕ → Result (Unit {0}) MainFault → Type 0
-Writes text before after flushed failures (Ok done) = (failures ≡ 0) × (flushed ≡ true) × Appends before after text
-Writes text before after flushed failures (Err WriteFailed) = (failures ≡ 1) × AppendsBeginning before after text
-Writes text before after flushed failures (Err (Refused fault)) = ⊥
-Writes text before after flushed failures (Err (Text fault)) = ⊥
-Writes text before after flushed failures (Err TooLong) = ⊥
-Writes text before after flushed failures (Err ReadFailed) = ⊥
-
--- the beginning of the transcript was written and flushed, or the writer failed within it
+-- the beginning of the transcript was written and flushed, or not
 abbrev pub Opens : State → Option (List ℕ) → Option (List ℕ) → Bool → ℕ → Result (Unit {0}) MainFault → Type 0
-Opens s before after flushed failures (Ok done) = (failures ≡ 0) × (flushed ≡ true) × (opening : List ℕ)
-    × BeginsTranscript s.version s.drivers [] opening × Appends before after opening
-Opens s before after flushed failures (Err WriteFailed) = (failures ≡ 1) × (opening : List ℕ)
-    × BeginsTranscript s.version s.drivers [] opening × AppendsBeginning before after opening
-Opens s before after flushed failures (Err (Refused fault)) = (failures ≡ 0) × (fault ≡ NoMemory) × Keeps before after
-Opens s before after flushed failures (Err (Text fault)) = ⊥
-Opens s before after flushed failures (Err TooLong) = ⊥
-Opens s before after flushed failures (Err ReadFailed) = ⊥
+Opens s = Says (λ done text. BeginsTranscript s.version s.drivers [] text)
+    (λ text. BeginsTranscript s.version s.drivers [] text) ⊤
 
-module _ (explain : Bool) (read output : List ℕ) (ended : Bool) (before after : Option (List ℕ)) (flushed : Bool)
-    (failures : ℕ) where
-  -- The session `IsLive` up to here ends, because its input has ended.
-  abbrev pub Finishes : Result (Unit {0}) MainFault → Type 0
-  Finishes (Ok done) = (failures ≡ 0) × (flushed ≡ true)
-      × (said : List ℕ) × Appends before after said × IsOver explain read ended (output ++ said)
-  Finishes (Err (Refused fault)) = (failures ≡ 0) × (fault ≡ NoMemory) × Keeps before after
-  Finishes (Err WriteFailed) = (failures ≡ 1) × (said : List ℕ) × AppendsBeginning before after said
-      × IsOver explain read ended (output ++ said)
-  Finishes (Err (Text fault)) = ⊥
-  Finishes (Err TooLong) = ⊥
-  Finishes (Err ReadFailed) = ⊥
+module _ (explain : Bool) (read output : List ℕ) (ended : Bool) where
+  -- with this text, some session is `IsLive` so far, or it has ended
+  abbrev pub IsPossible : List ℕ → Type 0
+  IsPossible text = HasComeSoFar explain read ended (output ++ text) ⊎ IsOver explain read ended (output ++ text)
+
+  -- with this text, the session has ended; or it is `IsLive` with this state
+  abbrev pub GoesOn : State → Progress → List ℕ → Bool → List ℕ → Type 0
+  GoesOn s far held true text = IsOver explain read ended (output ++ text)
+  GoesOn s far held false text = IsLive explain read ended (output ++ text) s far held
+
+  -- the session `IsLive` up to here takes a turn
+  abbrev pub TurnsOn : State → Progress → List ℕ → Option (List ℕ) → Option (List ℕ) → Bool → ℕ
+      → Result Bool MainFault → Type 0
+  TurnsOn s far held = Says (GoesOn s far held) IsPossible ⊤
+
+  -- the session `IsLive` up to here ends, because its input has ended
+  abbrev pub Finishes : Option (List ℕ) → Option (List ℕ) → Bool → ℕ → Result (Unit {0}) MainFault → Type 0
+  Finishes = Says (λ done text. IsOver explain read ended (output ++ text)) IsPossible ⊤
 
 -- the session `IsLive` up to here goes on to its end, with this answer
 pub record Converses (explain : Bool) (read output : List ℕ) (had left : Option (List ℕ)) (ended : Bool)

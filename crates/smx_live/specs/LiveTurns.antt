@@ -21,15 +21,29 @@ IsAsked line Show = AsksToShow line
 IsAsked line End = line ≡ codes "end"
 IsAsked line Call = AsksForNeither line
 
--- a text was written and flushed, or the writer failed within it
-abbrev pub Says : List ℕ → Bool → Option (List ℕ) → Option (List ℕ) → Bool → ℕ → Result Bool MainFault → Type 0
-Says text over before after flushed failures (Ok b) =
-    (b ≡ over) × (failures ≡ 0) × (flushed ≡ true) × Appends before after text
-Says text over before after flushed failures (Err WriteFailed) = (failures ≡ 1) × AppendsBeginning before after text
-Says text over before after flushed failures (Err (Refused fault)) = ⊥
-Says text over before after flushed failures (Err (Text fault)) = ⊥
-Says text over before after flushed failures (Err TooLong) = ⊥
-Says text over before after flushed failures (Err ReadFailed) = ⊥
+-- why no text was written: the writer failed within a text that `Possible` allows; or memory ran out before anything
+-- was written, as `Wanting` says
+abbrev pub FailsToSay : (List ℕ → Type 0) → Type 0 → Option (List ℕ) → Option (List ℕ) → ℕ → MainFault → Type 0
+FailsToSay Possible Wanting before after failures WriteFailed =
+    (failures ≡ 1) × (text : List ℕ) × AppendsBeginning before after text × Possible text
+FailsToSay Possible Wanting before after failures (Refused fault) =
+    (failures ≡ 0) × (fault ≡ run.NoMemory) × Keeps before after × Wanting
+FailsToSay Possible Wanting before after failures (Text fault) = ⊥
+FailsToSay Possible Wanting before after failures TooLong = ⊥
+FailsToSay Possible Wanting before after failures ReadFailed = ⊥
+
+-- a text that is right for the result, as `Right` says, was written and flushed; or none was
+abbrev pub Says : {A : Type 0} → (A → List ℕ → Type 0) → (List ℕ → Type 0) → Type 0 → Option (List ℕ)
+    → Option (List ℕ) → Bool → ℕ → Result A MainFault → Type 0
+Says Right Possible Wanting before after flushed failures (Ok x) =
+    (failures ≡ 0) × (flushed ≡ true) × (text : List ℕ) × Appends before after text × Right x text
+Says Right Possible Wanting before after flushed failures (Err fault) =
+    FailsToSay Possible Wanting before after failures fault
+
+-- this text was written and flushed, with this result, or the writer failed within it
+abbrev pub Writes : {A : Type 0} → List ℕ → A → Option (List ℕ) → Option (List ℕ) → Bool → ℕ → Result A MainFault
+    → Type 0
+Writes text result = Says (λ x t. (x ≡ result) × (t ≡ text)) (λ t. t ≡ text) ⊥
 
 -- the line asks for the rest of the transcript, and this is that rest
 abbrev pub IsClosing : State → List ℕ → List ℕ → Type 0
@@ -46,21 +60,16 @@ MayAnswer explain s far line next more text = (a : Answer) × (below : List ℕ)
 abbrev pub MaySay : Bool → State → Progress → List ℕ → List ℕ → Type 0
 MaySay explain s far line text = (next : State) × (more : Progress) × MayAnswer explain s far line next more text
 
-module _ (explain : Bool) (s : State) (far : Progress) (line : List ℕ) (next : State) (more : Progress)
-    (before after : Option (List ℕ)) (flushed : Bool) (failures : ℕ) where
-  -- The output, if a turn returns whether the session has ended.
-  abbrev pub TakesTurn : Result Bool MainFault → Type 0
-  TakesTurn (Ok true) =
-      (failures ≡ 0) × (flushed ≡ true) × (whole : List ℕ) × IsClosing s line whole × Appends before after whole
-  TakesTurn (Ok false) = (failures ≡ 0) × (flushed ≡ true)
-      × (text : List ℕ) × MayAnswer explain s far line next more text × Appends before after text
-  -- The command was performed, and memory ran out for the line of its entry or for its changes; or the line is not a
-  -- command, and memory ran out for its explanation.
-  TakesTurn (Err (Refused fault)) = (failures ≡ 0) × (fault ≡ run.NoMemory) × Keeps before after
-      × (Performs s line next
-      ⊎ ((explain ≡ true) × IsTaken s far line (NotDone NoCommand) next more))
-  TakesTurn (Err WriteFailed) = (failures ≡ 1) × (whole : List ℕ) × AppendsBeginning before after whole
-      × (MaySay explain s far line whole ⊎ IsClosing s line whole)
-  TakesTurn (Err (Text fault)) = ⊥
-  TakesTurn (Err TooLong) = ⊥
-  TakesTurn (Err ReadFailed) = ⊥
+-- this text ends the session; or it is such an answer, and the session goes on
+abbrev pub Turns : Bool → State → Progress → List ℕ → State → Progress → Bool → List ℕ → Type 0
+Turns explain s far line next more true text = IsClosing s line text
+Turns explain s far line next more false text = MayAnswer explain s far line next more text
+
+-- The output, if a turn returns whether the session has ended. If it fails as out of memory, the command was performed,
+-- and memory ran out for the line of its entry or for its changes; or the line is not a command, and memory ran out for
+-- its explanation.
+abbrev pub TakesTurn : Bool → State → Progress → List ℕ → State → Progress → Option (List ℕ) → Option (List ℕ) → Bool
+    → ℕ → Result Bool MainFault → Type 0
+TakesTurn explain s far line next more = Says (Turns explain s far line next more)
+    (λ text. MaySay explain s far line text ⊎ IsClosing s line text)
+    (Performs s line next ⊎ ((explain ≡ true) × IsTaken s far line (NotDone NoCommand) next more))

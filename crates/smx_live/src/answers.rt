@@ -2,7 +2,7 @@
 
 ghost use Rattle.std.specs.Prelude.{◌≡◌, ◌++◌, ℕ, Bool, true, List, IfOk, MatchBool, codes};
 ghost use Rattle.smx_explain.specs.ColumnWords.{IsExplanationOf};
-ghost use Rattle.smx_live.specs.LiveTurns.{Says, TakesTurn};
+ghost use Rattle.smx_live.specs.LiveTurns.{TakesTurn, Writes};
 ghost use Rattle.smx_live.specs.Turns.{AsksForNeither, AsksToShow, IsRefusedFor, fault_line};
 ghost use Rattle.smx_live.specs.declared.turn_fault.TurnFault.TheVariants.{NoCommand};
 
@@ -37,8 +37,8 @@ pub fn answer<S: Sink>(
 // Writes a text and flushes it. If this succeeds, returns `over`, which says whether the session has ended.
 fn say<S: Sink>(sink: &mut S, text: &[u8], over: bool) -> Result<bool, MainFault>
     requires { S.failures sink.old ≡ 0 }
-    ensures { Says text.now over (S.contents sink.old) (S.contents sink.new) (S.flushed sink.new) (S.failures sink.new)
-        result }
+    ensures { Writes text.now over (S.contents sink.old) (S.contents sink.new) (S.flushed sink.new)
+        (S.failures sink.new) result }
 {
     match write_all(sink, text) {
         Ok(()) => Ok(over),

@@ -1,7 +1,8 @@
 //! Splits a feed into lines.
 
-ghost use Rattle.std.specs.Prelude.{◌≡◌, ℕ, ◌+◌, ◌<◌, ◌∷◌, ◌++◌, [], List, false, length, take, drop, MatchOption};
-ghost use Rattle.smx_live.specs.Inboxes.{IsNextLine, IsPiece, MayBeTaken};
+ghost use Rattle.std.specs.Prelude.{◌≡◌, ℕ, ◌+◌, ◌<◌, ◌≤◌, ◌∷◌, ◌++◌, [], List, false, length, take, drop};
+ghost use Rattle.std.specs.Prelude.{MatchOption};
+ghost use Rattle.smx_live.specs.Inboxes.{HasLine, IsNextLine, IsPiece, MayBeTaken};
 ghost use Rattle.smx_text.specs.Grammar.{IsOneLine};
 ghost use Rattle.smx_words.specs.Words.{LINE_FEED};
 
@@ -46,8 +47,8 @@ impl Inbox {
     {
         let mut seen = 0usize;
         'reads: loop {
-            if let Some(n) = line_in(&self.held[seen..]) {
-                return line_of(seen + n);
+            if let Some(n) = line_from(&self.held, seen) {
+                return line_of(n);
             }
             seen = self.held.len();
             if seen > MAX_INPUT {
@@ -83,6 +84,19 @@ fn line_in(bytes: &[u8]) -> Option<usize>
         × (bytes.now ≡ take n bytes.now ++ LINE_FEED ∷ drop (n + 1) bytes.now)) }
 {
     memchr(b'\n', bytes)
+}
+
+// Returns the number of bytes before the first line feed of `held`, if there is one. There is none in the first `seen`
+// bytes.
+fn line_from(held: &[u8], seen: usize) -> Option<usize>
+    requires within { seen ≤ length held.now }
+    requires none { IsOneLine (take seen held.now) }
+    ensures { MatchOption result (IsOneLine held.now) (λ n. HasLine n held.now) }
+{
+    if let Some(n) = line_in(&held[seen..]) {
+        return Some(seen + n);
+    }
+    None
 }
 
 // Returns the length `n` of a line, or fails if `n` is over the limit.

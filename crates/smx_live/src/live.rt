@@ -6,8 +6,8 @@ ghost use Rattle.std.specs.Prelude.{MatchBool, OnErr, OnOk, codes, nat_eq};
 ghost use Rattle.smx_filters.specs.ExplainText.{answer_of};
 ghost use Rattle.smx_live.specs.Inboxes.{HasLine, IsShort};
 ghost use Rattle.smx_live.specs.LiveStages.{Begins, Converses, Finishes, HasTable, Opens, TakesCutLine, TurnsOn};
-ghost use Rattle.smx_live.specs.LiveStages.{Writes};
 ghost use Rattle.smx_live.specs.LiveText.{IsLive, LivesText, closing_text, cut_words};
+ghost use Rattle.smx_live.specs.LiveTurns.{Writes};
 ghost use Rattle.smx_live.specs.Tables.{begins_driver, table_text};
 ghost use Rattle.smx_model.specs.Views.{view};
 ghost use Rattle.smx_text.specs.TranscriptText.{IsSpellableView};
@@ -267,7 +267,7 @@ fn closing(alloc: Global, session: &Session, held: &[u8]) -> Result<Vec<u8>, NoM
 // Writes a text and flushes it.
 fn write_last<S: Sink>(sink: &mut S, text: &[u8]) -> Result<(), MainFault>
     requires { S.failures sink.old ≡ 0 }
-    ensures { Writes text.now (S.contents sink.old) (S.contents sink.new) (S.flushed sink.new) (S.failures sink.new)
+    ensures { Writes text.now tt (S.contents sink.old) (S.contents sink.new) (S.flushed sink.new) (S.failures sink.new)
         result }
 {
     match write_all(sink, text) {

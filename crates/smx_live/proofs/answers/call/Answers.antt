@@ -1,4 +1,9 @@
-use Rattle.smx_live.proofs.LiveStageLemmas.{entered}
+use Rattle.std.proofs.Common.{◌∙◌, refl, subst}
+use Rattle.smx_session.specs.Sessions.{State}
+use Rattle.smx_live.specs.LiveTurns.{TakesTurn}
+use Rattle.smx_live.specs.declared.talk.Progress.{Progress}
+use Rattle.smx_live.specs.Turns.{Entered}
+use Rattle.smx_live.proofs.LiveStageLemmas.{answered_with}
 use Rattle.smx_live.proofs.answers.call.Goals as goal
 
 pub returns-in-Ok-None : goal.returns-in-Ok-None
@@ -6,10 +11,10 @@ returns-in-Ok-None g c =
     let talk = c.args.talk.now in
     let next = c.perform.new.self in
     let sink = c.say.new.sink in
-    entered c.args.explain talk.session next.session talk.progress next.progress c.args.line.now c.as_slice.result.now
-    (g.S.Sink.contents c.args.sink.now) (g.S.Sink.contents sink) (g.S.Sink.flushed sink) (g.S.Sink.failures sink)
-    c.say.result c.say.ensures next.text.items (rw c.in-Ok-None.field-0-is at c.in-Ok-None.ensures.answered)
-    c.as_slice.ensures.value
+    let (e, did, is) = rw c.in-Ok-None.field-0-is at c.in-Ok-None.ensures.answered in
+    answered_with c.args.explain talk.session next.session talk.progress next.progress c.args.line.now
+    c.as_slice.result.now (g.S.Sink.contents c.args.sink.now) (g.S.Sink.contents sink) (g.S.Sink.flushed sink)
+    (g.S.Sink.failures sink) (Entered e) _ c.say.result c.say.ensures did refl (c.as_slice.ensures.value ∙ is)
 
 pub refuse-requires-clause-refused : goal.refuse-requires-clause-refused
 refuse-requires-clause-refused g c =
@@ -18,4 +23,10 @@ refuse-requires-clause-refused g c =
 pub returns-in-Ok-Some : goal.returns-in-Ok-Some
 returns-in-Ok-Some g c =
     let did = rw c.in-Ok-Some.field-0-is at c.in-Ok-Some.ensures.answered in
-    rw (did.1, did.2) (rw (did.1, did.2) at c.refuse.ensures)
+    let next = c.perform.new.self in
+    let sink = c.refuse.new.sink in
+    let Takes : State → Progress → Type 0 = λ s far. TakesTurn c.args.explain s far c.args.line.now next.session
+    next.progress (g.S.Sink.contents c.args.sink.now) (g.S.Sink.contents sink) (g.S.Sink.flushed sink)
+    (g.S.Sink.failures sink) c.refuse.result in
+    subst (λ (s : State). Takes s c.args.talk.now.progress) did.1
+    (subst (λ (far : Progress). Takes next.session far) did.2 c.refuse.ensures)

@@ -1,4 +1,4 @@
-use Rattle.smx_live.proofs.OneOutputLemmas.{are_short, no_fault, no_refusal}
+use Rattle.smx_live.proofs.TableFaultLemmas.{are_short, no_fault, no_refusal}
 use Rattle.smx_live.proofs.laws_of_live.a_session_has_its_drivers.Goals as goal
 
 pub returns-clause-text : goal.returns-clause-text

@@ -1,27 +1,39 @@
-use Rattle.smx_live.proofs.TableFaultLemmas.{drivers_are_short, is_known, is_short, one_fault, one_refusal}
-use Rattle.smx_live.proofs.TableFaultLemmas.{drivers_are_silent, is_silent, text_or_drivers}
+use Rattle.std.proofs.Common.{Err, inl, inr}
+use Rattle.smx_text.specs.Grammar.{ReadsAny}
+use Rattle.smx_text.specs.ProgramsText.{programs_grammar}
+use Rattle.smx_live.specs.LiveText.{RefusesDriversOf}
+use Rattle.smx_live.proofs.TableFaultLemmas.{no_endless, one_fault, one_refusal, text_or_drivers}
 use Rattle.smx_live.proofs.laws_of_live.a_table_has_one_fault.Goals as goal
 
 pub returns-clause-one : goal.returns-clause-one
 returns-clause-one c = one_fault c.one_text_has_one_reading.ensures
 
 pub returns-clause-known : goal.returns-clause-known
-returns-clause-known c = is_known
+returns-clause-known c = λ explain read output ended flushed reads writes fault h. h.2
 
 pub returns-clause-short : goal.returns-clause-short
-returns-clause-short c = is_short
+returns-clause-short c = λ explain read output ended flushed reads writes fault h.
+    no_endless read ended (λ text. ReadsAny programs_grammar text (Err fault)) h.3
 
 pub returns-clause-drivers : goal.returns-clause-drivers
-returns-clause-drivers c = drivers_are_short
+returns-clause-drivers c = λ explain read output ended flushed reads writes fault h other. elim h.1 [
+  | inl (is, broken) ↦ absurd (other is)
+  | inr (none, bad) ↦ no_endless read ended (RefusesDriversOf fault) bad
+]
 
 pub returns-clause-silent : goal.returns-clause-silent
-returns-clause-silent c = is_silent
+returns-clause-silent c = λ explain read output ended flushed reads writes fault h. h.1
 
 pub returns-clause-drivers_silent : goal.returns-clause-drivers_silent
-returns-clause-drivers_silent c = drivers_are_silent
+returns-clause-drivers_silent c = λ explain read output ended flushed reads writes fault h other. elim h.1 [
+  | inl (is, broken) ↦ absurd (other is)
+  | inr (none, bad) ↦ none
+]
 
 pub returns-clause-one_refusal : goal.returns-clause-one_refusal
-returns-clause-one_refusal c = one_refusal c.one_text_has_one_reading.ensures c.drivers_have_one_fault.ensures
+returns-clause-one_refusal c = λ explain read output ended flushed reads writes.
+    one_refusal c.one_text_has_one_reading.ensures explain read output ended flushed reads writes
+    c.drivers_have_one_fault.ensures
 
 pub returns-clause-text_first : goal.returns-clause-text_first
 returns-clause-text_first c = text_or_drivers c.one_text_has_one_reading.ensures

@@ -41,18 +41,18 @@ returns-clause-not_within_a_line c = λ t.
 
 pub returns-clause-over_within_a_driver : goal.returns-clause-over_within_a_driver
 returns-clause-over_within_a_driver c =
-    over_within true (codes "programs 2\n") _ (codes "driver eth") refl worked.header_lines refl
+    over_within (codes "programs 2\n") _ (codes "driver eth") refl worked.header_lines true refl
     (search (rules, arith), search arith) (λ none. absurd (cc none)) refl
 
 pub returns-clause-not_before_a_cut_driver : goal.returns-clause-not_before_a_cut_driver
 returns-clause-not_before_a_cut_driver c = λ t.
-    let longer = over_within true (codes "programs 2\n") _ (codes "driver eth") refl worked.header_lines refl
+    let longer = over_within (codes "programs 2\n") _ (codes "driver eth") refl worked.header_lines true refl
     (search (rules, arith), search arith) (λ none. absurd (cc none)) refl in
     let same = table_once true (codes "programs 2\ndriver eth") _ _ _ longer t refl in absurd (cc same.0)
 
 pub returns-clause-over_within_another : goal.returns-clause-over_within_another
 returns-clause-over_within_another c =
-    over_at_the_end true (codes "programs 2\n") _ (codes "3 clone") refl worked.header_lines refl
+    over_at_the_end (codes "programs 2\n") _ (codes "3 clone") refl worked.header_lines true refl
     (search (rules, arith), search arith) (inr refl)
 
 pub returns-clause-show_is_asked : goal.returns-clause-show_is_asked

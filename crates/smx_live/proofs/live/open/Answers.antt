@@ -1,12 +1,16 @@
-use Rattle.std.proofs.Common.{ℕ, List, [], subst, sym}
+use Rattle.std.proofs.Common.{ℕ, List, []}
+use Rattle.std.specs.Prelude.{⊤}
 use Rattle.smx_text.specs.GrowingTranscripts.{BeginsTranscript}
-use Rattle.smx_live.proofs.LiveTextLemmas.{opened}
+use Rattle.smx_live.proofs.LiveStageLemmas.{said}
 use Rattle.smx_live.proofs.live.open.Goals as goal
 
 pub returns-in-Ok : goal.returns-in-Ok
 returns-in-Ok g c =
     let s = c.args.session.now in
     let sink = c.write_last.new.sink in
-    opened s c.as_slice.result.now (g.S.Sink.contents c.args.sink.now) (g.S.Sink.contents sink) (g.S.Sink.flushed sink)
-    (g.S.Sink.failures sink) c.write_last.result c.write_last.ensures
-    (subst (λ (t : List ℕ). BeginsTranscript s.version s.drivers [] t) (sym c.as_slice.ensures.value) c.in-Ok.ensures)
+    let begins : BeginsTranscript s.version s.drivers [] c.as_slice.result.now =
+    rw c.as_slice.ensures.value c.in-Ok.ensures in
+    said c.as_slice.result.now tt (λ done (t : List ℕ). BeginsTranscript s.version s.drivers [] t)
+    (λ (t : List ℕ). BeginsTranscript s.version s.drivers [] t) ⊤ (g.S.Sink.contents c.args.sink.now)
+    (g.S.Sink.contents sink) (g.S.Sink.flushed sink) (g.S.Sink.failures sink) c.write_last.result c.write_last.ensures
+    begins begins

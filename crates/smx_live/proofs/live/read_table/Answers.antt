@@ -28,14 +28,17 @@ returns-in-Ok-None g c =
     let (lines, text, were) = c.lines.invariant.lines in
     let (piece, p) = c.in-Ok-None.ensures in
     let held = c.next_line.new.self.held.items in
-    let found = rw c.in-Ok-None.field-0-is at p.found in (
+    let came = rw c.in-Ok-None.field-0-is at p.came in (
       read ++ piece,
-      has_table _ c.lines.table.items lines held text were found.0 found.1
-          (Consumes-trans _ _ _ read piece consumed p.consumed)
-          (unmoved c.args.inbox.now.held.items read piece c.lines.table.items c.lines.inbox.held.items held parts
-          p.held)
-          (omega (arith, c.lines-test.true, c.len.ensures, c.lines.table.ok.0)) p.end p.fine c.with_cut_line.result
-          c.with_cut_line.ensures,
+      record {
+        consumed = Consumes-trans _ _ _ read piece consumed p.consumed;
+        came = has_table c.lines.table.items lines held text were _ came.found.0 came.found.1
+            (record { held = c.with_cut_line.new.held; ended = c.next_line.new.self.ended })
+            (unmoved c.args.inbox.now.held.items read piece c.lines.table.items c.lines.inbox.held.items held parts
+            came.held)
+            (omega (arith, c.lines-test.true, c.len.ensures, c.lines.table.ok.0)) came.end came.fine
+            c.with_cut_line.result c.with_cut_line.ensures;
+      },
     )
 
 pub returns-in-Err : goal.returns-in-Err
@@ -46,14 +49,9 @@ returns-in-Err g c =
       read ++ piece,
       record {
         consumed = Consumes-trans _ _ _ read piece consumed p.consumed;
-        parts = tt;
-        over = tt;
-        end = tt;
-        fine = tt;
-        fits = tt;
-        fault = fails_with c.args.inbox.now.held.items read piece c.lines.table.items c.lines.inbox.held.items lines
-            parts
-            text were _ _ p.fault;
+        came = fails_with c.lines.table.items lines (c.lines.inbox.held.items ++ piece) text were _
+            (unmoved c.args.inbox.now.held.items read piece c.lines.table.items c.lines.inbox.held.items _ parts refl)
+            c.in-Err.fault p.came;
       },
     )
 
@@ -62,52 +60,44 @@ returns-then-not-is_of_table g c =
     let (read, consumed, parts) = c.lines.invariant.so_far in
     let (lines, text, were) = c.lines.invariant.lines in
     let (piece, p) = c.in-Ok-Some.ensures in
+    let came = rw c.in-Ok-Some.field-0-is at p.came in
     let held = c.next_line.new.self.held.items in
-    let line = rw c.in-Ok-Some.field-0-is at p.found in
     let (some, other) = c.if-not-is_of_table.ensures in (
       read ++ piece,
       record {
         consumed = Consumes-trans _ _ _ read piece consumed p.consumed;
-        parts = unmoved c.args.inbox.now.held.items read piece c.lines.table.items c.lines.inbox.held.items held parts
-            p.held;
-        over = over_at_a_line _ c.lines.table.items lines c.in-Ok-Some.n held text were line.0 line.1
-            (λ none. some (omega (arith, c.len-in-lines.ensures, c.lines.table.ok.0, none)))
-            (ap (λ (l : List ℕ). begins_driver (take c.in-Ok-Some.n l)) (sym c.deref.ensures.value) ∙ other);
-        end = p.end;
-        fine = p.fine;
-        fits = omega (arith, c.lines-test.true, c.len.ensures, c.lines.table.ok.0);
-        fault = tt;
+        came = record {
+          parts = unmoved c.args.inbox.now.held.items read piece c.lines.table.items c.lines.inbox.held.items held parts
+              came.held;
+          over = over_at_a_line c.lines.table.items lines held text were _ c.in-Ok-Some.n came.found.0 came.found.1
+              (λ none. some (omega (arith, c.len-in-lines.ensures, c.lines.table.ok.0, none)))
+              (rw c.deref.ensures.value at other);
+          end = came.end;
+          fine = came.fine;
+          fits = omega (arith, c.lines-test.true, c.len.ensures, c.lines.table.ok.0);
+        };
       },
     )
 
 pub returns-then-is_err : goal.returns-then-is_err
 returns-then-is_err g c =
     let (read, consumed, parts) = c.lines.invariant.so_far in
-    let (piece, p) = c.in-Ok-Some.ensures in (
-      read ++ piece,
-      record {
-        consumed = Consumes-trans _ _ _ read piece consumed p.consumed;
-        parts = tt;
-        over = tt;
-        end = tt;
-        fine = tt;
-        fits = tt;
-        fault = (p.fine, refl);
-      },
-    )
+    let (piece, p) = c.in-Ok-Some.ensures in
+    let came = rw c.in-Ok-Some.field-0-is at p.came in
+    (read ++ piece,
+    record { consumed = Consumes-trans _ _ _ read piece consumed p.consumed; came = (came.fine, refl) })
 
 pub lines-preserved : goal.lines-preserved
 lines-preserved g c =
     let (read, consumed, parts) = c.lines.invariant.so_far in
     let (lines, text, were) = c.lines.invariant.lines in
     let (piece, p) = c.in-Ok-Some.ensures in
+    let came = rw c.in-Ok-Some.field-0-is at p.came in
     let n = c.in-Ok-Some.n in
     let held = c.next_line.new.self.held.items in
     let table = c.lines.table.items in
-    let line = rw c.in-Ok-Some.field-0-is at p.found in
     let grew : c.extend_from_slice.new.self.items ≡ table ++ take (n + 1) held =
-    (rw c.if-is_err.ensures.negation at c.extend_from_slice.ensures.items)
-    ∙ ap (λ (l : List ℕ). table ++ take (n + 1) l) c.deref-in-lines.ensures.value in
+    rw c.deref-in-lines.ensures.value at (rw c.if-is_err.ensures.negation at c.extend_from_slice.ensures.items) in
     let why : (length (lines_text lines) ≡ 0) ⊎ (begins_driver (take n held) ≡ true) =
     elim c.if-not-is_of_table.ensures [
       | inl none ↦ inl (omega (
@@ -117,21 +107,20 @@ lines-preserved g c =
         c.lines.table.ok.0,
         ap (λ (t : List ℕ). length t) text,
       ))
-      | inr is ↦ inr (ap (λ (l : List ℕ). begins_driver (take n l)) (sym c.deref.ensures.value) ∙ is)
+      | inr is ↦ inr (rw c.deref.ensures.value at is)
     ] in
     record {
       so_far = (
         read ++ piece,
         Consumes-trans _ _ _ read piece consumed p.consumed,
-        moved c.args.inbox.now.held.items read piece table c.lines.inbox.held.items held (n + 1) parts p.held
-            ∙ ap (λ (t : List ℕ). t ++ drop (n + 1) held) (sym grew)
-            ∙ ap (λ (l : List ℕ). c.extend_from_slice.new.self.items ++ l) (sym c.drop_line.ensures.held),
+        rw (grew, c.drop_line.ensures.held)
+            (moved c.args.inbox.now.held.items read piece table c.lines.inbox.held.items held (n + 1) parts came.held),
       );
       lines = (
         lines ++ take n held ∷ [],
-        grew ∙ text_more table lines n held text line.0,
-        one_line_more lines (take n held) were line.0.one why,
+        grew ∙ (rw text (text_more lines n held came.found.0)),
+        one_line_more lines (take n held) were came.found.0.one why,
       );
-      end = p.end ∙ sym c.drop_line.ensures.end;
-      fine = p.fine;
+      end = came.end ∙ sym c.drop_line.ensures.end;
+      fine = came.fine;
     }

@@ -1,6 +1,5 @@
-use Rattle.std.proofs.Common.{◌≡◌, ◌+◌, ◌++◌, ap, arith, subst, sym, ◌∙◌}
-use Rattle.smx_live.specs.Turns.{changes_since}
-use Rattle.smx_live.proofs.TalkLemmas.{performed}
+use Rattle.std.proofs.Common.{◌≡◌, ◌+◌, ◌++◌, ap, arith, ◌∙◌}
+use Rattle.smx_live.proofs.TalkLemmas.{changes_are}
 use Rattle.smx_live.proofs.talk.Talk.perform.Goals as goal
 
 pub returns-in-Ok-perform-clause-answered : goal.returns-in-Ok-perform-clause-answered
@@ -8,12 +7,20 @@ returns-in-Ok-perform-clause-answered c =
     let s = c.args.self.now.session in
     let told = c.in_ok-tell-in-Ok-perform.ensures in
     let last = c.in_ok-tell_changes-in-Ok-perform.ensures in
-    let next = c.tell_changes.new.self.session in
-    let same : next ≡ c.perform.new.self = last.session ∙ c.tell.ensures.session in
-    performed s next c.args.self.now.progress c.tell_changes.new.self.progress c.args.line.now
-    c.tell.new.self.text.items c.tell_changes.new.self.text.items c.in-Ok.before
-    (rw same c.in-Ok-perform.ensures.ok) c.in-Ok.ensures (rw same told.text) (rw same told.fits)
-    (omega (arith, c.if-self-ge-MAX_COMMANDS.false))
-    (ap (λ p. p.entries) last.progress ∙ told.count)
-    (ap (λ p. p.tracing) last.progress ∙ c.tell.ensures.tracing)
-    (last.text ∙ ap (λ x. c.tell.new.self.text.items ++ changes_since c.in-Ok.before x) (sym last.session))
+    let p = c.in-Ok-perform.ensures.ok in
+    let made = rw p.last at told.text in
+    let changes = changes_are c.args.self.now.progress.tracing s c.perform.new.self c.in-Ok.before c.in-Ok.ensures
+    p.drivers in
+    let same : c.tell_changes.new.self.session ≡ c.perform.new.self = last.session ∙ c.tell.ensures.session in
+    rw same (
+      p.entry,
+      record {
+        performs = p;
+        last = p.last;
+        spelled = rw p.last at told.fits;
+        room = omega (arith, c.if-self-ge-MAX_COMMANDS.false);
+        counted = ap (λ p. p.entries) last.progress ∙ told.count;
+        tracing = ap (λ p. p.tracing) last.progress ∙ c.tell.ensures.tracing;
+      },
+      rw (c.tell.ensures.session, made, changes) at last.text,
+    )
