@@ -4,7 +4,7 @@ use Rattle.std.proofs.Common.{arith, rules, subst, sym}
 use Rattle.std.proofs.lemmas.Fmt.{decimal_nonempty, digits_decimal}
 use Rattle.std.specs.Char.{is_ascii_digit}
 use Rattle.std.specs.Fmt.{decimal}
-use Rattle.std.specs.Prelude.{◌||◌, ◌&&◌, bytes_eq, codes}
+use Rattle.std.specs.Prelude.{◌||◌, bytes_eq, codes}
 use Rattle.std.specs.Str.{all_ascii_digits}
 use Rattle.smx_types.specs.declared.command.Command.{Command}
 use Rattle.smx_types.specs.declared.version.Version.{Version}

@@ -1,5 +1,5 @@
 -- A line that is not a command has an explanation that is not empty.
-use Rattle.std.proofs.Common.{◌≡◌, ℕ, List, [], ◌∷◌, ◌++◌, sym, ap, ◌∙◌, inl, inr, append-nil, append_assoc}
+use Rattle.std.proofs.Common.{◌≡◌, ℕ, List, [], ◌∷◌, ◌++◌, ap, ◌∙◌, inl, inr, append-nil, append_assoc}
 use Rattle.std.proofs.lemmas.List.{append_cancel_right}
 use Rattle.std.specs.Prelude.{codes}
 use Rattle.std.specs.Fmt.{decimal}
@@ -14,9 +14,7 @@ use Rattle.smx_live.specs.declared.turn_fault.TurnFault.TheVariants.{NoCommand}
 -- some words, each followed by a space, are their line and a space
 one_line : (word : List ℕ) (words : List (List ℕ)) → spaced (word ∷ words) ≡ line_of (word ∷ words) ++ SPACE ∷ []
 one_line word [] = append-nil (word ++ SPACE ∷ [])
-one_line word (next ∷ words) = ap (λ (xs : List ℕ). (word ++ SPACE ∷ []) ++ xs) (one_line next words)
-    ∙ append_assoc word (SPACE ∷ []) (line_of (next ∷ words) ++ SPACE ∷ [])
-    ∙ sym (append_assoc word (SPACE ∷ line_of (next ∷ words)) (SPACE ∷ []))
+one_line word (next ∷ words) = rw (one_line next words) (simp append_assoc)
 
 -- a line whose parts are some words is the line of these words
 is_line : (line : List ℕ) (parts : List (List ℕ)) (word : List ℕ) (words : List (List ℕ)) → AreParts line parts

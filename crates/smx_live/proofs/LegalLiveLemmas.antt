@@ -5,7 +5,7 @@ use Rattle.std.proofs.lemmas.Bool.{or_from}
 use Rattle.std.proofs.lemmas.List.{append-nil}
 use Rattle.std.specs.List.{AllByRecursion, list_any}
 use Rattle.std.specs.Prelude.{codes, nat_lt}
-use Rattle.smx_types.specs.Versions.{are_more_drivers, is_hangup, is_of_hangup, least_of_transcript, most_drivers}
+use Rattle.smx_types.specs.Versions.{is_hangup, is_of_hangup, least_of_transcript, most_drivers}
 use Rattle.smx_types.specs.Versions.{version_2_where}
 use Rattle.smx_types.specs.declared.command.Entry.{Entry}
 use Rattle.smx_types.specs.declared.driver.DriverSpec.{DriverSpec}

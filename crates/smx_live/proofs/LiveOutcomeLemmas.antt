@@ -1,6 +1,6 @@
 -- How a live session ends, after each stage at which it can end.
-use Rattle.std.proofs.Common.{◌≡◌, ℕ, ◌+◌, ◌^◌, ◌≤◌, Bool, true, List, [], ◌++◌, length, take, Option}
-use Rattle.std.proofs.Common.{Result, Ok, Err, refl, sym, append_assoc, arith, inl, inr}
+use Rattle.std.proofs.Common.{◌≡◌, ℕ, ◌+◌, ◌^◌, ◌≤◌, Bool, true, List, ◌++◌, length, take, Option}
+use Rattle.std.proofs.Common.{Result, Ok, Err, sym, append_assoc, arith, inl, inr}
 use Rattle.std.proofs.KnownBytes.{Appends-kept, Appends-trans}
 use Rattle.std.proofs.Math.Seq.{take-append-add}
 use Rattle.std.proofs.lemmas.List.{length-append}
@@ -13,7 +13,7 @@ use Rattle.smx_live.specs.LiveStages.{Converses, Finishes, IsPossible}
 use Rattle.smx_text.specs.Grammar.{IsOneLine}
 use Rattle.smx_live.specs.Inboxes.{FailsToRead, IsTooLong}
 use Rattle.smx_live.specs.declared.talk.Progress.{Progress}
-use Rattle.smx_live.specs.LiveText.{IsLive, IsOutcome, IsOver}
+use Rattle.smx_live.specs.LiveText.{IsOutcome, IsOver}
 use Rattle.smx_live.specs.LiveTurns.{FailsToSay}
 use Rattle.smx_live.proofs.LiveStageLemmas.{HasGone}
 

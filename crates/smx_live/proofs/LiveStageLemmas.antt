@@ -1,6 +1,6 @@
 -- The stages of a live session, by the result of each.
 use Rattle.std.proofs.Common.{◌≡◌, ℕ, ◌+◌, ◌<◌, ◌≤◌, Bool, true, false, List, [], ◌++◌, length, take, drop, Option}
-use Rattle.std.proofs.Common.{Result, Ok, Err, refl, sym, ap, subst, ◌∙◌, append_assoc, arith, inl, inr}
+use Rattle.std.proofs.Common.{Result, Ok, Err, refl, ap, append_assoc, arith, inl, inr}
 use Rattle.std.proofs.KnownBytes.{Appends-nil, Appends-trans, Consumes-nil, Consumes-trans}
 use Rattle.std.proofs.lemmas.List.{append-nil, length-append, length-drop}
 use Rattle.std.specs.Io.KnownBytes.{Appends, Consumes}
@@ -14,7 +14,7 @@ use Rattle.smx_filters.specs.declared.input.TheConstants.{MAX_INPUT}
 use Rattle.smx_live.specs.Inboxes.{HasLine}
 use Rattle.smx_live.specs.LiveStages.{TurnsOn}
 use Rattle.smx_live.specs.LiveText.{IsLive}
-use Rattle.smx_live.specs.LiveTurns.{MayAnswer, Says, TakesTurn, Turns, Writes}
+use Rattle.smx_live.specs.LiveTurns.{IsTurnText, MayAnswer, Says, TakesTurn, Writes}
 use Rattle.smx_live.specs.Turns.{Answer, IsBelow, IsTaken, NotDone, answer_text}
 use Rattle.smx_live.specs.declared.talk.Progress.{Progress}
 use Rattle.smx_live.specs.declared.turn_fault.TurnFault.{TurnFault}
@@ -55,7 +55,7 @@ module _ (explain : Bool) (s next : State) (far more : Progress) (line text : Li
       → text ≡ answer_text a ++ below → TakesTurn explain s far line next more before after flushed failures r
   answered_with a below r h taken belongs is =
       let may : MayAnswer explain s far line next more text = (a, below, taken, belongs, is) in
-      said text false (Turns explain s far line next more) _ _ before after flushed failures r h may
+      said text false (IsTurnText explain s far line next more) _ _ before after flushed failures r h may
       (inl (next, more, may))
 
   -- the answer to the line was written, and nothing belongs below it

@@ -1,5 +1,5 @@
 -- Tables that have ended: nothing that starts the same bytes is a longer table.
-use Rattle.std.proofs.Common.{◌≡◌, ◌≢◌, ℕ, ◌+◌, ◌<◌, ◌≤◌, Bool, true, false, List, [], ◌∷◌, ◌++◌, length, take, drop}
+use Rattle.std.proofs.Common.{◌≡◌, ◌≢◌, ℕ, ◌+◌, ◌≤◌, Bool, true, false, List, [], ◌∷◌, ◌++◌, length, take, drop}
 use Rattle.std.proofs.Common.{refl, sym, ap, subst, ◌∙◌, append_assoc, take-append-drop, arith, inl, inr}
 use Rattle.std.proofs.Math.Seq.{take-append_seam}
 use Rattle.std.proofs.lemmas.Bool.Decides.{Decides-eqb}
@@ -147,16 +147,16 @@ module _ (ended : Bool) (table rest : List ℕ) (t : IsTable ended table rest) (
   behind = by_way (further t.lines ms (t.cut ++ rest) (own ++ more) t.of_table.each were.each
       (sym (append_assoc (lines_text t.lines) t.cut rest) ∙ (rw (t.text, text) at parts)
       ∙ append_assoc (lines_text ms) own more)) where
-    by_way : (us : List (List ℕ)) × (((t.lines ≡ ms ++ us) × (lines_text us ++ (t.cut ++ rest) ≡ own ++ more))
-        ⊎ ((ms ≡ t.lines ++ us) × (t.cut ++ rest ≡ lines_text us ++ (own ++ more))))
-        → (us : List (List ℕ)) × (t.lines ≡ ms ++ us) × (lines_text us ++ (t.cut ++ rest) ≡ own ++ more)
-    by_way (us, inl is) = (us, is.0, is.1)
-    by_way ([], inr (same, so)) = ([], rw append-nil (sym (rw append-nil at same)), so)
-    by_way (u ∷ us, inr (same, so)) =
-        let one = (all_right IsOneLine t.lines (u ∷ us) (rw same at were.each)).0 in
-        let (some, none) = no_line_behind ended t.lines t.cut rest t.over u (lines_text us ++ (own ++ more)) one
-        (so ∙ cons u us (own ++ more)) in
-        absurd (cc (none, is_driver_line t.lines us u some (rw same at were.drivers)))
+        by_way : (us : List (List ℕ)) × (((t.lines ≡ ms ++ us) × (lines_text us ++ (t.cut ++ rest) ≡ own ++ more))
+            ⊎ ((ms ≡ t.lines ++ us) × (t.cut ++ rest ≡ lines_text us ++ (own ++ more))))
+            → (us : List (List ℕ)) × (t.lines ≡ ms ++ us) × (lines_text us ++ (t.cut ++ rest) ≡ own ++ more)
+        by_way (us, inl is) = (us, is.0, is.1)
+        by_way ([], inr (same, so)) = ([], rw append-nil (sym (rw append-nil at same)), so)
+        by_way (u ∷ us, inr (same, so)) =
+            let one = (all_right IsOneLine t.lines (u ∷ us) (rw same at were.each)).0 in
+            let (some, none) = no_line_behind ended t.lines t.cut rest t.over u (lines_text us ++ (own ++ more)) one
+            (so ∙ cons u us (own ++ more)) in
+            absurd (cc (none, is_driver_line t.lines us u some (rw same at were.drivers)))
 
   -- the last line of a table has no line feed in it
   own_one : IsOneLine own

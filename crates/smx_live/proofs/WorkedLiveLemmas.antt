@@ -1,6 +1,6 @@
 -- The worked live session, and tables like its own.
-use Rattle.std.proofs.Common.{◌≡◌, ℕ, ◌+◌, Bool, true, false, List, [], ◌∷◌, ◌++◌, length, map, take, drop}
-use Rattle.std.proofs.Common.{refl, inl, inr, arith, rules}
+use Rattle.std.proofs.Common.{◌≡◌, ℕ, Bool, true, false, List, [], ◌∷◌, ◌++◌, map}
+use Rattle.std.proofs.Common.{refl, inl, arith, rules}
 use Rattle.std.proofs.lemmas.List.{length-append}
 use Rattle.std.specs.Fmt.{digits}
 use Rattle.std.specs.Prelude.{codes}
@@ -18,7 +18,7 @@ use Rattle.smx_session.specs.WorkedSessions.{begun, drivers, opened, table}
 use Rattle.smx_live.specs.Inboxes.{HasLine}
 use Rattle.smx_live.specs.LiveText.{IsLive, IsOver, closing_text}
 use Rattle.smx_live.specs.Tables.{AreOfTable, IsTable}
-use Rattle.smx_live.specs.Turns.{IsEntryOf, IsExplained, asked_text, said_text}
+use Rattle.smx_live.specs.Turns.{IsEntryOf, IsExplained, said_text}
 use Rattle.smx_live.specs.WorkedLives.{worked_answers, worked_below, worked_input, worked_output, worked_table}
 use Rattle.smx_live.specs.WorkedLives.{worked_turns}
 use Rattle.smx_live.proofs.AskedLineLemmas.{neither, no_call_line}

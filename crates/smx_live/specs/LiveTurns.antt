@@ -61,15 +61,15 @@ abbrev pub MaySay : Bool → State → Progress → List ℕ → List ℕ → Ty
 MaySay explain s far line text = (next : State) × (more : Progress) × MayAnswer explain s far line next more text
 
 -- this text ends the session; or it is such an answer, and the session goes on
-abbrev pub Turns : Bool → State → Progress → List ℕ → State → Progress → Bool → List ℕ → Type 0
-Turns explain s far line next more true text = IsClosing s line text
-Turns explain s far line next more false text = MayAnswer explain s far line next more text
+abbrev pub IsTurnText : Bool → State → Progress → List ℕ → State → Progress → Bool → List ℕ → Type 0
+IsTurnText explain s far line next more true text = IsClosing s line text
+IsTurnText explain s far line next more false text = MayAnswer explain s far line next more text
 
 -- The output, if a turn returns whether the session has ended. If it fails as out of memory, the command was performed,
 -- and memory ran out for the line of its entry or for its changes; or the line is not a command, and memory ran out for
 -- its explanation.
 abbrev pub TakesTurn : Bool → State → Progress → List ℕ → State → Progress → Option (List ℕ) → Option (List ℕ) → Bool
     → ℕ → Result Bool MainFault → Type 0
-TakesTurn explain s far line next more = Says (Turns explain s far line next more)
+TakesTurn explain s far line next more = Says (IsTurnText explain s far line next more)
     (λ text. MaySay explain s far line text ⊎ IsClosing s line text)
     (Performs s line next ⊎ ((explain ≡ true) × IsTaken s far line (NotDone NoCommand) next more))

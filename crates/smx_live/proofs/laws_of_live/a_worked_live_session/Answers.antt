@@ -1,4 +1,4 @@
-use Rattle.std.proofs.Common.{[], ◌∷◌, ◌+◌, arith, drop, false, inl, inr, refl, rules, subst, take, true}
+use Rattle.std.proofs.Common.{[], ◌+◌, arith, drop, false, inl, inr, refl, rules, subst, take, true}
 use Rattle.std.specs.Prelude.{codes}
 use Rattle.smx_model.specs.Histories.{call_of}
 use Rattle.smx_text.proofs.LineLemmas.{not_one}
