@@ -19,7 +19,7 @@ use Rattle.smx_session.specs.Sessions.{IsStartOf, State}
 use Rattle.smx_filters.specs.declared.input.TheConstants.{MAX_INPUT}
 use Rattle.smx_live.specs.Inboxes.{HasLine, IsShort}
 use Rattle.smx_live.specs.LiveText.{IsAtEnd, IsLive, IsOver, closing_text}
-use Rattle.smx_live.specs.LiveTurns.{IsClosing}
+use Rattle.smx_live.specs.LiveTurns.{IsTurnText}
 use Rattle.smx_live.specs.Tables.{IsTable, table_text}
 use Rattle.smx_live.specs.Turns.{Answer, Entered, Shown, NotDone, Turn, AreAnswered, IsAnswer}
 use Rattle.smx_live.specs.Turns.{AreFollowed, IsBelow, IsEntryOf, IsTaken, answer_text, asked_text}
@@ -192,8 +192,9 @@ module _ (further : OneFurther) {explain : Bool} {read : List ℕ} {ended : Bool
       (ap (λ (p : Progress). p.tracing) h.2) (rw l.counted at h.0) belongs
 
   -- if the first line asks for the end, the session has ended once its last lines are written
-  pub ended_by_line : (whole : List ℕ) → IsClosing s (take n held) whole → IsOver explain read ended (output ++ whole)
-  ended_by_line whole (is, fits, lines) = rw lines (at_its_end l []
+  pub ended_by_line : (whole : List ℕ) (next : State) (more : Progress)
+      → IsTurnText explain s far (take n held) next more true whole → IsOver explain read ended (output ++ whole)
+  ended_by_line whole next more (is, fits, lines) = rw lines (at_its_end l []
       (inl (drop (n + 1) held, line.parts ∙ ap (λ (t : List ℕ). t ++ LINE_FEED ∷ drop (n + 1) held) is, refl)) fits)
 
 -- ---- its beginning, and more bytes
