@@ -1,7 +1,7 @@
 -- The output of a worked session if memory runs out.
-use Rattle.std.proofs.Common.{◌≡◌, ◌≢◌, ℕ, Bool, true, false, List, [], ◌∷◌, ◌++◌, refl, sym, ap, subst, ◌∙◌}
+use Rattle.std.proofs.Common.{◌≡◌, ◌≢◌, ℕ, Bool, true, false, List, [], ◌∷◌, ◌++◌, length, refl, sym, ap, subst, ◌∙◌}
 use Rattle.std.proofs.Common.{inl, inr, arith}
-use Rattle.std.proofs.lemmas.List.{append-nil}
+use Rattle.std.proofs.lemmas.List.{append-nil, length-append}
 use Rattle.std.specs.Prelude.{codes}
 use Rattle.smx_types.specs.ProgramLists.{ProgramLists}
 use Rattle.smx_types.specs.declared.version.Version.TheVariants.{V2}
@@ -50,15 +50,15 @@ over_at_end : IsTable true worked_table []
 over_at_end =
     over_at_the_end worked_table _ [] refl worked_lines true refl (tt, search arith) (inr refl)
 
--- bytes with a line feed are not empty
-some : (xs after : List ℕ) → xs ++ LINE_FEED ∷ after ≡ [] → ⊥
-some [] after e = absurd (cc e)
-some (x ∷ xs) after e = absurd (cc e)
-
 -- no turn was taken if no line was asked
 no_turns : (ts : List Turn) (held : List ℕ) → asked_text ts ++ held ≡ [] → ts ≡ []
 no_turns [] held e = refl
-no_turns (t ∷ ts) held e = absurd (some t.line (asked_text ts ++ held) (sym (asked_cons t ts held) ∙ e))
+no_turns (t ∷ ts) held e =
+    absurd (omega (
+      arith,
+      length-append t.line (LINE_FEED ∷ (asked_text ts ++ held)),
+      ap (λ (bs : List ℕ). length bs) (sym (asked_cons t ts held) ∙ e),
+    ))
 
 -- a session whose input ends after the worked table has written only the opening
 opening_alone : HasOneReading programs_grammar → IsStartOf table begun → (explain : Bool) (output : List ℕ)

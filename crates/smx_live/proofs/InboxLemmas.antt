@@ -37,8 +37,12 @@ found_behind held seen n within none line =
     let part : List ℕ = take n (drop seen held) in
     has_line (seen + n) held (front ++ part) (drop (n + 1) (drop seen held))
     (all_append (λ (b : ℕ). b ≢ LINE_FEED) front part none line.one)
-    (omega (arith, length-append front part, length-take-le seen held within,
-    length-take-le n (drop seen held) (omega (arith, line.within))))
+    (omega (
+      arith,
+      length-append front part,
+      length-take-le seen held within,
+      length-take-le n (drop seen held) (omega (arith, line.within)),
+    ))
     (sym (take-append-drop seen held) ∙ ap (λ (r : List ℕ). front ++ r) line.parts
     ∙ sym (append_assoc front part (LINE_FEED ∷ drop (n + 1) (drop seen held))))
 

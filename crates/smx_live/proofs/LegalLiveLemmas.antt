@@ -5,7 +5,7 @@ use Rattle.std.proofs.lemmas.Bool.{or_from}
 use Rattle.std.proofs.lemmas.List.{append-nil}
 use Rattle.std.specs.List.{AllByRecursion, list_any}
 use Rattle.std.specs.Prelude.{codes, nat_lt}
-use Rattle.smx_types.specs.Versions.{are_more_drivers, is_hangup, is_of_hangup, least_of_transcript, most_drivers}
+use Rattle.smx_types.specs.Versions.{is_hangup, is_of_hangup, least_of_transcript, most_drivers}
 use Rattle.smx_types.specs.Versions.{version_2_where}
 use Rattle.smx_types.specs.declared.command.Entry.{Entry}
 use Rattle.smx_types.specs.declared.driver.DriverSpec.{DriverSpec}
@@ -25,7 +25,8 @@ use Rattle.smx_text.specs.TranscriptText.{transcript_text, view_lines, IsAllowed
 use Rattle.smx_text.proofs.GrowingLemmas.{grown, finished}
 use Rattle.smx_text.proofs.TranscriptWholeLemmas.{spellable_allowed}
 use Rattle.smx_live.specs.LiveText.{IsOver, IsLegalTranscript, transcript_of, transcript_part}
-use Rattle.smx_live.specs.Turns.{Entered, Shown, NotDone, Turn, Answer, AreAnswered, IsAnswer, entries_in, entries_of}
+use Rattle.smx_live.specs.Turns.{Entered, Shown, NotDone, Turn, Answer, AreAnswered, IsAnswer, IsEntryOf, entries_in}
+use Rattle.smx_live.specs.Turns.{entries_of}
 
 -- ---- what the laws of histories say
 
@@ -58,27 +59,23 @@ legal_from stays v ds h (t ∷ ts) was legal =
       one (Shown s) is = subst (IsLegal ds) (sym (append-nil h)) legal
       one (NotDone w) is = subst (IsLegal ds) (sym (append-nil h)) legal
 
--- every entry of answered turns can be spelled
-all_fit : (v : Version) (ds : List DriverSpec) (h : List Entry) (ts : List Turn) → AreAnswered v ds h ts
-    → AllByRecursion FitsEntry (entries_of ts)
-all_fit v ds h [] was = tt
-all_fit v ds h (t ∷ ts) was = one t.answer was.1 (all_fit v ds (h ++ entries_in t.answer) ts was.2) where
-  one : (a : Answer) → IsAnswer v ds h t.line a → AllByRecursion FitsEntry (entries_of ts)
-      → AllByRecursion FitsEntry (entries_in a ++ entries_of ts)
-  one (Entered e) is behind = (is.spelled, behind)
+-- what holds of each entry that answers a line holds of all entries of answered turns
+each : (v : Version) (ds : List DriverSpec) (IsSo : Entry → Type 0)
+    → ((h : List Entry) (line : List ℕ) (e : Entry) → IsEntryOf v ds h line e → IsSo e) → (h : List Entry)
+    (ts : List Turn) → AreAnswered v ds h ts → AllByRecursion IsSo (entries_of ts)
+each v ds IsSo is_so h [] was = tt
+each v ds IsSo is_so h (t ∷ ts) was = one t.answer was.1 (each v ds IsSo is_so (h ++ entries_in t.answer) ts was.2) where
+  one : (a : Answer) → IsAnswer v ds h t.line a → AllByRecursion IsSo (entries_of ts)
+      → AllByRecursion IsSo (entries_in a ++ entries_of ts)
+  one (Entered e) is behind = (is_so h t.line e is, behind)
   one (Shown s) is behind = behind
   one (NotDone w) is behind = behind
 
--- in version 1 no command of answered turns is a hangup
-quiet : (ds : List DriverSpec) (h : List Entry) (ts : List Turn) → AreAnswered V1 ds h ts
-    → list_any (λ e. is_hangup e.command) (entries_of ts) ≡ false
-quiet ds h [] was = refl
-quiet ds h (t ∷ ts) was = one t.answer was.1 (quiet ds (h ++ entries_in t.answer) ts was.2) where
-  one : (a : Answer) → IsAnswer V1 ds h t.line a → list_any (λ e. is_hangup e.command) (entries_of ts) ≡ false
-      → list_any (λ e. is_hangup e.command) (entries_in a ++ entries_of ts) ≡ false
-  one (Entered e) is behind = or_from (is_hangup e.command) _ is.in_version.1 behind
-  one (Shown s) is behind = behind
-  one (NotDone w) is behind = behind
+-- if no entry is a hangup, none is found
+none_found : (es : List Entry) → AllByRecursion (λ e. is_hangup e.command ≡ false) es
+    → list_any (λ e. is_hangup e.command) es ≡ false
+none_found [] none = refl
+none_found (e ∷ es) none = or_from (is_hangup e.command) _ none.0 (none_found es none.1)
 
 -- if no stream has hung up, the view shows none
 none_shown : (ds : List DriverSpec) (c : Configuration) → c.hungs ≡ [] → nat_lt 0 (length (view ds c).hungs) ≡ false
@@ -100,7 +97,7 @@ module _ (stays : StaysLegal) (tells : TellsOfNone) (leaves : LeavesNone)
 
   -- every entry of the session can be spelled
   fit : AllByRecursion FitsEntry es
-  fit = all_fit o.s.version o.s.drivers [] o.live.turns o.live.answered
+  fit = each o.s.version o.s.drivers FitsEntry (λ h line e is. is.spelled) [] o.live.turns o.live.answered
 
   -- the configuration after the entries of the session, as it is shown
   abbrev shown : ConfigView
@@ -125,7 +122,8 @@ module _ (stays : StaysLegal) (tells : TellsOfNone) (leaves : LeavesNone)
   told : o.s.version ≡ V1 → least_of_transcript (transcript_of o) ≡ V1
   told first =
       let none : list_any (λ e. is_hangup e.command) es ≡ false =
-      quiet o.s.drivers [] o.live.turns (rw first at o.live.answered) in
+      none_found es (each V1 o.s.drivers (λ e. is_hangup e.command ≡ false) (λ h line e is. is.in_version.1) []
+      o.live.turns (rw first at o.live.answered)) in
       let hung : o.s.configuration.hungs ≡ [] =
       ap (λ (c : Configuration). c.hungs) o.live.now ∙ leaves o.s.drivers es none in
       ap version_2_where (or_from _ _ (few_drivers (length o.s.drivers) (rw first at few))

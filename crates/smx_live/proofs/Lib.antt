@@ -4,13 +4,10 @@ pub mod InboxLemmas
 pub mod LegalLiveLemmas
 pub mod TalkLemmas
 pub mod LiveLemmas
-pub mod LiveOutcomeLemmas
 pub mod LiveStageLemmas
 pub mod LiveTextLemmas
 pub mod TableLemmas
 pub mod OneOutputLemmas
 pub mod OverTableLemmas
 pub mod WorkedLiveLemmas
-pub mod RefusedDriverLemmas
-pub mod ExplainedLineLemmas
 pub mod TableFaultLemmas

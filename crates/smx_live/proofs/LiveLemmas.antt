@@ -1,6 +1,6 @@
 -- How a live session goes on: one more turn, more bytes, its beginning and its end.
 use Rattle.std.proofs.Common.{◌≡◌, ℕ, ◌+◌, ◌≤◌, Bool, true, false, List, [], ◌∷◌, ◌++◌, length, take, drop, refl}
-use Rattle.std.proofs.Common.{sym, ap, subst, ◌∙◌, append_assoc, arith, inl, inr, Some}
+use Rattle.std.proofs.Common.{sym, ap, subst, ◌∙◌, append_assoc, arith, inl, Some}
 use Rattle.std.proofs.lemmas.List.{append-nil, length-append, length-take-le}
 use Rattle.smx_types.specs.declared.command.Entry.{Entry}
 use Rattle.smx_types.specs.declared.driver.DriverSpec.{DriverSpec}
@@ -11,26 +11,21 @@ use Rattle.smx_model.specs.Commands.{step}
 use Rattle.smx_model.specs.Configuration.{Configuration}
 use Rattle.smx_model.specs.Histories.{after, call_of}
 use Rattle.smx_model.specs.Views.{view}
-use Rattle.smx_words.specs.Spellable.{FitsCallIn}
-use Rattle.smx_words.specs.Spelling.{call_words, entry_line}
+use Rattle.smx_words.specs.Spelling.{call_words}
 use Rattle.smx_words.specs.Words.{LINE_FEED, line_of}
-use Rattle.smx_text.specs.Grammar.{Spells}
 use Rattle.smx_text.specs.GrowingTranscripts.{BeginsTranscript}
-use Rattle.smx_text.specs.ProgramsText.{programs_grammar}
 use Rattle.smx_text.specs.TranscriptText.{IsSpellableView}
 use Rattle.smx_session.specs.Sessions.{IsStartOf, State}
 use Rattle.smx_filters.specs.declared.input.TheConstants.{MAX_INPUT}
 use Rattle.smx_live.specs.Inboxes.{HasLine, IsShort}
-use Rattle.smx_live.specs.LiveText.{IsLive, IsOver, closing_text, cut_words}
-use Rattle.smx_live.specs.LiveTurns.{IsClosing}
+use Rattle.smx_live.specs.LiveText.{IsAtEnd, IsLive, IsOver, closing_text}
+use Rattle.smx_live.specs.LiveTurns.{IsTurnText}
 use Rattle.smx_live.specs.Tables.{IsTable, table_text}
-use Rattle.smx_live.specs.Turns.{Answer, AsksToShow, Entered, Shown, NotDone, Turn, AreAnswered, IsAnswer, IsEntered}
-use Rattle.smx_live.specs.Turns.{AreFollowed, IsBelow, IsEntryOf, IsTaken, IsRefusedFor, answer_text, asked_text}
-use Rattle.smx_live.specs.Turns.{entries_in, entries_of, said_text, traced_changes, traces_after}
+use Rattle.smx_live.specs.Turns.{Answer, Entered, Shown, NotDone, Turn, AreAnswered, IsAnswer}
+use Rattle.smx_live.specs.Turns.{AreFollowed, IsBelow, IsEntryOf, IsTaken, answer_text, asked_text}
+use Rattle.smx_live.specs.Turns.{entries_in, entries_of, said_text, traces_after}
 use Rattle.smx_live.specs.Turns.{traces_behind, turn_text}
 use Rattle.smx_live.specs.declared.talk.Progress.{Progress}
-use Rattle.smx_live.specs.declared.turn_fault.TurnFault.{TurnFault}
-use Rattle.smx_live.specs.declared.turn_fault.TurnFault.TheVariants.{NoCommand, NoMemory, Full}
 use Rattle.smx_live.proofs.TableLemmas.{flat_more, still_a_table}
 
 -- a history with one more entry leads where the command of that entry leads
@@ -78,16 +73,28 @@ traces_more : (tracing : Bool) (ts : List Turn) (t : Turn)
 traces_more tracing [] t = refl
 traces_more tracing (u ∷ ts) t = traces_more (traces_after tracing u.line u.answer) ts t
 
--- the lines of some turns and one more line are the lines of the turns with that one added
-line_more : (ts : List Turn) (line rest : List ℕ) (a : Answer) (below : List ℕ)
-    → asked_text ts ++ (line ++ LINE_FEED ∷ rest)
-    ≡ asked_text (ts ++ (record { line = line; answer = a; below = below }) ∷ []) ++ rest
-line_more ts line rest a below = sym (simp (flat_more, append_assoc))
-
 -- the opening and the answers, with one more answer, are the opening and the answers with that one added
 said_more : (opening output : List ℕ) (ts : List Turn) (t : Turn) → output ≡ opening ++ said_text ts
     → output ++ turn_text t ≡ opening ++ said_text (ts ++ t ∷ [])
 said_more opening output ts t was = rw was (simp (flat_more, append_assoc))
+
+-- ---- its end
+
+-- a session at its end has ended once its last lines are written
+pub at_its_end : {explain : Bool} {read : List ℕ} {ended : Bool} {output : List ℕ} {s : State} {far : Progress}
+    {held : List ℕ} → IsLive explain read ended output s far held → (words : List ℕ) → IsAtEnd ended held words
+    → IsSpellableView (view s.drivers s.configuration) → IsOver explain read ended (output ++ (words ++ closing_text s))
+at_its_end {output = output} {s} {far} {held} l words at fits = record {
+  before = output;
+  s = s;
+  far = far;
+  held = held;
+  live = l;
+  words = words;
+  at_end = at;
+  written = refl;
+  spellable = fits;
+}
 
 -- ---- one more turn
 
@@ -106,7 +113,7 @@ module _ (further : OneFurther) {explain : Bool} {read : List ℕ} {ended : Bool
   behind : (a : Answer) (below : List ℕ)
       → asked_text l.turns ++ held ≡ asked_text (l.turns ++ turn a below ∷ []) ++ drop (n + 1) held
   behind a below = ap (λ (h : List ℕ). asked_text l.turns ++ h) line.parts
-      ∙ line_more l.turns (take n held) (drop (n + 1) held) a below
+      ∙ sym (simp (flat_more, append_assoc))
 
   -- the session goes on after an answer, if it then has the configuration and the count of entries after it
   goes_on : (a : Answer) (below : List ℕ) (next : State) (more : Progress) → next.version ≡ s.version
@@ -185,35 +192,10 @@ module _ (further : OneFurther) {explain : Bool} {read : List ℕ} {ended : Bool
       (ap (λ (p : Progress). p.tracing) h.2) (rw l.counted at h.0) belongs
 
   -- if the first line asks for the end, the session has ended once its last lines are written
-  pub ended_by_line : (whole : List ℕ) → IsClosing s (take n held) whole → IsOver explain read ended (output ++ whole)
-  ended_by_line whole h = record {
-    before = output;
-    s = s;
-    far = far;
-    held = held;
-    live = l;
-    words = [];
-    at_end = inl (drop (n + 1) held, line.parts ∙ ap (λ (t : List ℕ). t ++ LINE_FEED ∷ drop (n + 1) held) h.0, refl);
-    written = ap (λ (t : List ℕ). output ++ t) h.2;
-    spellable = h.1;
-  }
-
--- a session whose input has ended, within a line or not, has ended once its last lines are written
-pub ended_by_input : {explain : Bool} {read : List ℕ} {ended : Bool} {output : List ℕ} {s : State} {far : Progress}
-    {held : List ℕ} → IsLive explain read ended output s far held
-    → ended ≡ true → IsShort held → IsSpellableView (view s.drivers s.configuration)
-    → IsOver explain read ended (output ++ (cut_words held ++ closing_text s))
-ended_by_input {output = output} {s} {far} {held} l is short fits = record {
-  before = output;
-  s = s;
-  far = far;
-  held = held;
-  live = l;
-  words = cut_words held;
-  at_end = inr (is, short, refl);
-  written = refl;
-  spellable = fits;
-}
+  pub ended_by_line : (whole : List ℕ) (next : State) (more : Progress)
+      → IsTurnText explain s far (take n held) next more true whole → IsOver explain read ended (output ++ whole)
+  ended_by_line whole next more (is, fits, lines) = rw lines (at_its_end l []
+      (inl (drop (n + 1) held, line.parts ∙ ap (λ (t : List ℕ). t ++ LINE_FEED ∷ drop (n + 1) held) is, refl)) fits)
 
 -- ---- its beginning, and more bytes
 

@@ -1,20 +1,23 @@
--- The stages of a live session, by the result of each.
-use Rattle.std.proofs.Common.{◌≡◌, ℕ, ◌+◌, ◌<◌, ◌≤◌, Bool, true, false, List, [], ◌++◌, length, take, drop, Option}
-use Rattle.std.proofs.Common.{Result, Ok, Err, refl, sym, ap, subst, ◌∙◌, append_assoc, arith, inl, inr}
-use Rattle.std.proofs.KnownBytes.{Appends-nil, Appends-trans, Consumes-nil, Consumes-trans}
+-- The stages of a live session, by the result of each, and how the session ends.
+use Rattle.std.proofs.Common.{◌≡◌, ℕ, ◌+◌, ◌<◌, ◌≤◌, ◌^◌, Bool, true, false, List, [], ◌++◌, length, take, drop}
+use Rattle.std.proofs.Common.{Option, Result, Ok, Err, refl, sym, ap, append_assoc, arith, inl, inr}
+use Rattle.std.proofs.KnownBytes.{Appends-kept, Appends-nil, Appends-trans, Consumes-nil, Consumes-trans}
+use Rattle.std.proofs.Math.Seq.{take-append-add}
 use Rattle.std.proofs.lemmas.List.{append-nil, length-append, length-drop}
 use Rattle.std.specs.Io.KnownBytes.{Appends, Consumes}
+use Rattle.std.specs.Prelude.{⊤}
 use Rattle.smx_types.specs.declared.driver.DriverSpec.{DriverSpec}
 use Rattle.smx_types.specs.declared.version.Version.{Version}
 use Rattle.smx_model.specs.Configuration.{Configuration}
+use Rattle.smx_text.specs.Grammar.{IsOneLine}
 use Rattle.smx_session.specs.Sessions.{State}
 use Rattle.smx_filters.specs.declared.main_fault.MainFault.{MainFault}
 use Rattle.smx_filters.specs.declared.main_fault.MainFault.TheVariants.{Refused, Text, TooLong, ReadFailed, WriteFailed}
 use Rattle.smx_filters.specs.declared.input.TheConstants.{MAX_INPUT}
-use Rattle.smx_live.specs.Inboxes.{HasLine}
-use Rattle.smx_live.specs.LiveStages.{TurnsOn}
-use Rattle.smx_live.specs.LiveText.{IsLive}
-use Rattle.smx_live.specs.LiveTurns.{MayAnswer, Says, TakesTurn, Turns, Writes}
+use Rattle.smx_live.specs.Inboxes.{FailsToRead, HasLine, IsTooLong}
+use Rattle.smx_live.specs.LiveStages.{Converses, Finishes, GoesOn, IsPossible, TurnsOn}
+use Rattle.smx_live.specs.LiveText.{IsLive, IsOutcome, IsOver}
+use Rattle.smx_live.specs.LiveTurns.{FailsToSay, IsTurnText, Says, TakesTurn, Writes}
 use Rattle.smx_live.specs.Turns.{Answer, IsBelow, IsTaken, NotDone, answer_text}
 use Rattle.smx_live.specs.declared.talk.Progress.{Progress}
 use Rattle.smx_live.specs.declared.turn_fault.TurnFault.{TurnFault}
@@ -54,8 +57,8 @@ module _ (explain : Bool) (s next : State) (far more : Progress) (line text : Li
       → IsBelow explain s.version s.drivers far.tracing s.configuration next.configuration line a below
       → text ≡ answer_text a ++ below → TakesTurn explain s far line next more before after flushed failures r
   answered_with a below r h taken belongs is =
-      let may : MayAnswer explain s far line next more text = (a, below, taken, belongs, is) in
-      said text false (Turns explain s far line next more) _ _ before after flushed failures r h may
+      let may : IsTurnText explain s far line next more false text = (a, below, taken, belongs, is) in
+      said text false (IsTurnText explain s far line next more) _ _ before after flushed failures r h may
       (inl (next, more, may))
 
   -- the answer to the line was written, and nothing belongs below it
@@ -74,25 +77,24 @@ module _ (further : OneFurther) {explain : Bool} {read : List ℕ} {ended : Bool
   abbrev rest : List ℕ
   rest = drop (n + 1) held
 
-  -- the session goes on after any answer to the first line, with what belongs below it
-  goes_on : (text : List ℕ) (later : State) (many : Progress)
-      → MayAnswer explain s far (take n held) later many text
-      → IsLive explain read ended (output ++ text) later many rest
-  goes_on text later many (a, below, taken, belongs, is) =
+  -- after any text for the first line, the session goes on or has ended
+  goes_on : (over : Bool) (text : List ℕ) (later : State) (many : Progress)
+      → IsTurnText explain s far (take n held) later many over text
+      → GoesOn explain read output ended later many rest over text
+  goes_on true text later many closing = ended_by_line further l line small text later many closing
+  goes_on false text later many (a, below, taken, belongs, is) =
       rw is (turned further l line small a below later many taken belongs)
 
   -- what holds of a turn over the held bytes holds over everything that was read
   pub turned_on : (next : State) (more : Progress) (before after : Option (List ℕ)) (flushed : Bool) (failures : ℕ)
       (r : Result Bool MainFault) → TakesTurn explain s far (take n held) next more before after flushed failures r
       → TurnsOn explain read output ended next more (drop (n + 1) held) before after flushed failures r
-  turned_on next more before after flushed failures (Ok true) h =
-      (h.0, h.1, h.2, h.3, ended_by_line further l line small h.2 h.4)
-  turned_on next more before after flushed failures (Ok false) h =
-      (h.0, h.1, h.2, h.3, goes_on h.2 next more h.4)
+  turned_on next more before after flushed failures (Ok over) h =
+      (h.0, h.1, h.2, h.3, goes_on over h.2 next more h.4)
   turned_on next more before after flushed failures (Err WriteFailed) (failed, text, cut, inl (later, many, may)) =
-      (failed, text, cut, inl (later, many, rest, goes_on text later many may))
+      (failed, text, cut, inl (later, many, rest, goes_on false text later many may))
   turned_on next more before after flushed failures (Err WriteFailed) (failed, text, cut, inr closing) =
-      (failed, text, cut, inr (ended_by_line further l line small text closing))
+      (failed, text, cut, inr (goes_on true text next more closing))
   turned_on next more before after flushed failures (Err (Refused f)) h = (h.0, h.1, h.2, tt)
   turned_on next more before after flushed failures (Err (Text f)) h = absurd h
   turned_on next more before after flushed failures (Err TooLong) h = absurd h
@@ -160,3 +162,85 @@ module _ {explain : Bool} {read output : List ℕ} {start : ℕ} {had left befor
     live = rw append_assoc at l;
     took = omega (arith, g.took, within, ap (λ (bs : List ℕ). length bs) is, length-drop (n + 1) held);
   }
+
+-- ---- how a session ends
+
+module _ {explain : Bool} {read output : List ℕ} {start : ℕ} {had left before after : Option (List ℕ)} {turn : ℕ}
+    {ended : Bool} {s : State} {far : Progress} {held : List ℕ}
+    (g : HasGone explain read output start had left before after turn ended s far held)
+    (flushed : Bool) {reads : ℕ} (writes : ℕ) (fed : reads ≡ 0) (now : Option (List ℕ)) where
+  -- a session that writes one text more ends as the whole of what it wrote says
+  says : (text : List ℕ) (r : Result (Unit {0}) MainFault) → Appends after now text
+      → IsOutcome explain (read ++ g.more) ((output ++ g.said) ++ text) ended flushed reads writes r
+      → Converses explain read output had left ended reads before now flushed writes r
+  says text r p is = record {
+    more = g.more;
+    consumed = g.consumed;
+    said = g.said ++ text;
+    appended = Appends-trans before after now g.said text g.appended p;
+    outcome = rw append_assoc at is;
+  }
+
+  -- a session that has ended, with its last text written, ends without a fault
+  pub over : (text : List ℕ) → writes ≡ 0 → flushed ≡ true → Appends after now text
+      → IsOver explain (read ++ g.more) ended ((output ++ g.said) ++ text)
+      → Converses explain read output had left ended reads before now flushed writes (Ok tt)
+  over text fine all p o = says text (Ok tt) p ((fed, fine), all, o)
+
+  -- a session that could not write its text, or ran out of memory for it, ends with that fault
+  pub failed : (e : MainFault)
+      → FailsToSay (IsPossible explain (read ++ g.more) (output ++ g.said) ended) ⊤ after now writes e
+      → Converses explain read output had left ended reads before now flushed writes (Err e)
+  failed WriteFailed (cut, text, (n, p), whole) = says (take n text) (Err WriteFailed) p (
+    fed,
+    cut,
+    length (output ++ g.said) + n,
+    (output ++ g.said) ++ text,
+    sym (take-append-add (output ++ g.said) text n),
+    whole,
+  )
+  failed (Refused f) (fine, is, kept, lacking) = record {
+    more = g.more;
+    consumed = g.consumed;
+    said = g.said;
+    appended = Appends-kept before after now g.said g.appended kept;
+    outcome = ((fed, fine), inl (is, inr (s, far, held, g.live)));
+  }
+  failed (Text f) h = absurd h
+  failed TooLong h = absurd h
+  failed ReadFailed h = absurd h
+
+  -- a session at the end of its input ends as the write of its last lines does
+  pub at_the_end : (r : Result (Unit {0}) MainFault)
+      → Finishes explain (read ++ g.more) (output ++ g.said) ended after now flushed writes r
+      → Converses explain read output had left ended reads before now flushed writes r
+  at_the_end (Ok done) h = over h.2 h.0 h.1 h.3 h.4
+  at_the_end (Err e) h = failed e h
+
+module _ {explain : Bool} {read output : List ℕ} {start : ℕ} {had left before after : Option (List ℕ)} {turn : ℕ}
+    {ended : Bool} {s : State} {far : Progress} {held : List ℕ}
+    (g : HasGone explain read output start had left before after turn ended s far held) {flushed : Bool}
+    {reads writes : ℕ} (fine : writes ≡ 0) where
+  -- a session that writes nothing more ends as what it read says
+  says_no_more : (r : Result (Unit {0}) MainFault)
+      → IsOutcome explain (read ++ g.more) (output ++ g.said) ended flushed reads writes r
+      → Converses explain read output had left ended reads before after flushed writes r
+  says_no_more r is =
+      record { more = g.more; consumed = g.consumed; said = g.said; appended = g.appended; outcome = is }
+
+  -- a session that can't read its next line ends with the fault of its reads
+  pub no_line : (e : MainFault) → flushed ≡ true → FailsToRead (IsTooLong held) (IsOneLine held) reads e
+      → Converses explain read output had left ended reads before after flushed writes (Err e)
+  no_line TooLong all is = says_no_more (Err TooLong) ((is.0, fine), inr (s, far, held, g.live, inl is.1))
+  no_line ReadFailed all is = says_no_more (Err ReadFailed) (is.0, fine, inr (all, s, far, held, g.live, is.1))
+  no_line (Refused f) all is = says_no_more (Err (Refused f)) ((is.0, fine), inl (is.1, inr (s, far, held, g.live)))
+  no_line (Text f) all is = absurd is
+  no_line WriteFailed all is = absurd is
+
+  -- a session after the largest count of turns ends as too long
+  pub no_count : start ≤ length read → reads ≡ 0 → 2 ^ 64 ≤ turn + 1
+      → Converses explain read output had left ended reads before after flushed writes (Err TooLong)
+  no_count size fed many = says_no_more (Err TooLong) (
+    (fed, fine),
+    inr (s, far, held, g.live, inr (omega (arith, many, g.took, size, length-append read g.more))),
+  )

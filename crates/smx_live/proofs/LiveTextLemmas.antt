@@ -1,6 +1,6 @@
 -- A live session from bytes to bytes, by the stage at which it ends.
 use Rattle.std.proofs.Common.{◌≡◌, ℕ, ◌≤◌, Bool, false, List, [], ◌++◌, length, take, Option}
-use Rattle.std.proofs.Common.{Result, Ok, Err, refl, inl, inr}
+use Rattle.std.proofs.Common.{Result, Err, refl, inl, inr}
 use Rattle.std.proofs.KnownBytes.{Appends-kept, Appends-nil, Appends-trans, Consumes-trans}
 use Rattle.std.specs.Io.KnownBytes.{Appends, Consumes}
 use Rattle.smx_session.specs.Sessions.{IsStartOf, State}

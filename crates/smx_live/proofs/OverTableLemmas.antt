@@ -25,15 +25,14 @@ cons : (l : List ℕ) (ls : List (List ℕ)) (rest : List ℕ)
     → lines_text (l ∷ ls) ++ rest ≡ l ++ LINE_FEED ∷ (lines_text ls ++ rest)
 cons l ls rest = simp append_assoc
 
--- the text of lines after other lines is at least as long as the first of them
-no_shorter : (ls : List (List ℕ)) (u : List ℕ) (us : List (List ℕ))
-    → length (lines_text ls) + length u ≤ length (lines_text (ls ++ u ∷ us))
-no_shorter [] u us =
-    omega (arith, length-append (u ++ LINE_FEED ∷ []) (lines_text us), length-append u (LINE_FEED ∷ []))
-no_shorter (l ∷ ls) u us =
+-- the text of lines is longer than that of the first of them and the next one's bytes
+longer : (ls : List (List ℕ)) (u : List ℕ) (us : List (List ℕ))
+    → length (lines_text ls) + length u < length (lines_text (ls ++ u ∷ us))
+longer [] u us = omega (arith, length-append (u ++ LINE_FEED ∷ []) (lines_text us), length-append u (LINE_FEED ∷ []))
+longer (l ∷ ls) u us =
     omega (
       arith,
-      no_shorter ls u us,
+      longer ls u us,
       length-append (l ++ LINE_FEED ∷ []) (lines_text ls),
       length-append (l ++ LINE_FEED ∷ []) (lines_text (ls ++ u ∷ us)),
     )
@@ -139,24 +138,34 @@ is_driver_line : (ls us : List (List ℕ)) (u : List ℕ) → ls ≢ []
 is_driver_line [] us u some all = absurd (some refl)
 is_driver_line (l ∷ ls) us u some all = (all_right (λ (x : List ℕ). begins_driver x ≡ true) ls (u ∷ us) all).0
 
-module _ (ended : Bool) (table rest : List ℕ) (t : IsTable ended table rest) (other more : List ℕ)
-    (ms : List (List ℕ)) (own : List ℕ) (text : other ≡ lines_text ms ++ own) (were : AreOfTable ms own)
-    (parts : table ++ rest ≡ other ++ more) where
-  -- a table that has ended has all lines of another table of the same bytes
-  behind : (us : List (List ℕ)) × (t.lines ≡ ms ++ us) × (lines_text us ++ (t.cut ++ rest) ≡ own ++ more)
-  behind = by_way (further t.lines ms (t.cut ++ rest) (own ++ more) t.of_table.each were.each
-      (sym (append_assoc (lines_text t.lines) t.cut rest) ∙ (rw (t.text, text) at parts)
-      ∙ append_assoc (lines_text ms) own more)) where
-    by_way : (us : List (List ℕ)) × (((t.lines ≡ ms ++ us) × (lines_text us ++ (t.cut ++ rest) ≡ own ++ more))
-        ⊎ ((ms ≡ t.lines ++ us) × (t.cut ++ rest ≡ lines_text us ++ (own ++ more))))
-        → (us : List (List ℕ)) × (t.lines ≡ ms ++ us) × (lines_text us ++ (t.cut ++ rest) ≡ own ++ more)
-    by_way (us, inl is) = (us, is.0, is.1)
-    by_way ([], inr (same, so)) = ([], rw append-nil (sym (rw append-nil at same)), so)
-    by_way (u ∷ us, inr (same, so)) =
-        let one = (all_right IsOneLine t.lines (u ∷ us) (rw same at were.each)).0 in
-        let (some, none) = no_line_behind ended t.lines t.cut rest t.over u (lines_text us ++ (own ++ more)) one
-        (so ∙ cons u us (own ++ more)) in
-        absurd (cc (none, is_driver_line t.lines us u some (rw same at were.drivers)))
+module _ (ended : Bool) (table rest : List ℕ) (t : IsTable ended table rest) (ms : List (List ℕ)) (own more : List ℕ)
+    (were : AreOfTable ms own) (parts : table ++ rest ≡ (lines_text ms ++ own) ++ more) where
+  -- the bytes, by the whole lines of both tables
+  all : lines_text t.lines ++ (t.cut ++ rest) ≡ lines_text ms ++ (own ++ more)
+  all = sym (append_assoc (lines_text t.lines) t.cut rest) ∙ (rw t.text at parts)
+      ∙ append_assoc (lines_text ms) own more
+
+  -- one line after the lines of another table of the same bytes comes after all lines of a table that has ended, or lies
+  -- within their text
+  lines_apart : (xs after : List ℕ) → IsOneLine xs → own ++ more ≡ xs ++ after
+      → ((t.lines ≡ ms) × (t.cut ++ rest ≡ xs ++ after))
+      ⊎ (length (lines_text ms) + length xs < length (lines_text t.lines))
+  lines_apart xs after one is = by_way (further t.lines ms (t.cut ++ rest) (xs ++ after) t.of_table.each were.each
+      (rw is at all)) where
+        by_way : (us : List (List ℕ)) × (((t.lines ≡ ms ++ us) × (lines_text us ++ (t.cut ++ rest) ≡ xs ++ after))
+            ⊎ ((ms ≡ t.lines ++ us) × (t.cut ++ rest ≡ lines_text us ++ (xs ++ after))))
+            → ((t.lines ≡ ms) × (t.cut ++ rest ≡ xs ++ after))
+            ⊎ (length (lines_text ms) + length xs < length (lines_text t.lines))
+        by_way ([], inl (same, so)) = inl (rw append-nil at same, so)
+        by_way (u ∷ us, inl (same, so)) =
+            let within = no_longer xs after u (lines_text us ++ (t.cut ++ rest)) one
+            (sym so ∙ cons u us (t.cut ++ rest)) in inr (rw same (omega (arith, within, longer ms u us)))
+        by_way ([], inr (same, so)) = inl (sym (rw append-nil at same), so)
+        by_way (u ∷ us, inr (same, so)) =
+            let next = (all_right IsOneLine t.lines (u ∷ us) (rw same at were.each)).0 in
+            let (some, none) = no_line_behind ended t.lines t.cut rest t.over u (lines_text us ++ (xs ++ after)) next
+            (so ∙ cons u us (xs ++ after)) in
+            absurd (cc (none, is_driver_line t.lines us u some (rw same at were.drivers)))
 
   -- the last line of a table has no line feed in it
   own_one : IsOneLine own
@@ -170,63 +179,41 @@ module _ (ended : Bool) (table rest : List ℕ) (t : IsTable ended table rest) (
   sizes = ap (λ (x : List ℕ). length x) t.text ∙ length-append (lines_text t.lines) t.cut
 
   -- another table of the same bytes is not longer
-  no_table_is_longer : length other ≤ length table
-  no_table_is_longer = by_lines behind where
-    size : length other ≡ length (lines_text ms) + length own
-    size = ap (λ (x : List ℕ). length x) text ∙ length-append (lines_text ms) own
-
-    by_lines : (us : List (List ℕ)) × (t.lines ≡ ms ++ us) × (lines_text us ++ (t.cut ++ rest) ≡ own ++ more)
-        → length other ≤ length table
-    by_lines ([], same, so) =
-        let is : t.lines ≡ ms = rw append-nil at same in
-        omega (
-          arith,
-          size,
-          sizes,
-          ap (λ (x : List (List ℕ)). length (lines_text x)) is,
-          cut_within ended t.lines t.cut rest t.over own more (rw is were.last) so,
-        )
-    by_lines (u ∷ us, same, so) =
-        omega (
-          arith,
-          size,
-          sizes,
-          ap (λ (x : List (List ℕ)). length (lines_text x)) same,
-          no_shorter ms u us,
-          no_longer own more u (lines_text us ++ (t.cut ++ rest)) own_one (sym so ∙ cons u us (t.cut ++ rest)),
-        )
+  no_table_is_longer : length (lines_text ms ++ own) ≤ length table
+  no_table_is_longer = elim (lines_apart own more own_one refl) [
+    | inl (is, so) ↦ omega (
+      arith,
+      length-append (lines_text ms) own,
+      sizes,
+      ap (λ (x : List (List ℕ)). length (lines_text x)) is,
+      cut_within ended t.lines t.cut rest t.over own more (rw is were.last) so,
+    )
+    | inr within ↦ omega (arith, length-append (lines_text ms) own, sizes, within)
+  ]
 
   -- one line after the other table's whole lines is within the limit, if the table is
   no_line_is_longer : length table ≤ MAX_INPUT → (xs after : List ℕ) → IsOneLine xs → own ++ more ≡ xs ++ after
       → length xs ≤ MAX_INPUT
-  no_line_is_longer fits xs after one is = by_lines behind where
-    by_lines : (us : List (List ℕ)) × (t.lines ≡ ms ++ us) × (lines_text us ++ (t.cut ++ rest) ≡ own ++ more)
-        → length xs ≤ MAX_INPUT
-    by_lines ([], same, so) =
-        line_within ended t.lines t.cut rest t.over (omega (arith, sizes, fits)) xs after one (so ∙ is)
-    by_lines (u ∷ us, same, so) =
-        omega (
-          arith,
-          fits,
-          sizes,
-          ap (λ (x : List (List ℕ)). length (lines_text x)) same,
-          no_shorter ms u us,
-          no_longer xs after u (lines_text us ++ (t.cut ++ rest)) one
-              (sym is ∙ sym so ∙ cons u us (t.cut ++ rest)),
-        )
+  no_line_is_longer fits xs after one is = elim (lines_apart xs after one is) [
+    | inl (same, so) ↦ line_within ended t.lines t.cut rest t.over (omega (arith, sizes, fits)) xs after one so
+    | inr within ↦ omega (arith, fits, sizes, within)
+  ]
 
   -- if no whole line follows the other table, the input has ended
   has_ended : IsOneLine more → (ended ≡ true) × IsOneLine rest
-  has_ended one = by_lines behind where
-    whole : IsOneLine (own ++ more)
-    whole = all_append (λ (b : ℕ). b ≢ LINE_FEED) own more own_one one
-
-    by_lines : (us : List (List ℕ)) × (t.lines ≡ ms ++ us) × (lines_text us ++ (t.cut ++ rest) ≡ own ++ more)
-        → (ended ≡ true) × IsOneLine rest
-    by_lines ([], same, so) = end_within ended t.lines t.cut rest t.over (subst IsOneLine (sym so) whole)
-    by_lines (u ∷ us, same, so) =
-        absurd (not_one u (lines_text us ++ (t.cut ++ rest))
-        (subst IsOneLine (sym so ∙ cons u us (t.cut ++ rest)) whole))
+  has_ended one =
+      let xs : List ℕ = own ++ more in
+      let whole : IsOneLine xs = all_append (λ (b : ℕ). b ≢ LINE_FEED) own more own_one one in
+      elim (lines_apart xs [] whole (sym (append-nil xs))) [
+        | inl (same, so) ↦ end_within ended t.lines t.cut rest t.over (rw (so, append-nil) whole)
+        | inr within ↦ absurd (omega (
+          arith,
+          within,
+          ap (λ (x : List ℕ). length x) all,
+          length-append (lines_text t.lines) (t.cut ++ rest),
+          length-append (lines_text ms) xs,
+        ))
+      ]
 
 -- what was read has only one table
 pub table_once : (ended : Bool) (table other rest more : List ℕ) → IsTable ended table rest → IsTable ended other more
@@ -234,8 +221,8 @@ pub table_once : (ended : Bool) (table other rest more : List ℕ) → IsTable e
 table_once ended table other rest more t u e =
     let size : length table ≡ length other = omega (
       arith,
-      no_table_is_longer ended table rest t other more u.lines u.cut u.text u.of_table e,
-      no_table_is_longer ended other more u table rest t.lines t.cut t.text t.of_table (sym e),
+      rw (← u.text) at (no_table_is_longer ended table rest t u.lines u.cut more u.of_table (rw u.text at e)),
+      rw (← t.text) at (no_table_is_longer ended other more u t.lines t.cut rest t.of_table (rw t.text at (sym e))),
     ) in
     let same : table ≡ other = sym (take-append_seam table rest) ∙ ap (take (length table)) e
     ∙ ap (λ (k : ℕ). take k (other ++ more)) size ∙ take-append_seam other more in
@@ -244,17 +231,16 @@ table_once ended table other rest more t u e =
 module _ (ended : Bool) (table rest : List ℕ) (t : IsTable ended table rest) where
   -- a table that has ended is unfinished only if the input has ended and no whole line follows
   pub finished : IsUnfinished (table ++ rest) → (ended ≡ true) × IsOneLine rest
-  finished (ms, own, more, parts, were, one) =
-      has_ended ended table rest t (lines_text ms ++ own) more ms own refl were parts one
+  finished (ms, own, more, parts, were, one) = has_ended ended table rest t ms own more were parts one
 
   -- a table that has ended and is within the limit is not too long with what follows it, nor is any line after it
   pub not_endless : length table ≤ MAX_INPUT → IsEndlessTable (table ++ rest) → ⊥
   not_endless fits (ms, own, more, parts, were, inl long) =
-      omega (arith, no_table_is_longer ended table rest t (lines_text ms ++ own) more ms own refl were parts)
+      omega (arith, no_table_is_longer ended table rest t ms own more were parts)
   not_endless fits (ms, own, more, parts, were, inr (n, many, enough, one)) =
       let first : List ℕ = own ++ take n more in
-      let own_is = own_one ended table rest t (lines_text ms ++ own) more ms own refl were parts in
-      let whole : IsOneLine first = all_append (λ (b : ℕ). b ≢ LINE_FEED) own (take n more) own_is one in
+      let whole : IsOneLine first = all_append (λ (b : ℕ). b ≢ LINE_FEED) own (take n more)
+      (own_one ended table rest t ms own more were parts) one in
       let joined : own ++ more ≡ first ++ drop n more =
       ap (λ (x : List ℕ). own ++ x) (sym (take-append-drop n more))
       ∙ sym (append_assoc own (take n more) (drop n more)) in
@@ -262,8 +248,7 @@ module _ (ended : Bool) (table rest : List ℕ) (t : IsTable ended table rest) w
         arith,
         length-append own (take n more),
         length-take-le n more enough,
-        no_line_is_longer ended table rest t (lines_text ms ++ own) more ms own refl were parts fits first (drop n more)
-            whole joined,
+        no_line_is_longer ended table rest t ms own more were parts fits first (drop n more) whole joined,
       )
 
 -- ---- lines that are not too long

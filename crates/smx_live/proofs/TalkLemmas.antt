@@ -1,5 +1,5 @@
 -- The changes below the line of an entry that a session performs.
-use Rattle.std.proofs.Common.{◌≡◌, Bool, List, Option, Some, None, refl}
+use Rattle.std.proofs.Common.{◌≡◌, Bool, Option, Some, None, refl}
 use Rattle.smx_types.specs.declared.view.ConfigView.{ConfigView}
 use Rattle.smx_session.specs.Sessions.{State}
 use Rattle.smx_live.specs.Turns.{IsTracedView, changes_since, traced_changes}

@@ -1,13 +1,15 @@
 -- The worked live session, and tables like its own.
-use Rattle.std.proofs.Common.{◌≡◌, ℕ, ◌+◌, Bool, true, false, List, [], ◌∷◌, ◌++◌, length, map, take, drop}
-use Rattle.std.proofs.Common.{refl, inl, inr, arith, rules}
+use Rattle.std.proofs.Common.{◌≡◌, ℕ, Bool, true, false, List, [], ◌∷◌, ◌++◌, map}
+use Rattle.std.proofs.Common.{refl, inl, arith, rules}
 use Rattle.std.proofs.lemmas.List.{length-append}
 use Rattle.std.specs.Fmt.{digits}
 use Rattle.std.specs.Prelude.{codes}
+use Rattle.smx_types.specs.ProgramLists.{ProgramLists}
 use Rattle.smx_types.specs.declared.version.Version.TheVariants.{V2}
-use Rattle.smx_model.specs.Worked.Common.{Fd, OpenClone, ◌does◌gets◌, eth}
-use Rattle.smx_text.specs.Grammar.{beginning}
+use Rattle.smx_model.specs.Worked.Common.{Fd, OpenClone, ◌does◌gets◌, eth, leaf}
+use Rattle.smx_text.specs.Grammar.{Spells, beginning}
 use Rattle.smx_text.specs.GrowingTranscripts.{BeginsTranscript}
+use Rattle.smx_text.specs.ProgramsText.{programs_grammar}
 use Rattle.smx_text.specs.TranscriptLines as line
 use Rattle.smx_text.specs.TranscriptText.{transcript_grammar}
 use Rattle.smx_words.specs.Spelling.{call_words}
@@ -17,10 +19,10 @@ use Rattle.smx_session.specs.Sessions.{IsStartOf}
 use Rattle.smx_session.specs.WorkedSessions.{begun, drivers, opened, table}
 use Rattle.smx_live.specs.Inboxes.{HasLine}
 use Rattle.smx_live.specs.LiveText.{IsLive, IsOver, closing_text}
-use Rattle.smx_live.specs.Tables.{AreOfTable, IsTable}
-use Rattle.smx_live.specs.Turns.{IsEntryOf, IsExplained, asked_text, said_text}
+use Rattle.smx_live.specs.Tables.{AreOfTable, IsTable, table_text}
+use Rattle.smx_live.specs.Turns.{IsEntryOf, IsExplained, said_text}
 use Rattle.smx_live.specs.WorkedLives.{worked_answers, worked_below, worked_input, worked_output, worked_table}
-use Rattle.smx_live.specs.WorkedLives.{worked_turns}
+use Rattle.smx_live.specs.WorkedLives.{minorless_text, worked_turns}
 use Rattle.smx_live.proofs.AskedLineLemmas.{neither, no_call_line}
 use Rattle.smx_live.proofs.TableLemmas.{over_at_a_line}
 
@@ -60,6 +62,22 @@ pub behind_drivers : IsTable false (codes "programs 2\ndrivers\n") (codes "drive
 behind_drivers = over_at_a_line (codes "programs 2\ndrivers\n") _ (codes "drive\n") refl drivers_lines false 5
     (record { within = search arith; one = search (rules, arith); parts = refl })
     (search arith) (λ none. absurd (cc none)) refl
+
+-- ---- programs with one driver
+
+-- programs with one driver that has `minors` minors
+abbrev pub of_one : ℕ → ProgramLists
+of_one minors = record { version = V2; drivers = leaf eth minors ∷ []; programs = [] }
+
+-- the text of a driver without minors spells programs with that one driver
+pub minorless : Spells (programs_grammar V2) minorless_text (of_one 0)
+unfolding digits
+minorless = record { allowed = search (rules, arith); text = refl }
+
+-- the worked table spells programs with one driver that has two minors
+pub worked : Spells (programs_grammar V2) (table_text worked_table) (of_one 2)
+unfolding digits
+worked = record { allowed = search (rules, arith); text = refl }
 
 -- ---- the session
 

@@ -45,31 +45,21 @@ abbrev pub Writes : {A : Type 0} → List ℕ → A → Option (List ℕ) → Op
     → Type 0
 Writes text result = Says (λ x t. (x ≡ result) × (t ≡ text)) (λ t. t ≡ text) ⊥
 
--- the line asks for the rest of the transcript, and this is that rest
-abbrev pub IsClosing : State → List ℕ → List ℕ → Type 0
-IsClosing s line whole =
-    (line ≡ codes "end") × IsSpellableView (view s.drivers s.configuration) × (whole ≡ closing_text s)
-
--- this text is an answer to the line and what is below it, and the session goes on with this state and is this far
-abbrev pub MayAnswer : Bool → State → Progress → List ℕ → State → Progress → List ℕ → Type 0
-MayAnswer explain s far line next more text = (a : Answer) × (below : List ℕ) × IsTaken s far line a next more
+-- this text is the rest of the transcript, and the line asks for it; or it is an answer to the line and what is below
+-- it, and the session goes on with this state and is this far
+abbrev pub IsTurnText : Bool → State → Progress → List ℕ → State → Progress → Bool → List ℕ → Type 0
+IsTurnText explain s far line next more true text =
+    (line ≡ codes "end") × IsSpellableView (view s.drivers s.configuration) × (text ≡ closing_text s)
+IsTurnText explain s far line next more false text = (a : Answer) × (below : List ℕ) × IsTaken s far line a next more
     × IsBelow explain s.version s.drivers far.tracing s.configuration next.configuration line a below
     × (text ≡ answer_text a ++ below)
-
--- this text is an answer that the line can have, and what is below it
-abbrev pub MaySay : Bool → State → Progress → List ℕ → List ℕ → Type 0
-MaySay explain s far line text = (next : State) × (more : Progress) × MayAnswer explain s far line next more text
-
--- this text ends the session; or it is such an answer, and the session goes on
-abbrev pub Turns : Bool → State → Progress → List ℕ → State → Progress → Bool → List ℕ → Type 0
-Turns explain s far line next more true text = IsClosing s line text
-Turns explain s far line next more false text = MayAnswer explain s far line next more text
 
 -- The output, if a turn returns whether the session has ended. If it fails as out of memory, the command was performed,
 -- and memory ran out for the line of its entry or for its changes; or the line is not a command, and memory ran out for
 -- its explanation.
 abbrev pub TakesTurn : Bool → State → Progress → List ℕ → State → Progress → Option (List ℕ) → Option (List ℕ) → Bool
     → ℕ → Result Bool MainFault → Type 0
-TakesTurn explain s far line next more = Says (Turns explain s far line next more)
-    (λ text. MaySay explain s far line text ⊎ IsClosing s line text)
+TakesTurn explain s far line next more = Says (IsTurnText explain s far line next more)
+    (λ text. ((later : State) × (many : Progress) × IsTurnText explain s far line later many false text)
+    ⊎ IsTurnText explain s far line next more true text)
     (Performs s line next ⊎ ((explain ≡ true) × IsTaken s far line (NotDone NoCommand) next more))

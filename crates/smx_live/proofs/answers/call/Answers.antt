@@ -14,7 +14,7 @@ returns-in-Ok-None g c =
     let (e, did, is) = rw c.in-Ok-None.field-0-is at c.in-Ok-None.ensures.answered in
     answered_with c.args.explain talk.session next.session talk.progress next.progress c.args.line.now
     c.as_slice.result.now (g.S.Sink.contents c.args.sink.now) (g.S.Sink.contents sink) (g.S.Sink.flushed sink)
-    (g.S.Sink.failures sink) (Entered e) _ c.say.result c.say.ensures did refl (c.as_slice.ensures.value ∙ is)
+    (g.S.Sink.failures sink) (Entered e) _ c.say.result c.say.ensures did refl (rw is at c.as_slice.ensures.value)
 
 pub refuse-requires-clause-refused : goal.refuse-requires-clause-refused
 refuse-requires-clause-refused g c =

@@ -1,6 +1,6 @@
-use Rattle.std.proofs.Common.{◌≡◌, ℕ, Bool, ◌∙◌, ap, refl}
+use Rattle.std.proofs.Common.{◌∙◌, refl}
 use Rattle.smx_model.specs.Views.{view}
-use Rattle.smx_live.specs.Turns.{NotDone, Shown, switched}
+use Rattle.smx_live.specs.Turns.{NotDone, Shown}
 use Rattle.smx_live.specs.declared.talk.Progress.{Progress}
 use Rattle.smx_live.specs.declared.turn_fault.TurnFault.TheVariants.{NoMemory}
 use Rattle.smx_live.proofs.LiveStageLemmas.{answered_alone}
@@ -11,16 +11,11 @@ returns-in-Ok g c =
     let talk = c.args.talk.now in
     let sink = c.say.new.sink in
     let far : Progress = record { entries = talk.progress.entries; tracing = c.switched-talk.result } in
-    let tracing : far
-    ≡ record { entries = talk.progress.entries; tracing = switched talk.progress.tracing c.args.line.now } =
-    ap (λ (b : Bool). progress talk.progress.entries b) c.switched-talk.ensures in
     λ explain. answered_alone explain talk.session talk.session talk.progress far c.args.line.now
     c.as_slice.result.now
     (g.S.Sink.contents c.args.sink.now) (g.S.Sink.contents sink) (g.S.Sink.flushed sink) (g.S.Sink.failures sink)
     (Shown (view talk.session.drivers talk.session.configuration)) c.say.result c.say.ensures
-    (c.requires.asked, refl, refl, tracing) refl (c.as_slice.ensures.value ∙ c.in-Ok.ensures.written) where
-      progress : ℕ → Bool → Progress
-      progress entries tracing = record { entries = entries; tracing = tracing }
+    (c.requires.asked, refl, refl, rw c.switched-talk.ensures) refl (c.as_slice.ensures.value ∙ c.in-Ok.ensures.written)
 
 pub returns-in-Err : goal.returns-in-Err
 returns-in-Err g c =

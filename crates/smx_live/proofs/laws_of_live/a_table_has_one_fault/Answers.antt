@@ -8,9 +8,6 @@ use Rattle.smx_live.proofs.laws_of_live.a_table_has_one_fault.Goals as goal
 pub returns-clause-one : goal.returns-clause-one
 returns-clause-one c = one_fault c.one_text_has_one_reading.ensures
 
-pub returns-clause-known : goal.returns-clause-known
-returns-clause-known c = λ explain read output ended flushed reads writes fault h. h.2
-
 pub returns-clause-short : goal.returns-clause-short
 returns-clause-short c = λ explain read output ended flushed reads writes fault h.
     no_endless read ended (λ text. ReadsAny programs_grammar text (Err fault)) h.3
@@ -19,15 +16,6 @@ pub returns-clause-drivers : goal.returns-clause-drivers
 returns-clause-drivers c = λ explain read output ended flushed reads writes fault h other. elim h.1 [
   | inl (is, broken) ↦ absurd (other is)
   | inr (none, bad) ↦ no_endless read ended (RefusesDriversOf fault) bad
-]
-
-pub returns-clause-silent : goal.returns-clause-silent
-returns-clause-silent c = λ explain read output ended flushed reads writes fault h. h.1
-
-pub returns-clause-drivers_silent : goal.returns-clause-drivers_silent
-returns-clause-drivers_silent c = λ explain read output ended flushed reads writes fault h other. elim h.1 [
-  | inl (is, broken) ↦ absurd (other is)
-  | inr (none, bad) ↦ none
 ]
 
 pub returns-clause-one_refusal : goal.returns-clause-one_refusal

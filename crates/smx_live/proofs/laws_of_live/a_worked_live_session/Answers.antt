@@ -1,4 +1,4 @@
-use Rattle.std.proofs.Common.{[], ◌∷◌, ◌+◌, arith, drop, false, inl, inr, refl, rules, subst, take, true}
+use Rattle.std.proofs.Common.{[], ◌+◌, arith, drop, false, inl, inr, refl, rules, subst, take, true}
 use Rattle.std.specs.Prelude.{codes}
 use Rattle.smx_model.specs.Histories.{call_of}
 use Rattle.smx_text.proofs.LineLemmas.{not_one}
@@ -54,24 +54,6 @@ pub returns-clause-over_within_another : goal.returns-clause-over_within_another
 returns-clause-over_within_another c =
     over_at_the_end (codes "programs 2\n") _ (codes "3 clone") refl worked.header_lines true refl
     (search (rules, arith), search arith) (inr refl)
-
-pub returns-clause-show_is_asked : goal.returns-clause-show_is_asked
-returns-clause-show_is_asked c = λ is. is.0.0 (inr (inl refl))
-
-pub returns-clause-end_is_asked : goal.returns-clause-end_is_asked
-returns-clause-end_is_asked c = λ is. is.0.1 refl
-
-pub returns-clause-trace_on_is_asked : goal.returns-clause-trace_on_is_asked
-returns-clause-trace_on_is_asked c = λ is. is.0.0 (inr (inr (inl refl)))
-
-pub returns-clause-trace_off_is_asked : goal.returns-clause-trace_off_is_asked
-returns-clause-trace_off_is_asked c = λ is. is.0.0 (inr (inr (inr refl)))
-
-pub returns-clause-in_its_version : goal.returns-clause-in_its_version
-returns-clause-in_its_version c = λ line below is. is
-
-pub returns-clause-not_full : goal.returns-clause-not_full
-returns-clause-not_full c = λ is. omega (arith, is.1)
 
 pub returns-clause-full_is_reported : goal.returns-clause-full_is_reported
 returns-clause-full_is_reported c = λ is. omega (arith, (is (neither (codes "3 clone eth") refl refl)).1)

@@ -1,4 +1,4 @@
-use Rattle.smx_live.proofs.ExplainedLineLemmas.{no_request}
+use Rattle.smx_live.proofs.AskedLineLemmas.{no_request}
 use Rattle.smx_live.proofs.laws_of_live.an_unknown_line_is_explained.Goals as goal
 
 pub returns : goal.returns

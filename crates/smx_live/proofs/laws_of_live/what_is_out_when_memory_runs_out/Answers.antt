@@ -3,9 +3,6 @@ use Rattle.std.specs.Prelude.{codes}
 use Rattle.smx_live.proofs.BrokenLiveLemmas.{answers_out, not_out, opening_out}
 use Rattle.smx_live.proofs.laws_of_live.what_is_out_when_memory_runs_out.Goals as goal
 
-pub returns-clause-nothing : goal.returns-clause-nothing
-returns-clause-nothing c = λ explain. inl refl
-
 pub returns-clause-opening : goal.returns-clause-opening
 returns-clause-opening c = opening_out c.a_worked_session.ensures.starts
 

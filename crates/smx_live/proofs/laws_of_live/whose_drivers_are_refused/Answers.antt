@@ -14,8 +14,8 @@ use Rattle.smx_text.specs.Grammar.{Spells}
 use Rattle.smx_text.specs.ProgramsText.{programs_grammar}
 use Rattle.smx_live.specs.Tables.{table_text}
 use Rattle.smx_live.specs.WorkedLives.{minorless_text, worked_table}
-use Rattle.smx_live.proofs.RefusedDriverLemmas.{minorless, of_one, worked}
 use Rattle.smx_live.proofs.TableFaultLemmas.{drivers_of}
+use Rattle.smx_live.proofs.WorkedLiveLemmas.{minorless, of_one, worked}
 use Rattle.smx_live.proofs.laws_of_live.whose_drivers_are_refused.Goals as goal
 
 pub returns-clause-refused : goal.returns-clause-refused

@@ -9,32 +9,14 @@ use Rattle.smx_live.proofs.laws_of_live.why_lines_are_refused.Goals as goal
 pub returns-clause-full : goal.returns-clause-full
 returns-clause-full c = (neither (codes "x") refl refl, search arith)
 
-pub returns-clause-not_yet_full : goal.returns-clause-not_yet_full
-returns-clause-not_yet_full c = λ is. omega (arith, is.1)
-
-pub returns-clause-full_is_reported : goal.returns-clause-full_is_reported
-returns-clause-full_is_reported c = λ is. omega (arith, is.2)
-
-pub returns-clause-shown_when_full : goal.returns-clause-shown_when_full
-returns-clause-shown_when_full c = λ is. is.0.0 (inr (inl refl))
-
-pub returns-clause-ended_when_full : goal.returns-clause-ended_when_full
-returns-clause-ended_when_full c = λ is. is.0.1 refl
-
 pub returns-clause-no_command : goal.returns-clause-no_command
 returns-clause-no_command c = (neither (codes "x") refl refl, no_call_line V2 (codes "x") refl, search arith)
 
 pub returns-clause-no_memory : goal.returns-clause-no_memory
 returns-clause-no_memory c = λ asks. (((3, OpenClone eth), cloned.in_version, cloned.is_read), search arith)
 
-pub returns-clause-no_memory_up_to_the_last : goal.returns-clause-no_memory_up_to_the_last
-returns-clause-no_memory_up_to_the_last c = λ asks. (c.which_lines_are_calls.ensures.dup, search arith)
-
 pub returns-clause-no_memory_when_full : goal.returns-clause-no_memory_when_full
 returns-clause-no_memory_when_full c = λ is. omega (arith, (is (neither (codes "63 dup 0") refl refl)).1)
-
-pub returns-clause-no_memory_to_show : goal.returns-clause-no_memory_to_show
-returns-clause-no_memory_to_show c = λ asks. absurd (asks.0 (inr (inl refl)))
 
 pub returns-clause-no_memory_for_no_command : goal.returns-clause-no_memory_for_no_command
 returns-clause-no_memory_for_no_command c = λ is.
@@ -50,7 +32,3 @@ returns-clause-no_command_of_version_1 c = (
 pub returns-clause-none_of_version_1 : goal.returns-clause-none_of_version_1
 returns-clause-none_of_version_1 c = λ is.
     c.which_lines_are_calls.ensures.not_of_a_hangup (is (neither (codes "0 hangup ip 0") refl refl)).0
-
-pub returns-clause-a_command_of_version_2 : goal.returns-clause-a_command_of_version_2
-returns-clause-a_command_of_version_2 c = λ is.
-    let call = c.which_lines_are_calls.ensures.hangup in is.1 call.0 call.1 call.2

@@ -1,7 +1,6 @@
 use Rattle.std.proofs.Common.{◌≡◌, ◌+◌, ◌++◌, ◌∙◌, ◌^◌, ◌≤◌, arith, refl, sym}
 use Rattle.smx_live.proofs.LiveLemmas.{held_of_read}
-use Rattle.smx_live.proofs.LiveOutcomeLemmas.{at_the_end, failed, no_count, no_line, over}
-use Rattle.smx_live.proofs.LiveStageLemmas.{begins, reads, turns}
+use Rattle.smx_live.proofs.LiveStageLemmas.{at_the_end, begins, failed, no_count, no_line, over, reads, turns}
 use Rattle.smx_live.proofs.live.converse.Goals as goal
 
 pub loop-turn-init : goal.loop-turn-init
@@ -72,4 +71,4 @@ pub returns : goal.returns
 returns g c =
     let inv = c.loop-turn.invariant in
     let many : 2 ^ 64 ≤ c.loop-turn._turn + 1 = omega (arith, c.loop-turn-test.false) in λ read output l.
-    rw inv.end (no_count (inv.gone read output l) inv.sunk (held_of_read l) inv.fed many)
+    rw inv.end (no_count (inv.gone read output l) {flushed = g.S.Sink.flushed c.loop-turn.sink} inv.sunk (held_of_read l) inv.fed many)

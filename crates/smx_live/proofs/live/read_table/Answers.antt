@@ -1,4 +1,4 @@
-use Rattle.std.proofs.Common.{◌≡◌, ◌⊎◌, ◌+◌, ◌++◌, ◌∙◌, ℕ, true, List, [], ◌∷◌, ap, arith, drop, inl, inr, length, refl}
+use Rattle.std.proofs.Common.{◌≡◌, ◌⊎◌, ◌+◌, ◌++◌, ◌∙◌, ℕ, true, List, [], ◌∷◌, ap, arith, inl, inr, length, refl}
 use Rattle.std.proofs.Common.{sym, take}
 use Rattle.std.proofs.KnownBytes.{Consumes-nil, Consumes-trans}
 use Rattle.std.proofs.lemmas.List.{append-nil}
@@ -83,9 +83,10 @@ pub returns-then-is_err : goal.returns-then-is_err
 returns-then-is_err g c =
     let (read, consumed, parts) = c.lines.invariant.so_far in
     let (piece, p) = c.in-Ok-Some.ensures in
-    let came = rw c.in-Ok-Some.field-0-is at p.came in
-    (read ++ piece,
-    record { consumed = Consumes-trans _ _ _ read piece consumed p.consumed; came = (came.fine, refl) })
+    let came = rw c.in-Ok-Some.field-0-is at p.came in (
+      read ++ piece,
+      record { consumed = Consumes-trans _ _ _ read piece consumed p.consumed; came = (came.fine, refl) },
+    )
 
 pub lines-preserved : goal.lines-preserved
 lines-preserved g c =

@@ -1,14 +1,8 @@
-use Rattle.std.proofs.Common.{◌≡◌, ◌++◌, ◌∙◌, ℕ, List, [], true, false, ap, append_assoc, arith, inl, inr, refl, sym}
+use Rattle.std.proofs.Common.{◌≡◌, ◌++◌, ◌∙◌, ℕ, List, [], true, ap, append_assoc, arith, inl, inr, sym}
 use Rattle.std.proofs.KnownBytes.{Consumes-trans}
 use Rattle.std.proofs.lemmas.List.{append-nil}
 use Rattle.smx_live.proofs.InboxLemmas.{fails_as, held_too_long, line_found, none_before}
 use Rattle.smx_live.proofs.inbox.Inbox.next_line.Goals as goal
-
-pub line_from-requires-clause-within : goal.line_from-requires-clause-within
-line_from-requires-clause-within g c = rw c.deref.ensures.value c.reads.invariant.seen
-
-pub line_from-requires-clause-none : goal.line_from-requires-clause-none
-line_from-requires-clause-none g c = rw c.deref.ensures.value c.reads.invariant.none
 
 pub returns-in-Some : goal.returns-in-Some
 returns-in-Some g c =

@@ -1,4 +1,4 @@
-use Rattle.std.proofs.Common.{◌≡◌, ◌+◌, ◌++◌, ap, arith, ◌∙◌}
+use Rattle.std.proofs.Common.{◌≡◌, ap, arith, ◌∙◌}
 use Rattle.smx_live.proofs.TalkLemmas.{changes_are}
 use Rattle.smx_live.proofs.talk.Talk.perform.Goals as goal
 
