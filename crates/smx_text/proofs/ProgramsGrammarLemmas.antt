@@ -17,7 +17,7 @@ use Rattle.smx_text.proofs.HasReadingLemmas.{HasReading, by_reading}
 use Rattle.smx_text.proofs.MachineLemmas.{IsLineOrNot, well_made as made_by, reads}
 use Rattle.smx_text.proofs.ProgramsMachineLemmas.{reader}
 use Rattle.smx_words.proofs.DecidedCommandLemmas.{command_has_words}
-use Rattle.smx_words.proofs.DecidedLemmas.{reading}
+use Rattle.smx_words.proofs.DecidedLemmas.{one, reading}
 use Rattle.smx_words.proofs.DecidedLineLemmas.{driver_has_words, process_has_words}
 use Rattle.smx_words.proofs.InVersionLemmas.{reading_in}
 use Rattle.smx_words.proofs.PlainLemmas.{some_command}
@@ -47,11 +47,11 @@ command_first c = (refl, refl, refl)
 words_apart : (version : Version) (k l : Line) → FitsLine version k → FitsLine version l → line_words k ≡ line_words l
     → k ≡ l
 words_apart version (line.Driver d) (line.Driver e) fits also ws =
-    ap line.Driver (driver_has_words.one d e fits also ws)
+    ap line.Driver (one driver_has_words d e fits also ws)
 words_apart version (line.Process n) (line.Process m) fits also ws =
-    ap line.Process (process_has_words.one n m fits also ws)
+    ap line.Process (one process_has_words n m fits also ws)
 words_apart version (line.Command c) (line.Command d) fits also ws =
-    ap line.Command (command_has_words.one c d fits.0 also.0 ws)
+    ap line.Command (one command_has_words c d fits.0 also.0 ws)
 words_apart version line.End line.End fits also ws = refl
 words_apart version (line.Command c) (line.Driver d) fits also ws = absurd (other_first _ _ (command_first c).0 ws)
 words_apart version (line.Command c) (line.Process n) fits also ws = absurd (other_first _ _ (command_first c).1 ws)

@@ -38,7 +38,7 @@ use Rattle.smx_text.proofs.VersionLemmas.{AreVersions}
 use Rattle.smx_text.proofs.LineWordLemmas.{config_spelled, differ, end_spelled, first_word, other_first}
 use Rattle.smx_words.proofs.NumberLemmas.{own}
 use Rattle.smx_words.proofs.DecidedCommandLemmas.{entry_has_words}
-use Rattle.smx_words.proofs.DecidedLemmas.{reading, same_or_not}
+use Rattle.smx_words.proofs.DecidedLemmas.{one, reading, same_or_not}
 use Rattle.smx_words.proofs.DecidedLineLemmas.{bind_has_words, descriptor_has_words, driver_has_words, full_has_words}
 use Rattle.smx_words.proofs.DecidedLineLemmas.{hung_has_words, link_has_words, message_has_words, next_has_words}
 use Rattle.smx_words.proofs.DecidedLineLemmas.{route_has_words}
@@ -73,19 +73,19 @@ not_entry e fits ws is h =
 words_apart : (version : Version) (k l : TranscriptLine) → FitsLine version k → FitsLine version l
     → line_words k ≡ line_words l → k ≡ l
 words_apart version (line.Driver d) (line.Driver e) fits also ws =
-    ap line.Driver (driver_has_words.one d e fits also ws)
+    ap line.Driver (one driver_has_words d e fits also ws)
 words_apart version (line.Entry d) (line.Entry e) fits also ws =
-    ap line.Entry (entry_has_words.one d e fits.0 also.0 ws)
+    ap line.Entry (one entry_has_words d e fits.0 also.0 ws)
 words_apart version line.Config line.Config fits also ws = refl
 words_apart version (line.Next id serial) (line.Next jd terial) fits also ws =
-    ap (λ (p : ℕ × ℕ). line.Next p.0 p.1) (next_has_words.one (id, serial) (jd, terial) fits also ws)
-words_apart version (line.Fd d) (line.Fd e) fits also ws = ap line.Fd (descriptor_has_words.one d e fits also ws)
-words_apart version (line.Link d) (line.Link e) fits also ws = ap line.Link (link_has_words.one d e fits also ws)
-words_apart version (line.Bind d) (line.Bind e) fits also ws = ap line.Bind (bind_has_words.one d e fits also ws)
-words_apart version (line.Route d) (line.Route e) fits also ws = ap line.Route (route_has_words.one d e fits also ws)
-words_apart version (line.Msg d) (line.Msg e) fits also ws = ap line.Msg (message_has_words.one d e fits also ws)
-words_apart version (line.Full d) (line.Full e) fits also ws = ap line.Full (full_has_words.one d e fits also ws)
-words_apart version (line.Hung d) (line.Hung e) fits also ws = ap line.Hung (hung_has_words.one d e fits.0 also.0 ws)
+    ap (λ (p : ℕ × ℕ). line.Next p.0 p.1) (one next_has_words (id, serial) (jd, terial) fits also ws)
+words_apart version (line.Fd d) (line.Fd e) fits also ws = ap line.Fd (one descriptor_has_words d e fits also ws)
+words_apart version (line.Link d) (line.Link e) fits also ws = ap line.Link (one link_has_words d e fits also ws)
+words_apart version (line.Bind d) (line.Bind e) fits also ws = ap line.Bind (one bind_has_words d e fits also ws)
+words_apart version (line.Route d) (line.Route e) fits also ws = ap line.Route (one route_has_words d e fits also ws)
+words_apart version (line.Msg d) (line.Msg e) fits also ws = ap line.Msg (one message_has_words d e fits also ws)
+words_apart version (line.Full d) (line.Full e) fits also ws = ap line.Full (one full_has_words d e fits also ws)
+words_apart version (line.Hung d) (line.Hung e) fits also ws = ap line.Hung (one hung_has_words d e fits.0 also.0 ws)
 words_apart version line.End line.End fits also ws = refl
 words_apart version (line.Entry e) l fits also ws = absurd (not_entry e fits.0 _ ws refl)
 words_apart version k (line.Entry e) fits also ws = absurd (not_entry e also.0 _ (sym ws) refl)

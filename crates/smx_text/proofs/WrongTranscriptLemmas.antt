@@ -1,19 +1,13 @@
 -- Transcripts with a misplaced line, a line that spells nothing, or a missing line.
-use Rattle.std.proofs.Common.{false, ◌≤◌, ◌≡◌, ◌≢◌, ℕ, ◌<◌, List, [], ◌∷◌, ◌++◌, length, map, refl}
-use Rattle.std.proofs.Common.{ap, ◌∙◌, arith, rules}
+use Rattle.std.proofs.Common.{◌≤◌, ◌≡◌, ◌≢◌, ℕ, ◌<◌, List, [], ◌∷◌, length, map, refl}
+use Rattle.std.proofs.Common.{ap, arith, rules}
 use Rattle.std.specs.List.{AllByRecursion}
-use Rattle.std.specs.Fmt.{decimal, digits}
+use Rattle.std.specs.Fmt.{digits}
 use Rattle.std.specs.Prelude.{codes}
-use Rattle.std.specs.Str.{bytes_eq}
-use Rattle.std.specs.Str.Parse.{digits_value}
-use Rattle.std.proofs.lemmas.Fmt.{digits_value-decimal}
-use Rattle.smx_types.specs.declared.command.Command.{Command}
 use Rattle.smx_types.specs.declared.command.Command.TheVariants as command
 use Rattle.smx_types.specs.declared.command.Entry.{Entry as AnyEntry}
 use Rattle.smx_types.specs.declared.link.LinkKind.TheVariants as link
-use Rattle.smx_types.specs.declared.reply.Fault.{Fault}
 use Rattle.smx_types.specs.declared.reply.Fault.TheVariants as fault
-use Rattle.smx_types.specs.declared.reply.Reply.{Reply}
 use Rattle.smx_types.specs.declared.reply.Reply.TheVariants as reply
 use Rattle.smx_types.specs.declared.stream.Side.TheVariants as side
 use Rattle.smx_types.specs.declared.transcript.Transcript.{Transcript}
@@ -21,9 +15,11 @@ use Rattle.smx_types.specs.Versions.{most_drivers}
 use Rattle.smx_types.specs.declared.version.Version.{Version}
 use Rattle.smx_types.specs.declared.version.Version.TheVariants.{V1, V2}
 use Rattle.smx_words.specs.Spellable.{FitsDriver, FitsEntry}
-use Rattle.smx_words.specs.Spelling.{command_words, fault_words, reply_words}
+use Rattle.smx_words.specs.Spelling.{entry_words}
 use Rattle.smx_words.specs.Words.{IsFree, SPACE, line_of}
-use Rattle.smx_words.proofs.NumberLemmas.{own}
+use Rattle.smx_words.proofs.DecidedCommandLemmas.{command_has_words, entry_has_words, reply_has_words}
+use Rattle.smx_words.proofs.DecidedLemmas.{by_line, refused}
+use Rattle.smx_words.proofs.DecidedWordLemmas.{name, number, process}
 use Rattle.smx_text.specs.declared.text_fault.Cause.TheVariants as cause
 use Rattle.smx_text.specs.declared.transcript.draft.Stage.TheVariants as stage
 use Rattle.smx_text.specs.declared.transcript.draft.TranscriptDraft.{TranscriptDraft}
@@ -40,7 +36,7 @@ use Rattle.smx_text.proofs.TranscriptGrammarLemmas.{versions}
 use Rattle.smx_text.proofs.TranscriptMachineLemmas.{reader, stands}
 use Rattle.smx_text.proofs.WorkedFaultLemmas.{cut_text, later_line, misplaced_line, one_too_many, wrong_first}
 use Rattle.smx_text.proofs.WorkedFaultLemmas.{wrong_words}
-use Rattle.smx_text.proofs.LineWordLemmas.{differ, other_first}
+use Rattle.smx_text.proofs.LineWordLemmas.{other_first}
 use Rattle.smx_text.proofs.WrongCommandLemmas.{ip}
 use Rattle.smx_text.proofs.WrongProgramLemmas.{all_same, ip_fits, repeated}
 
@@ -204,47 +200,31 @@ driver_129_of_a_transcript =
 
 -- ---- lines that spell nothing of their kind
 
--- the process of an entry is not 64
-process_wrong : (e : AnyEntry) → FitsEntry e → codes "64" ≢ decimal e.process
-process_wrong e fits is =
-    let value : 64 ≡ e.process = ap (digits_value 10) is
-    ∙ digits_value-decimal own e.process (omega (arith, fits.process)) in
-    omega (arith, value, fits.process)
-
 -- the processes of entries go up to 63
 pub process_64 : IsWrongTranscript (with_line_3 (codes "64 clone ip = fd 0 0")) 3 cause.Form
-process_64 = wrong_at_3 (codes "64" ∷ codes "clone" ∷ codes "ip" ∷ codes "=" ∷ codes "fd" ∷ codes "0" ∷ codes "0" ∷ [])
-    (search rules, omega arith, search rules) none where
-      none : (k : TranscriptLine) → FitsLine V1 k
+unfolding digits entry_has_words command_has_words reply_has_words process number name
+process_64 =
+    wrong_at_3 (codes "64" ∷ codes "clone" ∷ codes "ip" ∷ codes "=" ∷ codes "fd" ∷ codes "0" ∷ codes "0" ∷ [])
+    (search rules, omega arith, search rules)
+    (none (refused (by_line entry_has_words (λ x. omega arith)) (codes "64 clone ip = fd 0 0") refl)) where
+      none : ((e : AnyEntry) → FitsEntry e → codes "64 clone ip = fd 0 0" ≢ line_of (entry_words e))
+          → (k : TranscriptLine) → FitsLine V1 k
           → codes "64" ∷ codes "clone" ∷ codes "ip" ∷ codes "=" ∷ codes "fd" ∷ codes "0" ∷ codes "0" ∷ [] ≢ line_words k
-      none (line.Entry e) fits is = process_wrong e fits.0 (cc is)
-      none k fits is = other_first _ _ refl is
-
--- the words of no fault are `EINVAL` alone
-no_fault : (f : Fault) → bytes_eq (codes "EINVAL") (line_of (fault_words f)) ≡ false
-no_fault fault.NoMinor = refl
-no_fault f = refl
-
--- `EINVAL` alone is not the words of a reply
-no_reply : (r : Reply) → codes "EINVAL" ∷ [] ≢ reply_words r
-no_reply (reply.Fault f) e = differ (codes "EINVAL") (line_of (fault_words f)) (no_fault f) (ap line_of e)
-no_reply r e = other_first _ _ refl e
-
--- no command with its reply has the words `clone ip = EINVAL`
-half_reply : (c : Command) (r : Reply)
-    → codes "clone" ∷ codes "ip" ∷ codes "=" ∷ codes "EINVAL" ∷ [] ≢ command_words c ++ codes "=" ∷ reply_words r
-half_reply (command.OpenClone d) r e = no_reply r (cc e)
-half_reply c r e = other_first _ _ refl e
+      none wrong (line.Entry e) fits is = wrong e fits.0 (ap line_of is)
+      none wrong k fits is = other_first _ _ refl is
 
 -- `EINVAL` alone is not a reply: a second word names its cause
 pub half_a_fault : IsWrongTranscript (with_line_3 (codes "0 clone ip = EINVAL")) 3 cause.Form
+unfolding digits entry_has_words command_has_words reply_has_words process number name
 half_a_fault =
     wrong_at_3 (codes "0" ∷ codes "clone" ∷ codes "ip" ∷ codes "=" ∷ codes "EINVAL" ∷ [])
-    (search rules, omega arith, search rules) none where
-      none : (k : TranscriptLine) → FitsLine V1 k
+    (search rules, omega arith, search rules)
+    (none (refused (by_line entry_has_words (λ x. omega arith)) (codes "0 clone ip = EINVAL") refl)) where
+      none : ((e : AnyEntry) → FitsEntry e → codes "0 clone ip = EINVAL" ≢ line_of (entry_words e))
+          → (k : TranscriptLine) → FitsLine V1 k
           → codes "0" ∷ codes "clone" ∷ codes "ip" ∷ codes "=" ∷ codes "EINVAL" ∷ [] ≢ line_words k
-      none (line.Entry e) fits is = half_reply e.command e.reply (cc is)
-      none k fits is = other_first _ _ refl is
+      none wrong (line.Entry e) fits is = wrong e fits.0 (ap line_of is)
+      none wrong k fits is = other_first _ _ refl is
 
 -- ---- lines of version 2 only
 

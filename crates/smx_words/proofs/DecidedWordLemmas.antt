@@ -133,7 +133,7 @@ stream_side = few (side.Write ∷ []) side.Read found where
   found s = search rules
 
 -- each choice of sides of a flush has a word of its own
-pub flush_sides : HasWord FitsAlways sides_word
+unfoldable pub flush_sides : HasWord FitsAlways sides_word
 flush_sides = few (sides.R ∷ sides.W ∷ []) sides.RW found where
   found : (s : Sides) → IsFound sides_word (sides.R ∷ sides.W ∷ []) sides.RW s
   found sides.R = search rules

@@ -1,25 +1,27 @@
-use Rattle.std.proofs.Common.{rules, arith, [], ◌∷◌}
+use Rattle.std.proofs.Common.{rules, arith, refl, [], ◌∷◌}
+use Rattle.std.specs.Fmt.{digits}
 use Rattle.std.specs.Prelude.{codes}
-use Rattle.smx_text.proofs.WrongCommandLemmas.{two_zeros, a_sign, two_spaces, a_last_space, large_number}
-use Rattle.smx_text.proofs.WrongCommandLemmas.{digit_first, nine_letters, missing_word, capitals, sides_turned}
-use Rattle.smx_text.proofs.WrongCommandLemmas.{capital_digits, odd_digits, missing_bytes, no_word, wrong_at_4}
+use Rattle.hex.specs.Hex.{decode_pairs, encode_with}
+use Rattle.smx_words.proofs.DecidedCommandLemmas.{command_has_words}
+use Rattle.smx_words.proofs.DecidedWordLemmas.{bytes, flush_sides, id_or_all, name, number}
+use Rattle.smx_text.proofs.WrongCommandLemmas.{misspelled}
 use Rattle.smx_text.proofs.worked_texts.wrong_commands.Goals as goal
 
 pub returns : goal.returns
+unfolding digits command_has_words number name bytes id_or_all decode_pairs encode_with flush_sides
 returns c = record {
-  two_zeros = wrong_at_4 (codes "dup" ∷ codes "00" ∷ []) (search (rules, arith)) two_zeros;
-  a_sign = wrong_at_4 (codes "dup" ∷ codes "+1" ∷ []) (search (rules, arith)) a_sign;
-  two_spaces = wrong_at_4 (codes "close" ∷ [] ∷ codes "0" ∷ []) (search (rules, arith)) two_spaces;
-  a_last_space = wrong_at_4 (codes "close" ∷ codes "0" ∷ [] ∷ []) (search (rules, arith)) a_last_space;
-  large_number = wrong_at_4 (codes "open" ∷ codes "ip" ∷ codes "4294967296" ∷ []) (search (rules, arith)) large_number;
-  digit_first = wrong_at_4 (codes "open" ∷ codes "9a" ∷ codes "0" ∷ []) (search (rules, arith)) digit_first;
-  nine_letters = wrong_at_4 (codes "clone" ∷ codes "ninelette" ∷ []) (search (rules, arith)) nine_letters;
-  missing_word = wrong_at_4 (codes "link" ∷ codes "0" ∷ []) (search (rules, arith)) missing_word;
-  capitals = wrong_at_4 (codes "unlink" ∷ codes "0" ∷ codes "ALL" ∷ []) (search (rules, arith)) capitals;
-  sides_turned = wrong_at_4 (codes "flush" ∷ codes "0" ∷ codes "wr" ∷ []) (search (rules, arith)) sides_turned;
-  capital_digits = wrong_at_4 (codes "write" ∷ codes "0" ∷ codes "5" ∷ codes "AA" ∷ []) (search (rules, arith))
-      capital_digits;
-  odd_digits = wrong_at_4 (codes "write" ∷ codes "0" ∷ codes "5" ∷ codes "aab" ∷ []) (search (rules, arith)) odd_digits;
-  missing_bytes = wrong_at_4 (codes "write" ∷ codes "0" ∷ codes "5" ∷ []) (search (rules, arith)) missing_bytes;
-  no_word = wrong_at_4 ([] ∷ []) (search (rules, arith)) no_word;
+  two_zeros = misspelled (codes "dup" ∷ codes "00" ∷ []) (search (rules, arith)) refl (refl, refl, refl);
+  a_sign = misspelled (codes "dup" ∷ codes "+1" ∷ []) (search (rules, arith)) refl (refl, refl, refl);
+  two_spaces = misspelled (codes "close" ∷ [] ∷ codes "0" ∷ []) (search (rules, arith)) refl (refl, refl, refl);
+  a_last_space = misspelled (codes "close" ∷ codes "0" ∷ [] ∷ []) (search (rules, arith)) refl (refl, refl, refl);
+  large_number = misspelled (codes "open" ∷ codes "ip" ∷ codes "4294967296" ∷ []) (search (rules, arith)) refl (refl, refl, refl);
+  digit_first = misspelled (codes "open" ∷ codes "9a" ∷ codes "0" ∷ []) (search (rules, arith)) refl (refl, refl, refl);
+  nine_letters = misspelled (codes "clone" ∷ codes "ninelette" ∷ []) (search (rules, arith)) refl (refl, refl, refl);
+  missing_word = misspelled (codes "link" ∷ codes "0" ∷ []) (search (rules, arith)) refl (refl, refl, refl);
+  capitals = misspelled (codes "unlink" ∷ codes "0" ∷ codes "ALL" ∷ []) (search (rules, arith)) refl (refl, refl, refl);
+  sides_turned = misspelled (codes "flush" ∷ codes "0" ∷ codes "wr" ∷ []) (search (rules, arith)) refl (refl, refl, refl);
+  capital_digits = misspelled (codes "write" ∷ codes "0" ∷ codes "5" ∷ codes "AA" ∷ []) (search (rules, arith)) refl (refl, refl, refl);
+  odd_digits = misspelled (codes "write" ∷ codes "0" ∷ codes "5" ∷ codes "aab" ∷ []) (search (rules, arith)) refl (refl, refl, refl);
+  missing_bytes = misspelled (codes "write" ∷ codes "0" ∷ codes "5" ∷ []) (search (rules, arith)) refl (refl, refl, refl);
+  no_word = misspelled ([] ∷ []) (search (rules, arith)) refl (refl, refl, refl);
 }
