@@ -10,7 +10,7 @@ use Rattle.smx_text.specs.Grammar.{IsOneLine}
 use Rattle.smx_text.proofs.EachLemmas.{all_append}
 use lib.Seq.{drop-drop, take-add}
 use Rattle.smx_filters.specs.declared.main_fault.MainFault.{MainFault}
-use Rattle.smx_filters.specs.declared.main_fault.MainFault.TheVariants.{Refused, Text, TooLong, ReadFailed, WriteFailed}
+use Rattle.smx_filters.specs.declared.main_fault.MainFault.TheVariants.{Refused, TooLong, ReadFailed}
 use Rattle.smx_live.specs.Inboxes.{FailsToRead, HasLine, IsFound, IsTooLong, MayBeTaken}
 use Rattle.smx_filters.specs.declared.input.TheConstants.{MAX_INPUT}
 
@@ -123,18 +123,16 @@ with_line_feed n held line =
     ap (take (n + 1)) line.parts ∙ ap (λ (k : ℕ). take (k + 1) (line_is ++ LINE_FEED ∷ drop (n + 1) held)) (sym size)
     ∙ take-append-add line_is (LINE_FEED ∷ drop (n + 1) held) 1
 
--- moving a line from the held bytes to the table keeps all bytes in order
+-- a read that moves no line keeps all bytes in order
+pub unmoved : (start read piece table held longer : List ℕ) → start ++ read ≡ table ++ held → longer ≡ held ++ piece
+    → start ++ (read ++ piece) ≡ table ++ longer
+unmoved start read piece table held longer was is =
+    rw (is, ← append_assoc start read piece, was) (append_assoc table held piece)
+
+-- so does moving a line from the held bytes to the table
 pub moved : (start read piece table held longer : List ℕ) (k : ℕ) → start ++ read ≡ table ++ held
     → longer ≡ held ++ piece
     → start ++ (read ++ piece) ≡ (table ++ take k longer) ++ drop k longer
 moved start read piece table held longer k was is =
-    sym (append_assoc start read piece) ∙ ap (λ (bs : List ℕ). bs ++ piece) was ∙ append_assoc table held piece
-    ∙ ap (λ (bs : List ℕ). table ++ bs) (sym is ∙ sym (take-append-drop k longer))
-    ∙ sym (append_assoc table (take k longer) (drop k longer))
-
--- so does a read that moves no line
-pub unmoved : (start read piece table held longer : List ℕ) → start ++ read ≡ table ++ held → longer ≡ held ++ piece
-    → start ++ (read ++ piece) ≡ table ++ longer
-unmoved start read piece table held longer was is =
-    sym (append_assoc start read piece) ∙ ap (λ (bs : List ℕ). bs ++ piece) was ∙ append_assoc table held piece
-    ∙ ap (λ (bs : List ℕ). table ++ bs) (sym is)
+    rw (append_assoc table (take k longer) (drop k longer), take-append-drop k longer)
+    (unmoved start read piece table held longer was is)

@@ -11,7 +11,7 @@ use Rattle.smx_run.specs.declared.run_fault.RunFault.TheVariants.{NoMemory}
 use Rattle.smx_session.specs.Sessions.{State}
 use Rattle.smx_filters.specs.Output.{AppendsBeginning}
 use Rattle.smx_filters.specs.declared.main_fault.MainFault.{MainFault}
-use Rattle.smx_filters.specs.declared.main_fault.MainFault.TheVariants.{Refused, Text, TooLong, ReadFailed, WriteFailed}
+use Rattle.smx_filters.specs.declared.main_fault.MainFault.TheVariants.{Refused, TooLong, ReadFailed, WriteFailed}
 use Rattle.smx_live.specs.LiveStages.{Converses, Finishes, TurnsOn}
 use Rattle.smx_text.specs.Grammar.{IsOneLine}
 use Rattle.smx_live.specs.Inboxes.{FailsToRead, IsTooLong}

@@ -12,7 +12,7 @@ use Rattle.smx_model.specs.Views.{view}
 use Rattle.smx_text.specs.TranscriptText.{IsSpellableView}
 use Rattle.smx_session.specs.Sessions.{State}
 use Rattle.smx_filters.specs.declared.main_fault.MainFault.{MainFault}
-use Rattle.smx_filters.specs.declared.main_fault.MainFault.TheVariants.{Refused, Text, TooLong, ReadFailed, WriteFailed}
+use Rattle.smx_filters.specs.declared.main_fault.MainFault.TheVariants.{Refused, WriteFailed}
 use Rattle.smx_filters.specs.declared.input.TheConstants.{MAX_INPUT}
 use Rattle.smx_live.specs.Inboxes.{HasLine, IsShort}
 use Rattle.smx_live.specs.LiveStages.{Finishes, TurnsOn, Writes}

@@ -1,5 +1,5 @@
 -- Tables that have ended are neither unfinished nor too long, whatever follows them.
-use Rattle.std.proofs.Common.{◌≡◌, ◌≢◌, ℕ, ◌+◌, ◌<◌, ◌≤◌, Bool, true, false, List, [], ◌∷◌, ◌++◌, length, take, drop}
+use Rattle.std.proofs.Common.{◌≡◌, ◌≢◌, ℕ, ◌+◌, ◌<◌, ◌≤◌, Bool, true, List, [], ◌∷◌, ◌++◌, length, take, drop}
 use Rattle.std.proofs.Common.{refl, sym, ap, subst, ◌∙◌, append_assoc, take-append-drop, arith, inl, inr}
 use Rattle.std.proofs.lemmas.Bool.Decides.{Decides-eqb}
 use Rattle.std.proofs.lemmas.List.{append-nil, append_cancel_left, length-append, length-take-le}
@@ -107,14 +107,13 @@ cut_within ended ls cut rest own more over (inl none) e = omega (arith, ap (λ (
 cut_within ended ls cut rest own more (inl (n, none, has, small, some, other)) (inr driver) e =
     let (others, same) = within own more (take n rest) (drop (n + 1) rest) driver.1
     (sym e ∙ sym (all_behind cut rest none) ∙ has.parts) in
-    let wrong : false ≡ true = sym other ∙ begins_more (take n rest) own others same driver.2 in absurd (cc wrong)
+    absurd (cc (other, begins_more (take n rest) own others same driver.2))
 cut_within ended ls cut rest own more (inr (end, inl (is, none))) (inr driver) e =
     no_fewer cut own more (all_cut cut rest none ∙ e)
 cut_within ended ls cut rest own more (inr (end, inr (none, short, inl no_lines))) (inr driver) e =
     absurd (driver.0 no_lines)
 cut_within ended ls cut rest own more (inr (end, inr (none, short, inr other))) (inr driver) e =
-    let wrong : false ≡ true = sym other ∙ begins_more rest own more (all_behind cut rest none ∙ e) driver.2 in
-    absurd (cc wrong)
+    absurd (cc (other, begins_more rest own more (all_behind cut rest none ∙ e) driver.2))
 
 -- one line after the lines of a table that has ended is no longer than an input may be
 line_within : (ended : Bool) (ls : List (List ℕ)) (cut rest xs more : List ℕ) → IsOverAt ended ls cut rest

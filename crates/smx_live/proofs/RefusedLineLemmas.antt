@@ -1,12 +1,11 @@
 -- Why lines are refused, by worked examples.
-use Rattle.std.proofs.Common.{◌≢◌, ℕ, List, [], refl, sym, arith}
+use Rattle.std.proofs.Common.{[], refl, arith}
 use Rattle.std.proofs.Common.{inl, inr}
 use Rattle.std.specs.Prelude.{codes}
-use Rattle.smx_types.specs.declared.version.Version.{Version}
 use Rattle.smx_types.specs.declared.version.Version.TheVariants.{V1, V2}
 use Rattle.smx_model.specs.Histories.{call_of}
 use Rattle.smx_model.specs.Worked.Common.{Fd, OpenClone, ◌does◌gets◌, eth}
-use Rattle.smx_words.specs.LineReading.{IsCallLine, IsNoCallLine}
+use Rattle.smx_words.specs.LineReading.{IsCallLine}
 use Rattle.smx_session.specs.WorkedSessions.{drivers}
 use Rattle.smx_live.specs.Turns.{AsksForNeither, IsAnswer, IsRefusedFor, NotDone}
 use Rattle.smx_live.specs.declared.turn_fault.TurnFault.TheVariants.{NoCommand, NoMemory, Full}

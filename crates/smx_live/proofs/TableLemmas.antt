@@ -1,6 +1,6 @@
 -- Tables that grow by a line, and what is read after them.
 use Rattle.std.proofs.Common.{◌≡◌, ◌≢◌, ℕ, ◌+◌, ◌<◌, ◌≤◌, Bool, true, false, List, [], ◌∷◌, ◌++◌, length, take, refl}
-use Rattle.std.proofs.Common.{sym, ap, subst, ◌∙◌, append_assoc, arith, inl, inr}
+use Rattle.std.proofs.Common.{sym, ap, subst, ◌∙◌, arith, inl, inr}
 use Rattle.std.proofs.lemmas.List.{append-nil, flat_map_more, length-append, take-append-le}
 use Rattle.std.specs.List.{flat_map}
 use Rattle.std.specs.Global.{Global}
@@ -11,7 +11,7 @@ use Rattle.smx_text.specs.Grammar.{IsOneLine}
 use Rattle.smx_text.proofs.EachLemmas.{all_push}
 use Rattle.smx_filters.specs.declared.input.TheConstants.{MAX_INPUT}
 use Rattle.smx_filters.specs.declared.main_fault.MainFault.{MainFault}
-use Rattle.smx_filters.specs.declared.main_fault.MainFault.TheVariants.{Refused, Text, TooLong, ReadFailed, WriteFailed}
+use Rattle.smx_filters.specs.declared.main_fault.MainFault.TheVariants.{Refused, TooLong, ReadFailed}
 use Rattle.smx_live.specs.Inboxes.{FailsToRead, HasLine, IsShort, IsTooLong}
 use Rattle.smx_live.specs.LiveStages.{HasTable, TakesCutLine}
 use Rattle.smx_live.specs.Tables.{AreOfTable, BeginsAsTable, EndsBehind, IsCutDriver, IsEndlessTable, IsOverAt, IsTable}

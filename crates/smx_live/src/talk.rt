@@ -129,6 +129,24 @@ impl Talk {
             let version = self.session.version();
             return Ok(Some(fault_without_room(alloc, version, line)));
         };
+        self.perform_with_room(alloc, line, &before)
+    }
+
+    // Performs the command in `line` as `perform` does. `before` is the configuration before it, if entries are traced.
+    fn perform_with_room(
+        &mut self,
+        alloc: Global,
+        line: &[u8],
+        before: &Option<ConfigView>,
+    ) -> Result<Option<TurnFault>, NoMemory>
+        requires asked { AsksForNeither line.now }
+        requires empty { self.old.text.items ≡ [] }
+        requires room { self.old.progress.entries < MAX_COMMANDS }
+        requires traced { IsTracedView self.old.progress.tracing self.old.session before.now }
+        ensures answered { IfOk result (λ o. IsPerformed self.old.session self.old.progress line.now o
+            self.new.session self.new.progress self.new.text.items) }
+        ensures performed { OnErr result (Performs self.old.session line.now self.new.session) }
+    {
         match self.session.perform(alloc, line) {
             Ok(()) => {
                 self.tell()?;
@@ -168,19 +186,19 @@ impl Talk {
     }
 
     // If entries are traced, appends the changes since `before`, the configuration before the entry, to the text.
-    fn tell_changes(&mut self, alloc: Global, before: Option<ConfigView>) -> Result<(), NoMemory>
-        requires { IfSome before (IsViewOfKept self.old.session.drivers) }
+    fn tell_changes(&mut self, alloc: Global, before: &Option<ConfigView>) -> Result<(), NoMemory>
+        requires { IfSome before.now (IsViewOfKept self.old.session.drivers) }
         ensures session { self.new.session ≡ self.old.session }
         ensures progress { self.new.progress ≡ self.old.progress }
         ensures text { OnOk result (self.new.text.items ≡ self.old.text.items
-            ++ changes_since before self.old.session) }
+            ++ changes_since before.now self.old.session) }
     {
         let Some(before) = before else {
             return Ok(());
         };
         let after = self.session.show()?;
         let drivers = self.session.drivers();
-        write_changes(alloc, &mut self.text, drivers, &before, &after)
+        write_changes(alloc, &mut self.text, drivers, before, &after)
     }
 }
 
