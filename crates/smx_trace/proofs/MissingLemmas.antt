@@ -177,7 +177,12 @@ module _ {X : Type 0} (rank : X → ℕ × ℕ) where
         let more_taken : take (i + 1) lines ≡ take i lines ++ x ∷ [] =
         take_more lines i x lt ∙ ap (λ z. take i lines ++ z ∷ []) (sym is) in (
           s.0,
-          rw (more_taken, filter-append Kept (take i lines) (x ∷ []),
-              flat_map-append text (filter Kept (take i lines)) (filter Kept (x ∷ [])), s.1, written)
+          rw (
+            more_taken,
+            filter-append Kept (take i lines) (x ∷ []),
+            flat_map-append text (filter Kept (take i lines)) (filter Kept (x ∷ [])),
+            s.1,
+            written,
+          )
               (append_assoc start _ _),
         )

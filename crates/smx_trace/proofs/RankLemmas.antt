@@ -15,7 +15,6 @@ use Rattle.smx_types.specs.declared.reply.Fault.TheVariants.{NoDriver}
 use Rattle.smx_types.specs.declared.stream.Place.{Place}
 use Rattle.smx_types.specs.declared.stream.Side.{Side}
 use Rattle.smx_types.specs.declared.stream.Side.TheVariants as side
-use Rattle.smx_types.specs.declared.stream.StreamId.{StreamId}
 use Rattle.smx_types.specs.declared.view.ConfigView.{ConfigView}
 use Rattle.smx_model.specs.Configuration.{Configuration, QueuedMessage, bind_before, fd_before, pair_before}
 use Rattle.smx_model.specs.Configuration.{place_before, route_before, side_number, stream_before}

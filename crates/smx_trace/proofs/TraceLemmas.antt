@@ -109,8 +109,12 @@ traced_more each drivers opening asked e m n text new h traced =
       same = here.drivers;
       now = here.performed ∙ sym (after_push drivers asked e);
       written =
-          rw (one, flat_map-append (trace_line_text drivers) Before (lines_of_entry each drivers c a), here.written,
-          h.written) (append_assoc opening (Text Before) _);
+          rw (
+            one,
+            flat_map-append (trace_line_text drivers) Before (lines_of_entry each drivers c a),
+            here.written,
+            h.written,
+          ) (append_assoc opening (Text Before) _);
     }
 
 -- ---- the configuration
