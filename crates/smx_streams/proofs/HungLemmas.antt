@@ -96,7 +96,7 @@ each_same u v s o h set x = grind (arith, flag_tells v.hungs x, same_is x s, fla
 -- if the numbers of one stream change but not its flag, the same streams have hung up
 pub hung_same : (u v : Uses) (s : StreamId) (o h : ℕ) → AreSet u s o h (flag_at u.hungs s) v
     → hungs_from 0 v.hungs ≡ hungs_from 0 u.hungs
-hung_same u v s o h set = search (rules, one_list, hungs_from, hungs_rise, each_same)
+hung_same u v s o h set = search (rules, one_list, hungs_rise, each_same)
 
 -- if a stream gets one more hold, the same streams have hung up
 pub hung_still : (u v : Uses) (s : StreamId) (o h : ℕ)

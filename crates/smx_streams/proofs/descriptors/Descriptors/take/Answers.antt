@@ -8,7 +8,8 @@ returns-in_err-stream-clause-stream c = grind (arith, stream_is_cell)
 
 pub returns-in_err-stream-clause-rest : goal.returns-in_err-stream-clause-rest
 returns-in_err-stream-clause-rest c =
-    cc (take_none c.self.inside.processes.items c.args.process c.args.fd (sym (rw c.deref.ensures.value at c.in_err-stream.ensures)))
+    cc (take_none c.self.inside.processes.items c.args.process c.args.fd
+    (sym (rw c.deref.ensures.value at c.in_err-stream.ensures)))
 
 pub returns-in_err-stream-clause-listed : goal.returns-in_err-stream-clause-listed
 returns-in_err-stream-clause-listed c = grind (arith, are_listed c.self.inside.processes.items c.self.invariant)

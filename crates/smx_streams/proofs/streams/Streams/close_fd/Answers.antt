@@ -54,11 +54,5 @@ returns-clause-went c = λ s was gone.
 pub returns-in_err-stream-clause-sound : goal.returns-in_err-stream-clause-sound
 returns-in_err-stream-clause-sound c = subst AreHungsSound c.self.view_is (are_sound c.self.inside c.self.invariant)
 
-pub returns-in_err-stream-clause-numbered : goal.returns-in_err-stream-clause-numbered
-returns-in_err-stream-clause-numbered c = grind arith
-
 pub returns-clause-sound : goal.returns-clause-sound
 returns-clause-sound c = subst AreHungsSound c.self.view_is (are_sound c.self.inside c.self.invariant)
-
-pub returns-clause-numbered : goal.returns-clause-numbered
-returns-clause-numbered c = grind arith

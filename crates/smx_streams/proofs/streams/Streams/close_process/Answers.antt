@@ -45,7 +45,8 @@ pub returns-clause-rest : goal.returns-clause-rest
 returns-clause-rest c =
     grind (
       arith,
-      closed_all c.args.process c.loop-fd.fd c.args.self.now.fds (omega arith) (c.loop-fd.invariant.numbered (omega arith)),
+      closed_all c.args.process c.loop-fd.fd c.args.self.now.fds (omega arith)
+          (c.loop-fd.invariant.numbered (omega arith)),
       c.loop-fd.invariant.numbered (omega arith),
       c.loop-fd.invariant.hungs (omega arith),
     )
