@@ -86,8 +86,8 @@ fn line_in(bytes: &[u8]) -> Option<usize>
     memchr(b'\n', bytes)
 }
 
-// Returns the number of bytes before the first line feed of `held`, if there is one. There is none in the first `seen`
-// bytes.
+// Returns the number of bytes before the first line feed of `held`, if there is one. The first `seen` bytes have no
+// line feed.
 fn line_from(held: &[u8], seen: usize) -> Option<usize>
     requires within { seen ≤ length held.now }
     requires none { IsOneLine (take seen held.now) }

@@ -1,3 +1,3 @@
--- What calls need of the numbers of places.
+-- The numbers of places, as calls need them.
 -- each number below the count of places is the number of a place
 pub use Rattle.smx_queues.proofs.PlaceLemmas.{numbered}

@@ -42,7 +42,7 @@ first_inserted : {X : Type 0} (before : X → X → Bool) (x : X) (xs : List X)
 first_inserted before x [] h = refl
 first_inserted before x (y ∷ xs) h = rw h.0 refl
 
--- the first element that passes a test stands after some that fail it
+-- the first element that passes a test follows some that fail it
 skip_without : {X : Type 0} (test : X → Bool) (xs : List X) (x : X) (rest : List X)
     → AllByRecursion (λ y. test y ≡ false) xs → test x ≡ true
     → without_first test (xs ++ x ∷ rest) ≡ xs ++ rest
@@ -72,7 +72,7 @@ items_from items (r ∷ places) [] i p x at below = absurd (omega arith)
 items_from items (r ∷ places) (old ∷ xs) zero p x at below = rw (same_Some r p at) refl
 items_from items (r ∷ places) (old ∷ xs) (suc i) p x at below = items_from items places xs i p x at (omega arith)
 
--- if each place has no item, there is none
+-- if no place has an item, there are no items
 pub no_items : {X Y : Type 0} (items : Place → X → List Y) (of : Place → X) (places : List Place)
     → ((p : Place) → items p (of p) ≡ []) → by_place items places (map of places) ≡ []
 no_items items of [] none = refl

@@ -60,7 +60,7 @@ module _ {V K : Type 0} (g : Grammar V K) where
   ended v [] = Ok v
   ended v (b ∷ after) = refused (length (g.body v) + 3) cause.Trailing
 
-  -- the results that a reader may return at the whole line `text` after these lines, with the bytes `after` behind it
+  -- the results that a reader may return at the whole line `text` after these lines, before the bytes `after`
   abbrev pub Answers : List K → List ℕ → List ℕ → Result V TextFault → Type 0
   Answers lines text after r =
       (IsNoLine g lines text × (r ≡ refused (length lines + 2) cause.Form))

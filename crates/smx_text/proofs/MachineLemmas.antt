@@ -1,4 +1,4 @@
--- A text is read by a machine that accepts one line after another. What follows from that holds for any kind of text.
+-- A text is read by a machine that accepts one line after another. The lemmas below hold for any kind of text.
 use Rattle.std.proofs.Common.{◌≡◌, ◌≢◌, ℕ, Bool, true, false, List, [], ◌∷◌, ◌++◌, refl, sym, ap, subst, ◌∙◌, map}
 use Rattle.std.proofs.Common.{append_assoc, inl, inr}
 use Rattle.std.specs.List.{AllByRecursion}
@@ -95,7 +95,7 @@ pub record IsReader {V K D : Type 0} (g : Grammar V K) (m : Machine V K D) : Typ
   pub allowed : (d : D) → m.IsWithin d → AllByRecursion g.FitsLine (m.lines d) → g.IsAllowed (m.shortest d)
   pub end_has_room : (d : D) → m.is_full d g.end ≡ false
 
--- A machine that reads the texts of this grammar comes by these lines to this draft.
+-- A machine that reads the texts of this grammar is at this draft after these lines.
 pub record IsAt {V K D : Type 0} (g : Grammar V K) (m : Machine V K D) (ls : List K) (d : D) : Type 0 where
   pub reader : IsReader g m
   pub comes : Leads m g.end m.start ls d
@@ -156,7 +156,7 @@ module _ {V K D : Type 0} {g : Grammar V K} {m : Machine V K D} (of : IsReader g
     of.completes m.start ∙ ap (λ (ls : List K). ls ++ m.still m.start) of.no_lines,
   )
 
--- a reader whose machine has come to this draft
+-- a reader whose machine is at this draft
 module _ {V K D : Type 0} {g : Grammar V K} {m : Machine V K D} {ls : List K} {d : D} (at : IsAt g m ls d) where
   -- the lines of the draft are these lines
   lines_are : m.lines d ≡ ls
