@@ -33,7 +33,8 @@ use Rattle.smx_live.proofs.TableLemmas.{flat_more, still_a_table}
 
 -- answered turns stay answered with one more answered turn after them
 answered_more : (v : Version) (ds : List DriverSpec) (h : List Entry) (ts : List Turn) (t : Turn)
-    → AreAnswered v ds h ts → IsShort t.line → IsAnswer v ds (h ++ entries_of ts) t.line t.answer → AreAnswered v ds h (ts ++ t ∷ [])
+    → AreAnswered v ds h ts → IsShort t.line → IsAnswer v ds (h ++ entries_of ts) t.line t.answer
+    → AreAnswered v ds h (ts ++ t ∷ [])
 answered_more v ds h [] t was one a = (one, rw append-nil at a, tt)
 answered_more v ds h (u ∷ ts) t was one a = (
   was.0,
@@ -168,8 +169,8 @@ module _ {explain : Bool} {read : List ℕ} {ended : Bool} {output : List ℕ} {
       } in
       goes_on (Entered e) below next more p.version p.drivers
       (sym (ap (λ (x : Configuration × Reply). x.0) does) ∙ sym (after_push s.drivers es e))
-      (omega (arith, h.counted, l.counted, length-append es (e ∷ []))) (omega (arith, h.counted, h.room)) h.tracing right
-      belongs
+      (omega (arith, h.counted, l.counted, length-append es (e ∷ []))) (omega (arith, h.counted, h.room)) h.tracing
+      right belongs
   turned (Shown v) below next more h belongs =
       stays (Shown v) refl below next more h.2 (ap (λ (p : Progress). p.entries) h.3)
       (ap (λ (p : Progress). p.tracing) h.3) (h.0, h.1 ∙ ap (view s.drivers) l.now) belongs

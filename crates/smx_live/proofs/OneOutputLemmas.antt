@@ -73,7 +73,8 @@ module _ (told_apart : AreDistinguished) (version : Version) (drivers : List Dri
       → a ≢ NotDone NoMemory → b ≢ NotDone NoMemory → a ≡ b
   answer_once (Entered e) (Entered f) is is_too had had_too = ap Entered (entry_once e f is is_too)
   answer_once (Entered e) (Shown v) is is_too had had_too = absurd (not_shown e is is_too.0)
-  answer_once (Entered e) (NotDone NoCommand) is is_too had had_too = absurd (is_too.1 (call_of e) is.in_version is.is_read)
+  answer_once (Entered e) (NotDone NoCommand) is is_too had had_too =
+      absurd (is_too.1 (call_of e) is.in_version is.is_read)
   answer_once (Entered e) (NotDone NoMemory) is is_too had had_too = absurd (had_too refl)
   answer_once (Entered e) (NotDone Full) is is_too had had_too = absurd (omega (arith, is.room, is_too.1))
   answer_once (Shown v) (Entered e) is is_too had had_too = absurd (not_shown e is_too is.0)
@@ -82,7 +83,8 @@ module _ (told_apart : AreDistinguished) (version : Version) (drivers : List Dri
   answer_once (Shown v) (NotDone NoMemory) is is_too had had_too = absurd (had_too refl)
   answer_once (Shown v) (NotDone Full) is is_too had had_too = absurd (is_too.0.0 is.0)
   answer_once (NotDone NoMemory) b is is_too had had_too = absurd (had refl)
-  answer_once (NotDone NoCommand) (Entered e) is is_too had had_too = absurd (is.1 (call_of e) is_too.in_version is_too.is_read)
+  answer_once (NotDone NoCommand) (Entered e) is is_too had had_too =
+      absurd (is.1 (call_of e) is_too.in_version is_too.is_read)
   answer_once (NotDone NoCommand) (Shown v) is is_too had had_too = absurd (is.0.0 is_too.0)
   answer_once (NotDone NoCommand) (NotDone NoCommand) is is_too had had_too = refl
   answer_once (NotDone NoCommand) (NotDone NoMemory) is is_too had had_too = absurd (had_too refl)
