@@ -69,10 +69,6 @@ shows_nothing line other (inr (inl is)) = absurd (cc (rw is at other))
 shows_nothing line other (inr (inr (inl is))) = absurd (cc (rw is at other))
 shows_nothing line other (inr (inr (inr is))) = absurd (cc (rw is at other))
 
--- the line `end` does not ask for the configuration
-pub end_shows_nothing : AsksToShow (codes "end") → ⊥
-end_shows_nothing = shows_nothing (codes "end") refl
-
 -- a line that is neither such a line nor `end` asks for neither
 pub neither : (line : List ℕ) → shows line ≡ false → bytes_eq line (codes "end") ≡ false → AsksForNeither line
 neither line other last = (shows_nothing line other, λ is. absurd (cc (rw is at last)))

@@ -76,7 +76,7 @@ opening_alone reading start explain output (s, far, held, l) =
     rw (l.written, none, append-nil, l.begins.written, version, own) (sym opening_is)
 
 -- so an output that is neither empty nor the opening is impossible
-pub not_out : HasOneReading programs_grammar → IsStartOf table begun → (output : List ℕ) → output ≢ [] → output ≢ opening
-    → (explain : Bool) → IsBroken explain worked_table true output → ⊥
+pub not_out : HasOneReading programs_grammar → IsStartOf table begun → (output : List ℕ) → output ≢ []
+    → output ≢ opening → (explain : Bool) → IsBroken explain worked_table true output → ⊥
 not_out reading start output some other explain (inl none) = some none
 not_out reading start output some other explain (inr far) = other (opening_alone reading start explain output far)

@@ -106,13 +106,10 @@ held_too_long held one many =
 pub unmoved : (start read piece table held longer : List ℕ) → start ++ read ≡ table ++ held → longer ≡ held ++ piece
     → start ++ (read ++ piece) ≡ table ++ longer
 unmoved start read piece table held longer was is =
-    sym (append_assoc start read piece) ∙ ap (λ (bs : List ℕ). bs ++ piece) was ∙ append_assoc table held piece
-    ∙ ap (λ (bs : List ℕ). table ++ bs) (sym is)
+    rw (is, ← append_assoc table held piece, ← was) (sym (append_assoc start read piece))
 
 -- so does one after which a line is moved
 pub moved : (start read piece table held longer : List ℕ) (k : ℕ) → start ++ read ≡ table ++ held
     → longer ≡ held ++ piece → start ++ (read ++ piece) ≡ (table ++ take k longer) ++ drop k longer
 moved start read piece table held longer k was is =
-    unmoved start read piece table held longer was is
-    ∙ ap (λ (bs : List ℕ). table ++ bs) (sym (take-append-drop k longer))
-    ∙ sym (append_assoc table (take k longer) (drop k longer))
+    rw (append_assoc, take-append-drop) (unmoved start read piece table held longer was is)

@@ -63,11 +63,11 @@ legal_from stays v ds h (t ∷ ts) was legal =
 each : (v : Version) (ds : List DriverSpec) (IsSo : Entry → Type 0)
     → ((h : List Entry) (line : List ℕ) (e : Entry) → IsEntryOf v ds h line e → IsSo e) → (h : List Entry)
     (ts : List Turn) → AreAnswered v ds h ts → AllByRecursion IsSo (entries_of ts)
-each v ds IsSo is_so h [] was = tt
-each v ds IsSo is_so h (t ∷ ts) was = one t.answer was.1 (each v ds IsSo is_so (h ++ entries_in t.answer) ts was.2) where
+each v ds IsSo so h [] was = tt
+each v ds IsSo so h (t ∷ ts) was = one t.answer was.1 (each v ds IsSo so (h ++ entries_in t.answer) ts was.2) where
   one : (a : Answer) → IsAnswer v ds h t.line a → AllByRecursion IsSo (entries_of ts)
       → AllByRecursion IsSo (entries_in a ++ entries_of ts)
-  one (Entered e) is behind = (is_so h t.line e is, behind)
+  one (Entered e) is behind = (so h t.line e is, behind)
   one (Shown s) is behind = behind
   one (NotDone w) is behind = behind
 

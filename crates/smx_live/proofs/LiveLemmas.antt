@@ -11,6 +11,7 @@ use Rattle.smx_model.specs.Commands.{step}
 use Rattle.smx_model.specs.Configuration.{Configuration}
 use Rattle.smx_model.specs.Histories.{after, call_of}
 use Rattle.smx_model.specs.Views.{view}
+use Rattle.smx_model.proofs.HistoryLemmas.{after_push}
 use Rattle.smx_words.specs.Spelling.{call_words}
 use Rattle.smx_words.specs.Words.{LINE_FEED, line_of}
 use Rattle.smx_text.specs.GrowingTranscripts.{BeginsTranscript}
@@ -23,30 +24,23 @@ use Rattle.smx_live.specs.LiveTurns.{IsTurnText}
 use Rattle.smx_live.specs.Tables.{IsTable, table_text}
 use Rattle.smx_live.specs.Turns.{Answer, Entered, Shown, NotDone, Turn, AreAnswered, IsAnswer}
 use Rattle.smx_live.specs.Turns.{AreFollowed, IsBelow, IsEntryOf, IsTaken, answer_text, asked_text}
-use Rattle.smx_live.specs.Turns.{entries_in, entries_of, said_text, traces_after}
-use Rattle.smx_live.specs.Turns.{traces_behind, turn_text}
+use Rattle.smx_live.specs.Turns.{entries_in, entries_of, traces_after}
+use Rattle.smx_live.specs.Turns.{traces_behind}
 use Rattle.smx_live.specs.declared.talk.Progress.{Progress}
 use Rattle.smx_live.proofs.TableLemmas.{flat_more, still_a_table}
-
--- a history with one more entry leads where the command of that entry leads
-abbrev pub OneFurther : Type 0
-OneFurther = (drivers : List DriverSpec) (history : List Entry) (e : Entry)
-    → after drivers (history ++ e ∷ []) ≡ (step drivers (after drivers history) e.process e.command).0
 
 -- ---- one more at the end
 
 -- answered turns stay answered with one more answered turn after them
 answered_more : (v : Version) (ds : List DriverSpec) (h : List Entry) (ts : List Turn) (t : Turn)
-    → AreAnswered v ds h ts
-    → IsShort t.line → IsAnswer v ds (h ++ entries_of ts) t.line t.answer → AreAnswered v ds h (ts ++ t ∷ [])
-answered_more v ds h [] t was one a =
-    (one, subst (λ (es : List Entry). IsAnswer v ds es t.line t.answer) (append-nil h) a, tt)
+    → AreAnswered v ds h ts → IsShort t.line → IsAnswer v ds (h ++ entries_of ts) t.line t.answer
+    → AreAnswered v ds h (ts ++ t ∷ [])
+answered_more v ds h [] t was one a = (one, rw append-nil at a, tt)
 answered_more v ds h (u ∷ ts) t was one a = (
   was.0,
   was.1,
   answered_more v ds (h ++ entries_in u.answer) ts t was.2 one
-      (subst (λ (es : List Entry). IsAnswer v ds es t.line t.answer)
-      (sym (append_assoc h (entries_in u.answer) (entries_of ts))) a),
+      (rw (append_assoc h (entries_in u.answer) (entries_of ts)) a),
 )
 
 module _ (explain : Bool) (v : Version) (ds : List DriverSpec) where
@@ -58,13 +52,11 @@ module _ (explain : Bool) (v : Version) (ds : List DriverSpec) where
   -- turns that are followed by what belongs below them stay so with one more such turn after them
   followed_more : (h : List Entry) (tracing : Bool) (ts : List Turn) (t : Turn) → AreFollowed explain v ds h tracing ts
       → IsFollowed (traces_behind tracing ts) (h ++ entries_of ts) t → AreFollowed explain v ds h tracing (ts ++ t ∷ [])
-  followed_more h tracing [] t was is =
-      (subst (λ (es : List Entry). IsFollowed tracing es t) (append-nil h) is, tt)
+  followed_more h tracing [] t was is = (rw append-nil at is, tt)
   followed_more h tracing (u ∷ ts) t was is = (
     was.0,
     followed_more (h ++ entries_in u.answer) (traces_after tracing u.line u.answer) ts t was.1
-        (subst (λ (es : List Entry). IsFollowed (traces_behind (traces_after tracing u.line u.answer) ts) es t)
-        (sym (append_assoc h (entries_in u.answer) (entries_of ts))) is),
+        (rw (append_assoc h (entries_in u.answer) (entries_of ts)) is),
   )
 
 -- the last turn decides whether entries are traced after it
@@ -72,11 +64,6 @@ traces_more : (tracing : Bool) (ts : List Turn) (t : Turn)
     → traces_behind tracing (ts ++ t ∷ []) ≡ traces_after (traces_behind tracing ts) t.line t.answer
 traces_more tracing [] t = refl
 traces_more tracing (u ∷ ts) t = traces_more (traces_after tracing u.line u.answer) ts t
-
--- the opening and the answers, with one more answer, are the opening and the answers with that one added
-said_more : (opening output : List ℕ) (ts : List Turn) (t : Turn) → output ≡ opening ++ said_text ts
-    → output ++ turn_text t ≡ opening ++ said_text (ts ++ t ∷ [])
-said_more opening output ts t was = rw was (simp (flat_more, append_assoc))
 
 -- ---- its end
 
@@ -98,7 +85,7 @@ at_its_end {output = output} {s} {far} {held} l words at fits = record {
 
 -- ---- one more turn
 
-module _ (further : OneFurther) {explain : Bool} {read : List ℕ} {ended : Bool} {output : List ℕ} {s : State}
+module _ {explain : Bool} {read : List ℕ} {ended : Bool} {output : List ℕ} {s : State}
     {far : Progress} {n : ℕ} {held : List ℕ} (l : IsLive explain read ended output s far held) (line : HasLine n held)
     (small : n ≤ MAX_INPUT) where
   -- the turn of the first line, with this answer
@@ -146,7 +133,7 @@ module _ (further : OneFurther) {explain : Bool} {read : List ℕ} {ended : Bool
             ∙ sym (traces_more false l.turns t);
         opening = l.opening;
         begins = rw (version, drivers) l.begins;
-        written = said_more l.opening output l.turns t l.written;
+        written = rw l.written (simp (flat_more, append_assoc));
         now = rw (drivers, longer) now;
         counted = rw longer counted;
       }
@@ -181,9 +168,9 @@ module _ (further : OneFurther) {explain : Bool} {read : List ℕ} {ended : Bool
         room = omega (arith, h.room, l.counted);
       } in
       goes_on (Entered e) below next more p.version p.drivers
-      (sym (ap (λ (x : Configuration × Reply). x.0) does) ∙ sym (further s.drivers es e))
-      (omega (arith, h.counted, l.counted, length-append es (e ∷ []))) (omega (arith, h.counted, h.room)) h.tracing right
-      belongs
+      (sym (ap (λ (x : Configuration × Reply). x.0) does) ∙ sym (after_push s.drivers es e))
+      (omega (arith, h.counted, l.counted, length-append es (e ∷ []))) (omega (arith, h.counted, h.room)) h.tracing
+      right belongs
   turned (Shown v) below next more h belongs =
       stays (Shown v) refl below next more h.2 (ap (λ (p : Progress). p.entries) h.3)
       (ap (λ (p : Progress). p.tracing) h.3) (h.0, h.1 ∙ ap (view s.drivers) l.now) belongs
@@ -229,31 +216,27 @@ begun {table = table} {opening = opening} parts over fits start begins = record 
 pub with_more : {explain : Bool} {read : List ℕ} (more : List ℕ) {ended now : Bool} {output : List ℕ} {s : State}
     {far : Progress} {held : List ℕ} → IsLive explain read ended output s far held
     → (ended ≡ true → (more ≡ []) × (now ≡ true)) → IsLive explain (read ++ more) now output s far (held ++ more)
-with_more more {ended} {now} {held = held} l stays =
-    let together : (asked_text l.turns ++ held) ++ more ≡ asked_text l.turns ++ (held ++ more) =
-    append_assoc (asked_text l.turns) held more in
-    record {
-      table = l.table;
-      turns = l.turns;
-      read_is = ap (λ (bs : List ℕ). bs ++ more) l.read_is ∙ append_assoc l.table (asked_text l.turns ++ held) more
-          ∙ ap (λ (bs : List ℕ). l.table ++ bs) together;
-      over = subst (IsTable now l.table) together
-          (still_a_table ended now l.table (asked_text l.turns ++ held) more l.over stays);
-      fits = l.fits;
-      programs = l.programs;
-      spelled = l.spelled;
-      drivers = l.drivers;
-      valid_drivers = l.valid_drivers;
-      answered = l.answered;
-      few = l.few;
-      followed = l.followed;
-      tracing = l.tracing;
-      opening = l.opening;
-      begins = l.begins;
-      written = l.written;
-      now = l.now;
-      counted = l.counted;
-    }
+with_more more {ended} {now} {held = held} l stays = record {
+  table = l.table;
+  turns = l.turns;
+  read_is = rw l.read_is (simp append_assoc);
+  over = rw (← append_assoc (asked_text l.turns) held more)
+      (still_a_table ended now l.table (asked_text l.turns ++ held) more l.over stays);
+  fits = l.fits;
+  programs = l.programs;
+  spelled = l.spelled;
+  drivers = l.drivers;
+  valid_drivers = l.valid_drivers;
+  answered = l.answered;
+  few = l.few;
+  followed = l.followed;
+  tracing = l.tracing;
+  opening = l.opening;
+  begins = l.begins;
+  written = l.written;
+  now = l.now;
+  counted = l.counted;
+}
 
 -- at least as many bytes were read as are held
 pub held_of_read : {explain : Bool} {read : List ℕ} {ended : Bool} {output : List ℕ} {s : State} {far : Progress}

@@ -22,7 +22,7 @@ use Rattle.smx_live.specs.Turns.{Answer, IsBelow, IsTaken, NotDone, answer_text}
 use Rattle.smx_live.specs.declared.talk.Progress.{Progress}
 use Rattle.smx_live.specs.declared.turn_fault.TurnFault.{TurnFault}
 use Rattle.smx_live.specs.declared.turn_fault.TurnFault.TheVariants.{NoCommand, NoMemory, Full}
-use Rattle.smx_live.proofs.LiveLemmas.{OneFurther, ended_by_line, turned, with_more}
+use Rattle.smx_live.proofs.LiveLemmas.{ended_by_line, turned, with_more}
 
 -- ---- one turn
 
@@ -70,20 +70,16 @@ module _ (explain : Bool) (s next : State) (far more : Progress) (line text : Li
 
 -- ---- a session after a turn, and at the end of its input
 
-module _ (further : OneFurther) {explain : Bool} {read : List ℕ} {ended : Bool} {output : List ℕ} {s : State}
+module _ {explain : Bool} {read : List ℕ} {ended : Bool} {output : List ℕ} {s : State}
     {far : Progress} {n : ℕ} {held : List ℕ} (l : IsLive explain read ended output s far held) (line : HasLine n held)
     (small : n ≤ MAX_INPUT) where
-  -- the bytes after the first line
-  abbrev rest : List ℕ
-  rest = drop (n + 1) held
-
   -- after any text for the first line, the session goes on or has ended
   goes_on : (over : Bool) (text : List ℕ) (later : State) (many : Progress)
       → IsTurnText explain s far (take n held) later many over text
-      → GoesOn explain read output ended later many rest over text
-  goes_on true text later many closing = ended_by_line further l line small text later many closing
+      → GoesOn explain read output ended later many (drop (n + 1) held) over text
+  goes_on true text later many closing = ended_by_line l line small text later many closing
   goes_on false text later many (a, below, taken, belongs, is) =
-      rw is (turned further l line small a below later many taken belongs)
+      rw is (turned l line small a below later many taken belongs)
 
   -- what holds of a turn over the held bytes holds over everything that was read
   pub turned_on : (next : State) (more : Progress) (before after : Option (List ℕ)) (flushed : Bool) (failures : ℕ)
@@ -92,7 +88,7 @@ module _ (further : OneFurther) {explain : Bool} {read : List ℕ} {ended : Bool
   turned_on next more before after flushed failures (Ok over) h =
       (h.0, h.1, h.2, h.3, goes_on over h.2 next more h.4)
   turned_on next more before after flushed failures (Err WriteFailed) (failed, text, cut, inl (later, many, may)) =
-      (failed, text, cut, inl (later, many, rest, goes_on false text later many may))
+      (failed, text, cut, inl (later, many, drop (n + 1) held, goes_on false text later many may))
   turned_on next more before after flushed failures (Err WriteFailed) (failed, text, cut, inr closing) =
       (failed, text, cut, inr (goes_on true text next more closing))
   turned_on next more before after flushed failures (Err (Refused f)) h = (h.0, h.1, h.2, tt)

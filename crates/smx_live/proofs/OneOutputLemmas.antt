@@ -32,7 +32,7 @@ use Rattle.smx_live.specs.Turns.{NotDone}
 use Rattle.smx_live.specs.Turns.{AreFollowed, IsBelow, Shown, Turn, asked_text, entries_in, entries_of, said_text}
 use Rattle.smx_live.specs.Turns.{traces_after}
 use Rattle.smx_live.specs.declared.turn_fault.TurnFault.TheVariants.{NoCommand, NoMemory, Full}
-use Rattle.smx_live.proofs.AskedLineLemmas.{end_shows_nothing, no_call_line, no_digit_shows}
+use Rattle.smx_live.proofs.AskedLineLemmas.{no_call_line, no_digit_shows, shows_nothing}
 use Rattle.smx_live.proofs.OverTableLemmas.{table_once}
 
 -- ---- what other crates' laws say
@@ -49,7 +49,8 @@ IsExplainedOnce = (version : Version) (line one other : List ℕ) → IsExplanat
 
 -- ---- answers
 
-module _ (version : Version) (drivers : List DriverSpec) (history : List Entry) (l : List ℕ) where
+module _ (told_apart : AreDistinguished) (version : Version) (drivers : List DriverSpec) (history : List Entry)
+    (l : List ℕ) where
   -- a line that asks for the configuration is not that of an entry
   not_shown : (e : Entry) → IsEntryOf version drivers history l e → AsksToShow l → ⊥
   not_shown e is asks = no_call_line version l (no_digit_shows l asks) (call_of e) is.in_version is.is_read
@@ -59,9 +60,8 @@ module _ (version : Version) (drivers : List DriverSpec) (history : List Entry) 
   entry_with call reply = record { process = call.0; command = call.1; reply = reply }
 
   -- a line is that of at most one entry
-  entry_once : AreDistinguished → (e f : Entry) → IsEntryOf version drivers history l e
-      → IsEntryOf version drivers history l f → e ≡ f
-  entry_once told_apart e f is is_too =
+  entry_once : (e f : Entry) → IsEntryOf version drivers history l e → IsEntryOf version drivers history l f → e ≡ f
+  entry_once e f is is_too =
       let call : call_of e ≡ call_of f = told_apart (call_of e) (call_of f) is.in_version.0 is_too.in_version.0
       (sym is.is_read ∙ is_too.is_read) in
       let reply : e.reply ≡ f.reply = sym is.legal
@@ -69,40 +69,36 @@ module _ (version : Version) (drivers : List DriverSpec) (history : List Entry) 
       ap (λ (c : ℕ × Command). entry_with c e.reply) call ∙ ap (λ (r : Reply). entry_with (call_of f) r) reply
 
   -- a line has at most one answer, apart from out-of-memory
-  answer_once : AreDistinguished → (a b : Answer) → IsAnswer version drivers history l a
-      → IsAnswer version drivers history l b
+  answer_once : (a b : Answer) → IsAnswer version drivers history l a → IsAnswer version drivers history l b
       → a ≢ NotDone NoMemory → b ≢ NotDone NoMemory → a ≡ b
-  answer_once told_apart (Entered e) (Entered f) is is_too had had_too = ap Entered
-      (entry_once told_apart e f is is_too)
-  answer_once told_apart (Entered e) (Shown v) is is_too had had_too = absurd (not_shown e is is_too.0)
-  answer_once told_apart (Entered e) (NotDone NoCommand) is is_too had had_too =
+  answer_once (Entered e) (Entered f) is is_too had had_too = ap Entered (entry_once e f is is_too)
+  answer_once (Entered e) (Shown v) is is_too had had_too = absurd (not_shown e is is_too.0)
+  answer_once (Entered e) (NotDone NoCommand) is is_too had had_too =
       absurd (is_too.1 (call_of e) is.in_version is.is_read)
-  answer_once told_apart (Entered e) (NotDone NoMemory) is is_too had had_too = absurd (had_too refl)
-  answer_once told_apart (Entered e) (NotDone Full) is is_too had had_too = absurd (omega (arith, is.room, is_too.1))
-  answer_once told_apart (Shown v) (Entered e) is is_too had had_too = absurd (not_shown e is_too is.0)
-  answer_once told_apart (Shown v) (Shown w) is is_too had had_too = ap Shown (is.1 ∙ sym is_too.1)
-  answer_once told_apart (Shown v) (NotDone NoCommand) is is_too had had_too = absurd (is_too.0.0 is.0)
-  answer_once told_apart (Shown v) (NotDone NoMemory) is is_too had had_too = absurd (had_too refl)
-  answer_once told_apart (Shown v) (NotDone Full) is is_too had had_too = absurd (is_too.0.0 is.0)
-  answer_once told_apart (NotDone NoMemory) b is is_too had had_too = absurd (had refl)
-  answer_once told_apart (NotDone NoCommand) (Entered e) is is_too had had_too =
+  answer_once (Entered e) (NotDone NoMemory) is is_too had had_too = absurd (had_too refl)
+  answer_once (Entered e) (NotDone Full) is is_too had had_too = absurd (omega (arith, is.room, is_too.1))
+  answer_once (Shown v) (Entered e) is is_too had had_too = absurd (not_shown e is_too is.0)
+  answer_once (Shown v) (Shown w) is is_too had had_too = ap Shown (is.1 ∙ sym is_too.1)
+  answer_once (Shown v) (NotDone NoCommand) is is_too had had_too = absurd (is_too.0.0 is.0)
+  answer_once (Shown v) (NotDone NoMemory) is is_too had had_too = absurd (had_too refl)
+  answer_once (Shown v) (NotDone Full) is is_too had had_too = absurd (is_too.0.0 is.0)
+  answer_once (NotDone NoMemory) b is is_too had had_too = absurd (had refl)
+  answer_once (NotDone NoCommand) (Entered e) is is_too had had_too =
       absurd (is.1 (call_of e) is_too.in_version is_too.is_read)
-  answer_once told_apart (NotDone NoCommand) (Shown v) is is_too had had_too = absurd (is.0.0 is_too.0)
-  answer_once told_apart (NotDone NoCommand) (NotDone NoCommand) is is_too had had_too = refl
-  answer_once told_apart (NotDone NoCommand) (NotDone NoMemory) is is_too had had_too = absurd (had_too refl)
-  answer_once told_apart (NotDone NoCommand) (NotDone Full) is is_too had had_too =
-      absurd (omega (arith, is.2, is_too.1))
-  answer_once told_apart (NotDone Full) (Entered e) is is_too had had_too = absurd (omega (arith, is_too.room, is.1))
-  answer_once told_apart (NotDone Full) (Shown v) is is_too had had_too = absurd (is.0.0 is_too.0)
-  answer_once told_apart (NotDone Full) (NotDone NoCommand) is is_too had had_too =
-      absurd (omega (arith, is_too.2, is.1))
-  answer_once told_apart (NotDone Full) (NotDone NoMemory) is is_too had had_too = absurd (had_too refl)
-  answer_once told_apart (NotDone Full) (NotDone Full) is is_too had had_too = refl
+  answer_once (NotDone NoCommand) (Shown v) is is_too had had_too = absurd (is.0.0 is_too.0)
+  answer_once (NotDone NoCommand) (NotDone NoCommand) is is_too had had_too = refl
+  answer_once (NotDone NoCommand) (NotDone NoMemory) is is_too had had_too = absurd (had_too refl)
+  answer_once (NotDone NoCommand) (NotDone Full) is is_too had had_too = absurd (omega (arith, is.2, is_too.1))
+  answer_once (NotDone Full) (Entered e) is is_too had had_too = absurd (omega (arith, is_too.room, is.1))
+  answer_once (NotDone Full) (Shown v) is is_too had had_too = absurd (is.0.0 is_too.0)
+  answer_once (NotDone Full) (NotDone NoCommand) is is_too had had_too = absurd (omega (arith, is_too.2, is.1))
+  answer_once (NotDone Full) (NotDone NoMemory) is is_too had had_too = absurd (had_too refl)
+  answer_once (NotDone Full) (NotDone Full) is is_too had had_too = refl
 
   -- the line `end` has no answer, apart from out-of-memory
   no_answer : (a : Answer) → IsAnswer version drivers history l a → a ≢ NotDone NoMemory → l ≡ codes "end" → ⊥
   no_answer (Entered e) is had end = no_call_line version l (rw end refl) (call_of e) is.in_version is.is_read
-  no_answer (Shown v) is had end = end_shows_nothing (rw end at is.0)
+  no_answer (Shown v) is had end = shows_nothing (codes "end") refl (rw end at is.0)
   no_answer (NotDone NoCommand) is had end = is.0.1 end
   no_answer (NotDone NoMemory) is had end = had refl
   no_answer (NotDone Full) is had end = is.0.1 end
@@ -147,7 +143,7 @@ module _ (explain : Bool) (once : IsExplainedOnce) (version : Version) (drivers 
       → u.answer ≢ NotDone NoMemory → ⊥
   none_behind history u rest held words (inl (more, is, none)) cut short answered had =
       let same = apart LINE_FEED u.line (codes "end") rest more short.0 (search arith) (sym cut ∙ is) in
-      no_answer version drivers history u.line u.answer answered had same.0
+      no_answer told_apart version drivers history u.line u.answer answered had same.0
   none_behind history u rest held words (inr (end, one, said)) cut short answered had =
       not_one u.line rest (subst IsOneLine cut one.0)
 
@@ -171,7 +167,7 @@ module _ (explain : Bool) (once : IsExplainedOnce) (version : Version) (drivers 
       e =
       let cut = apart LINE_FEED t.line u.line (asked_text ts ++ held) (asked_text us ++ more) was.0.0 was_too.0.0
       (sym (asked_cons t ts held) ∙ e ∙ asked_cons u us more) in
-      let answer : t.answer ≡ u.answer = answer_once version drivers history t.line told_apart t.answer u.answer was.1
+      let answer : t.answer ≡ u.answer = answer_once told_apart version drivers history t.line t.answer u.answer was.1
       (rw cut.0 was_too.1) had.0 had_too.0 in
       let below : t.below ≡ u.below = below_once once explain version drivers tracing (after drivers history)
       (after drivers (history ++ entries_in t.answer)) t.line t.answer t.below u.below told.0

@@ -145,8 +145,8 @@ module _ (ended : Bool) (table rest : List ℕ) (t : IsTable ended table rest) (
   all = sym (append_assoc (lines_text t.lines) t.cut rest) ∙ (rw t.text at parts)
       ∙ append_assoc (lines_text ms) own more
 
-  -- one line after the lines of another table of the same bytes comes after all lines of a table that has ended, or lies
-  -- within their text
+  -- one line after the lines of another table of the same bytes comes after all lines of a table that has ended, or
+  -- lies within their text
   lines_apart : (xs after : List ℕ) → IsOneLine xs → own ++ more ≡ xs ++ after
       → ((t.lines ≡ ms) × (t.cut ++ rest ≡ xs ++ after))
       ⊎ (length (lines_text ms) + length xs < length (lines_text t.lines))

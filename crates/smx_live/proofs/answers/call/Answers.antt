@@ -1,4 +1,4 @@
-use Rattle.std.proofs.Common.{◌∙◌, refl, subst}
+use Rattle.std.proofs.Common.{refl, subst}
 use Rattle.smx_session.specs.Sessions.{State}
 use Rattle.smx_live.specs.LiveTurns.{TakesTurn}
 use Rattle.smx_live.specs.declared.talk.Progress.{Progress}
@@ -15,10 +15,6 @@ returns-in-Ok-None g c =
     answered_with c.args.explain talk.session next.session talk.progress next.progress c.args.line.now
     c.as_slice.result.now (g.S.Sink.contents c.args.sink.now) (g.S.Sink.contents sink) (g.S.Sink.flushed sink)
     (g.S.Sink.failures sink) (Entered e) _ c.say.result c.say.ensures did refl (rw is at c.as_slice.ensures.value)
-
-pub refuse-requires-clause-refused : goal.refuse-requires-clause-refused
-refuse-requires-clause-refused g c =
-    let did = rw c.in-Ok-Some.field-0-is at c.in-Ok-Some.ensures.answered in rw (did.1, did.2) did.0
 
 pub returns-in-Ok-Some : goal.returns-in-Ok-Some
 returns-in-Ok-Some g c =

@@ -1,4 +1,4 @@
-use Rattle.std.proofs.Common.{false, refl, sym, true}
+use Rattle.std.proofs.Common.{sym}
 use Rattle.smx_live.proofs.laws_of_live.when_entries_are_traced.Goals as goal
 use Rattle.smx_live.specs.WorkedLives.{changes_shown}
 

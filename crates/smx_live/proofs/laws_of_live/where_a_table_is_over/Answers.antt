@@ -21,4 +21,5 @@ returns-clause-unfinished c =
 
 pub returns-clause-not_unfinished : goal.returns-clause-not_unfinished
 returns-clause-not_unfinished c = λ is.
-    let ended = finished false (codes "programs 2\ndrivers\n") (codes "drive\n") behind_drivers is in absurd (cc ended.0)
+    let ended = finished false (codes "programs 2\ndrivers\n") (codes "drive\n") behind_drivers is in
+    absurd (cc ended.0)

@@ -1,4 +1,4 @@
-use Rattle.std.proofs.Common.{arith, inl, inr, refl}
+use Rattle.std.proofs.Common.{arith, refl}
 use Rattle.std.specs.Prelude.{codes}
 use Rattle.smx_model.specs.Worked.Common.{OpenClone, eth}
 use Rattle.smx_types.specs.declared.version.Version.TheVariants.{V1, V2}

@@ -71,4 +71,5 @@ pub returns : goal.returns
 returns g c =
     let inv = c.loop-turn.invariant in
     let many : 2 ^ 64 ≤ c.loop-turn._turn + 1 = omega (arith, c.loop-turn-test.false) in λ read output l.
-    rw inv.end (no_count (inv.gone read output l) {flushed = g.S.Sink.flushed c.loop-turn.sink} inv.sunk (held_of_read l) inv.fed many)
+    rw inv.end (no_count (inv.gone read output l) {flushed = g.S.Sink.flushed c.loop-turn.sink} inv.sunk
+    (held_of_read l) inv.fed many)

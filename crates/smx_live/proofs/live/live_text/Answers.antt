@@ -16,8 +16,8 @@ pub returns-in-Err-begin : goal.returns-in-Err-begin
 returns-in-Err-begin g c =
     let (read, t) = c.in-Ok.ensures in
     let parts = ap (λ (h : List ℕ). h ++ read) (sym c.new-inbox.ensures.held) ∙ t.came.parts in
-    no_session read t.consumed c.in-Ok.table.items c.read_table.new.inbox.held.items parts t.came.over t.came.fits t.came.fine
-    c.in-Err-begin.refusal.fault c.requires.sunk c.in-Err-begin.ensures
+    no_session read t.consumed c.in-Ok.table.items c.read_table.new.inbox.held.items parts t.came.over t.came.fits
+    t.came.fine c.in-Err-begin.refusal.fault c.requires.sunk c.in-Err-begin.ensures
 
 pub returns-in-Ok-converse : goal.returns-in-Ok-converse
 returns-in-Ok-converse g c =
@@ -41,5 +41,5 @@ pub returns : goal.returns
 returns g c =
     let (read, t) = c.in-Ok.ensures in
     let parts = ap (λ (h : List ℕ). h ++ read) (sym c.new-inbox.ensures.held) ∙ t.came.parts in
-    no_opening read t.consumed c.in-Ok.table.items c.read_table.new.inbox.held.items parts t.came.over t.came.fits t.came.fine
-    c.in-Ok-begin.talk.session c.in-Err-open.fault c.in-Ok-begin.ensures.0 c.in-Err-open.ensures
+    no_opening read t.consumed c.in-Ok.table.items c.read_table.new.inbox.held.items parts t.came.over t.came.fits
+    t.came.fine c.in-Ok-begin.talk.session c.in-Err-open.fault c.in-Ok-begin.ensures.0 c.in-Err-open.ensures
