@@ -66,38 +66,29 @@ state_of v ds c last = record { version = v; drivers = ds; configuration = c; la
 same_state : (a b : State) → a.version ≡ b.version → a.drivers ≡ b.drivers → a.configuration ≡ b.configuration
     → a.last ≡ b.last → a ≡ b
 same_state a b v d c l =
-    ap (λ (x : Version). state_of x a.drivers a.configuration a.last) v
-    ∙ (ap (λ (x : List DriverSpec). state_of b.version x a.configuration a.last) d
-    ∙ (ap (λ (x : Configuration). state_of b.version b.drivers x a.last) c
-    ∙ ap (λ (x : Option Entry). state_of b.version b.drivers b.configuration x) l))
+    let same : state_of a.version a.drivers a.configuration a.last
+    ≡ state_of b.version b.drivers b.configuration b.last = cc in same
 
 module _ (text : List ℕ) (reading : HasOneReading) where
   -- a text spells one value, in either version
   one_value : (v w : Version) (x y : ProgramLists) → Spells (programs_grammar v) text x
       → Spells (programs_grammar w) text y → x ≡ y
   one_value v w x y h k =
-      let one : Result ProgramLists TextFault = Ok x in
-      let other : Result ProgramLists TextFault = Ok y in
-      let same : one ≡ other = reading text one other (v, h, tt) (w, k, tt) tt tt in
+      let same : ◌≡◌ {A = Result ProgramLists TextFault} (Ok x) (Ok y) = reading text _ _ (v, h, tt) (w, k, tt) tt tt in
       cc
 
   -- a text that spells programs has no fault, apart from out-of-memory
   no_fault : (v : Version) (x : ProgramLists) (f : TextFault) → Spells (programs_grammar v) text x
       → ReadsAny programs_grammar text (Err f) → f.cause ≢ cause.NoMemory → ⊥
   no_fault v x f h k known =
-      let one : Result ProgramLists TextFault = Ok x in
-      let other : Result ProgramLists TextFault = Err f in
-      let same : one ≡ other = reading text one other (v, h, tt) k tt known in
+      let same : ◌≡◌ {A = Result ProgramLists TextFault} (Ok x) (Err f) = reading text _ _ (v, h, tt) k tt known in
       absurd cc
 
   -- a text has at most one fault, apart from out-of-memory
   one_text_fault : (f e : TextFault) → ReadsAny programs_grammar text (Err f) → ReadsAny programs_grammar text (Err e)
       → f.cause ≢ cause.NoMemory → e.cause ≢ cause.NoMemory → f ≡ e
   one_text_fault f e h k known known_too =
-      let one : Result ProgramLists TextFault = Err f in
-      let other : Result ProgramLists TextFault = Err e in
-      let same : one ≡ other = reading text one other h k known known_too in
-      cc
+      let same : ◌≡◌ {A = Result ProgramLists TextFault} (Err f) (Err e) = reading text _ _ h k known known_too in cc
 
   -- two sessions that start over one text are the same
   one_session : (a b : State) → IsStartOf text a → IsStartOf text b → a ≡ b

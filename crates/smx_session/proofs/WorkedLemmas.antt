@@ -7,11 +7,9 @@ use Rattle.smx_types.specs.declared.command.Entry.{Entry}
 use Rattle.smx_types.specs.declared.version.Version.TheVariants.{V2}
 use Rattle.smx_model.specs.Worked.Common.{Done, Fd, Hangup, OpenClone, ◌does◌gets◌, eth}
 use Rattle.smx_text.specs.Grammar.{ReadsAny, Spells}
-use Rattle.smx_text.specs.ProgramsText.{programs_grammar, programs_text}
+use Rattle.smx_text.specs.ProgramsText.{programs_grammar}
 use Rattle.smx_text.specs.declared.text_fault.Cause.TheVariants as cause
 use Rattle.smx_text.specs.declared.text_fault.TextFault.{TextFault}
-use Rattle.smx_words.specs.Spelling.{call_words, entry_line}
-use Rattle.smx_words.specs.Words.{line_of}
 use Rattle.smx_session.specs.Sessions.{IsLastLine, IsStartOf, Performs, StartsAs, State}
 use Rattle.smx_session.specs.WorkedSessions.{begun, drivers, hung, opened, table}
 use Rattle.smx_session.specs.declared.start_fault.StartFault.TheVariants.{NoMemory}
@@ -21,14 +19,10 @@ use Rattle.smx_session.proofs.LawLemmas.{AreDistinguished, HasOneReading, IsRepo
 abbrev programs : ProgramLists
 programs = raised (program_lists drivers [])
 
--- the worked table is the text of these programs
-is_table : table ≡ programs_text programs
-unfolding digits
-is_table = refl
-
 -- the worked table spells these programs
 spelled : Spells (programs_grammar V2) table programs
-spelled = record { allowed = search (rules, arith); text = is_table }
+unfolding digits
+spelled = record { allowed = search (rules, arith); text = refl }
 
 -- the worked table starts a session
 pub starts : IsStartOf table begun
@@ -59,55 +53,38 @@ no_memory_for_a_wrong_header reading told wrong wants =
     let late : 2 < 1 = before_the_fault (codes "programs 3\n") reading told wrong_header (wrong, known) wants in
     omega (arith, late)
 
--- `3 clone eth` is the line of a clone of `eth` by process 3
-three : codes "3 clone eth" ≡ line_of (call_words (3, OpenClone eth))
-unfolding digits
-three = refl
-
--- `2 clone eth` is the line of a clone of `eth` by process 2
-two : codes "2 clone eth" ≡ line_of (call_words (2, OpenClone eth))
-unfolding digits
-two = refl
-
 -- `3 clone eth` opens a stream for process 3
 pub opens : Performs begun (codes "3 clone eth") opened
+unfolding digits
 opens =
     record {
       entry = 3 does OpenClone eth gets Fd 0 0;
       fits = search (rules, arith);
-      is_read = three;
+      is_read = refl;
       does = refl;
       last = refl;
       drivers = refl;
       version = refl;
     }
 
--- `5 hangup eth 0` is the line of a hangup by process 5
-hangup_is_read : codes "5 hangup eth 0" ≡ line_of (call_words (5, Hangup eth 0))
-unfolding digits
-hangup_is_read = refl
-
 -- `5 hangup eth 0` hangs up the open stream
 pub hangs_up : Performs opened (codes "5 hangup eth 0") hung
+unfolding digits
 hangs_up =
     record {
       entry = 5 does Hangup eth 0 gets Done [];
       fits = search (rules, arith);
-      is_read = hangup_is_read;
+      is_read = refl;
       does = refl;
       last = refl;
       drivers = refl;
       version = refl;
     }
 
--- `3 clone eth = fd 0 0` is the line of the entry of a clone with that reply
-told : codes "3 clone eth = fd 0 0\n" ≡ entry_line (3 does OpenClone eth gets Fd 0 0)
-unfolding digits
-told = refl
-
 -- the last line of the session has the reply of the clone
 pub tells : IsLastLine opened (codes "3 clone eth = fd 0 0\n")
-tells = (3 does OpenClone eth gets Fd 0 0, refl, told)
+unfolding digits
+tells = (3 does OpenClone eth gets Fd 0 0, refl, refl)
 
 -- before the first command there is no last line
 pub tells_none : IsLastLine begun (codes "3 clone eth = fd 0 0\n") → ⊥
@@ -125,11 +102,12 @@ opened_by_2 =
 
 -- `2 clone eth` opens a stream for process 2
 opens_by_2 : Performs begun (codes "2 clone eth") opened_by_2
+unfolding digits
 opens_by_2 =
     record {
       entry = 2 does OpenClone eth gets Fd 0 0;
       fits = search (rules, arith);
-      is_read = two;
+      is_read = refl;
       does = refl;
       last = refl;
       drivers = refl;

@@ -1,5 +1,6 @@
 -- Commands, calls, replies and entries have words of their own.
-use Rattle.std.proofs.Common.{◌≡◌, ◌≢◌, ℕ, Bool, true, false, cond, if◌then◌else◌, ap, List, [], ◌∷◌, ◌++◌, map, get_or, drop, refl, rules, arith}
+use Rattle.std.proofs.Common.{◌≡◌, ◌≢◌, ℕ, Bool, true, false, cond, if◌then◌else◌, ap, List, [], ◌∷◌, ◌++◌, map, get_or, drop}
+use Rattle.std.proofs.Common.{refl, rules, arith}
 use Rattle.std.specs.List.{AllByRecursion}
 use Rattle.std.specs.Prelude.{codes}
 use Rattle.std.specs.Fmt.{decimal}

@@ -26,7 +26,8 @@ HasWord {X} Fits word = Determines IsWord Fits word
 abbrev pub HasWords : {X : Type 0} → (X → Type 0) → (X → List (List ℕ)) → Type 0
 HasWords {X} Fits words = Determines (AllByRecursion IsWord) Fits words
 
-module _ {X S : Type 0} {Good : S → Type 0} {Fits : X → Type 0} {spelling : X → S} (d : Determines Good Fits spelling) where
+module _ {X S : Type 0} {Good : S → Type 0} {Fits : X → Type 0} {spelling : X → S}
+    (d : Determines Good Fits spelling) where
   -- no two values that fit have the same spelling
   pub one : (x y : X) → Fits x → Fits y → spelling x ≡ spelling y → x ≡ y
   one x y h k e = sym (d.again x h) ∙ ap d.guess e ∙ d.again y k
@@ -113,7 +114,8 @@ module _ {X : Type 0} {Fits : X → Type 0} {words_of : X → List (List ℕ)} (
   one_line x y h k e = one d x y h k (same_words (words_of x) (words_of y) (d.are_words x h) (d.are_words y k) e)
 
   -- each value by its line
-  abbrev pub by_line : ((x : X) → 0 < length (words_of x)) → Determines (λ line. Unit {0}) Fits (λ x. line_of (words_of x))
+  abbrev pub by_line : ((x : X) → 0 < length (words_of x))
+      → Determines (λ line. Unit {0}) Fits (λ x. line_of (words_of x))
   by_line some = record {
     guess = λ line. d.guess (words_in line);
     fits = λ line. d.fits (words_in line);

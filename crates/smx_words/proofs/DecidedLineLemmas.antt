@@ -76,7 +76,8 @@ message_has_words =
 
 -- each hung-up stream has words of its own
 pub hung_has_words : HasWords FitsHung hung_words
-hung_has_words = via (λ p. record { driver = p.0; minor = p.1 }) (after (codes "hung") (search rules) (first name (last number)))
+hung_has_words = via (λ p. record { driver = p.0; minor = p.1 })
+    (after (codes "hung") (search rules) (first name (last number)))
     (λ s. (s.driver, s.minor)) (λ p h. search rules) (λ s h. search rules) (λ s. refl)
 
 -- each full place has words of its own

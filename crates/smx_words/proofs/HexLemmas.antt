@@ -16,7 +16,8 @@ use Rattle.smx_words.specs.Spellable.{FitsBytes}
 -- ---- digits
 
 -- if all bytes pass a test, the byte at each index passes it
-pub all_at : (test : ℕ → Bool) (w : List ℕ) (i : ℕ) → i < length w → list_all test w ≡ true → test (slice_index w i) ≡ true
+pub all_at : (test : ℕ → Bool) (w : List ℕ) (i : ℕ) → i < length w → list_all test w ≡ true
+    → test (slice_index w i) ≡ true
 all_at test [] i lt h = absurd (omega arith)
 all_at test (b ∷ w) zero lt h = (and_parts (test b) (list_all test w) h).0
 all_at test (b ∷ w) (suc i) lt h = all_at test w i (omega arith) (and_parts (test b) (list_all test w) h).1

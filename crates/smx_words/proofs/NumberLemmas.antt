@@ -54,7 +54,8 @@ before_others : (v a : List ℕ) → all_ascii_digits v ≡ true → prefix_len 
 before_others [] a h none = rw none refl
 before_others (d ∷ v) a h none =
     let parts = and_parts (is_ascii_digit d) (all_ascii_digits v) h in
-    rw (take_while-cons is_ascii_digit d (v ++ a), parts.0) (ap (λ (x : List ℕ). d ∷ x) (before_others v a parts.1 none))
+    rw (take_while-cons is_ascii_digit d (v ++ a), parts.0)
+    (ap (λ (x : List ℕ). d ∷ x) (before_others v a parts.1 none))
 
 -- if bytes start with the word of a number and no digit follows, their leading digits are that word
 pub leads : (w : List ℕ) (n : ℕ) (after : List ℕ) → FitsNumber n → prefix_len is_ascii_digit after ≡ 0

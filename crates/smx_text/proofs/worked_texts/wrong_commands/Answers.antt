@@ -14,14 +14,21 @@ returns c = record {
   a_sign = misspelled (codes "dup" ∷ codes "+1" ∷ []) (search (rules, arith)) refl (refl, refl, refl);
   two_spaces = misspelled (codes "close" ∷ [] ∷ codes "0" ∷ []) (search (rules, arith)) refl (refl, refl, refl);
   a_last_space = misspelled (codes "close" ∷ codes "0" ∷ [] ∷ []) (search (rules, arith)) refl (refl, refl, refl);
-  large_number = misspelled (codes "open" ∷ codes "ip" ∷ codes "4294967296" ∷ []) (search (rules, arith)) refl (refl, refl, refl);
-  digit_first = misspelled (codes "open" ∷ codes "9a" ∷ codes "0" ∷ []) (search (rules, arith)) refl (refl, refl, refl);
+  large_number = misspelled (codes "open" ∷ codes "ip" ∷ codes "4294967296" ∷ [])
+      (search (rules, arith)) refl (refl, refl, refl);
+  digit_first = misspelled (codes "open" ∷ codes "9a" ∷ codes "0" ∷ [])
+      (search (rules, arith)) refl (refl, refl, refl);
   nine_letters = misspelled (codes "clone" ∷ codes "ninelette" ∷ []) (search (rules, arith)) refl (refl, refl, refl);
   missing_word = misspelled (codes "link" ∷ codes "0" ∷ []) (search (rules, arith)) refl (refl, refl, refl);
-  capitals = misspelled (codes "unlink" ∷ codes "0" ∷ codes "ALL" ∷ []) (search (rules, arith)) refl (refl, refl, refl);
-  sides_turned = misspelled (codes "flush" ∷ codes "0" ∷ codes "wr" ∷ []) (search (rules, arith)) refl (refl, refl, refl);
-  capital_digits = misspelled (codes "write" ∷ codes "0" ∷ codes "5" ∷ codes "AA" ∷ []) (search (rules, arith)) refl (refl, refl, refl);
-  odd_digits = misspelled (codes "write" ∷ codes "0" ∷ codes "5" ∷ codes "aab" ∷ []) (search (rules, arith)) refl (refl, refl, refl);
-  missing_bytes = misspelled (codes "write" ∷ codes "0" ∷ codes "5" ∷ []) (search (rules, arith)) refl (refl, refl, refl);
+  capitals = misspelled (codes "unlink" ∷ codes "0" ∷ codes "ALL" ∷ [])
+      (search (rules, arith)) refl (refl, refl, refl);
+  sides_turned = misspelled (codes "flush" ∷ codes "0" ∷ codes "wr" ∷ [])
+      (search (rules, arith)) refl (refl, refl, refl);
+  capital_digits = misspelled (codes "write" ∷ codes "0" ∷ codes "5" ∷ codes "AA" ∷ [])
+      (search (rules, arith)) refl (refl, refl, refl);
+  odd_digits = misspelled (codes "write" ∷ codes "0" ∷ codes "5" ∷ codes "aab" ∷ [])
+      (search (rules, arith)) refl (refl, refl, refl);
+  missing_bytes = misspelled (codes "write" ∷ codes "0" ∷ codes "5" ∷ [])
+      (search (rules, arith)) refl (refl, refl, refl);
   no_word = misspelled ([] ∷ []) (search (rules, arith)) refl (refl, refl, refl);
 }

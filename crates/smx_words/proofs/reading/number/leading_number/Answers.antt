@@ -8,7 +8,8 @@ use Rattle.smx_words.proofs.reading.number.leading_number.Goals.{then-digits-tes
 pub returns-then-value : goal.returns-then-value
 returns-then-value c =
     let digit = sym c.if-is_ascii_digit.ensures.value in
-    let value = value_more c.args.text.now c.digits.end c.digits.value c.digits-test.true digit c.digits.invariant.value in
+    let value =
+    value_more c.args.text.now c.digits.end c.digits.value c.digits-test.true digit c.digits.invariant.value in
     let more = prefix_len-drop_yes is_ascii_digit c.args.text.now c.digits.end 0 c.digits-test.true digit in
     too_large c.args.text.now (c.digits.end + 1) (omega (arith, more)) (omega (arith, c.if-value.true, value))
 

@@ -7,5 +7,6 @@ use Rattle.smx_words.proofs.reading.word.first_kind.Goals as goal
 
 pub returns-in_err-kind : goal.returns-in_err-kind
 returns-in_err-kind c =
-    rw c.from_residual-in_err-kind.ensures (no_field FitsAlways kind_word (word_free driver_kind) c.args.text.now c.in_ok-word.word.now c.in_ok-word.rest.now
+    rw c.from_residual-in_err-kind.ensures (no_field FitsAlways kind_word (word_free driver_kind)
+    c.args.text.now c.in_ok-word.word.now c.in_ok-word.rest.now
     c.in_ok-word.ensures.0 c.in_ok-word.ensures.1 c.in_err-kind.ensures)

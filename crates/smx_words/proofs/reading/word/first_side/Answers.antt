@@ -7,5 +7,6 @@ use Rattle.smx_words.proofs.reading.word.first_side.Goals as goal
 
 pub returns-in_err-side : goal.returns-in_err-side
 returns-in_err-side c =
-    rw c.from_residual-in_err-side.ensures (no_field FitsAlways side_word (word_free stream_side) c.args.text.now c.in_ok-word.word.now c.in_ok-word.rest.now
+    rw c.from_residual-in_err-side.ensures (no_field FitsAlways side_word (word_free stream_side)
+    c.args.text.now c.in_ok-word.word.now c.in_ok-word.rest.now
     c.in_ok-word.ensures.0 c.in_ok-word.ensures.1 c.in_err-side.ensures)
