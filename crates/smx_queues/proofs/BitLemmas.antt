@@ -35,18 +35,8 @@ pub record IsOneChanged (words new : List ℕ) (n : ℕ) (mark : Bool) : Type 0 
 written : (words : List ℕ) (n old x : ℕ) (mark : Bool) → n < 64 * length words → old ≡ get_or words (n / 64) old
     → eqb (bit_at x (n % 64)) 1 ≡ mark → ((i : ℕ) → i < 64 → i ≢ n % 64 → bit_at x i ≡ bit_at old i)
     → IsOneChanged words (set words (n / 64) x) n mark
-written words n old x mark below read bit same = record {
-  many = length-set words (n / 64) x;
-  here = ap (λ (w : ℕ). eqb (bit_at w (n % 64)) 1) (get_or-set_same words (n / 64) x 0 within) ∙ bit;
-  others = λ m differ. elim (cases_eq (m / 64) (n / 64)) [
-    | inl word ↦ rw (word, get_or-set_same words (n / 64) x 0 within) (ap (λ (b : ℕ). eqb b 1)
-        (same (m % 64) (bit_below m) (λ b. differ (same_number m n word b))
-        ∙ ap (λ (w : ℕ). bit_at w (m % 64)) (read ∙ get_or_default words (n / 64) old 0 within)))
-    | inr other ↦ ap (λ (w : ℕ). eqb (bit_at w (m % 64)) 1) (get_or-set_other words (n / 64) (m / 64) x 0 other)
-  ];
-} where
-  within : n / 64 < length words
-  within = word_below words n below
+written words n old x mark below read bit same =
+    grind (arith, length-set, get_or-set_same, bit_below, same_number, get_or_default, get_or-set_other)
 
 -- a mark is set
 pub mark_set : (words : List ℕ) (n old : ℕ) → n < 64 * length words → old ≡ get_or words (n / 64) old
@@ -67,40 +57,17 @@ mark_cleared words n old below read =
 pub still_bits : (first new_first count : ℕ) (words new : List ℕ) (n : ℕ) (mark : Bool) → AreBits first count words
     → IsOneChanged words new n mark → n < count → new_first ≤ first → (mark ≡ true → new_first ≤ n / 64)
     → AreBits new_first count new
-still_bits first new_first count words new n mark h c lt le low = record {
-  before = λ m less. elim (cases_eq m n) [
-    | inl is ↦ rw is (c.here ∙ false_from_ne_true mark (λ t. let l = low t in omega (arith, is, less, l)))
-    | inr other ↦ c.others m other ∙ h.before m (omega (arith, less, le))
-  ];
-  first_in = omega (arith, le, c.many, h.first_in);
-  many = omega (arith, c.many, h.many);
-  small = omega (arith, c.many, h.small);
-  below = λ m t. elim (cases_eq m n) [
-    | inl is ↦ omega (arith, is, lt)
-    | inr other ↦ h.below m (sym (c.others m other) ∙ t)
-  ];
-}
+still_bits first new_first count words new n mark h c lt le low = grind arith
 
 -- if a mark was set, a number that was marked is still marked
 pub still_marked : (words new : List ℕ) (n : ℕ) → IsOneChanged words new n true → (m : ℕ) → bit_of words m ≡ true
     → bit_of new m ≡ true
-still_marked words new n c m was = elim (cases_eq m n) [
-  | inl is ↦ ap (bit_of new) is ∙ c.here
-  | inr other ↦ c.others m other ∙ was
-]
+still_marked words new n c m was = grind arith
 
 -- if a mark was cleared, a number is marked if it was, unless it is this one
 pub all_but_one : (words new : List ℕ) (n : ℕ) → IsOneChanged words new n false → (m : ℕ)
     → bit_of new m ≡ (bit_of words m && not (eqb n m))
-all_but_one words new n c m = elim (cases_eq m n) [
-  | inl is ↦ ap (bit_of new) is ∙ (c.here ∙ sym (and_right (bit_of words m) _ (ap not (eq-eqb n m (sym is)))))
-  | inr other ↦
-      let e : eqb n m ≡ false = ne_eqb n m (λ is. other (sym is)) in
-      c.others m other ∙ sym (rw e (and_not (bit_of words m)))
-] where
-  and_not : (b : Bool) → (b && not false) ≡ b
-  and_not true = refl
-  and_not false = refl
+all_but_one words new n c m = grind (arith, and_right)
 
 -- if a mark was cleared, there is one mark less before each later number, and as many before each other one
 one_less : (words new : List ℕ) (n : ℕ) → IsOneChanged words new n false → bit_of words n ≡ true → (k : ℕ)
@@ -125,15 +92,13 @@ one_less words new n c was (suc k) =
 -- if a mark was cleared, there are fewer marks
 pub fewer : (words new : List ℕ) (n : ℕ) → IsOneChanged words new n false → n < 64 * length words
     → bit_of words n ≡ true → count_below new (64 * length new) < count_below words (64 * length words)
-fewer words new n c below was =
-    let less = (one_less words new n c was (64 * length words)).0 below in rw c.many (omega (arith, less))
+fewer words new n c below was = grind (arith, one_less words new n c was (64 * length words))
 
 -- ---- the least mark
 
 -- no number of a word without marks is marked
 none_in : (words : List ℕ) (m : ℕ) → get_or words (m / 64) 0 ≡ 0 → bit_of words m ≡ false
-none_in words m empty = ap (λ (w : ℕ). eqb (bit_at w (m % 64)) 1) empty
-    ∙ ap (λ (b : ℕ). eqb b 1) (bit_at-zero (m % 64))
+none_in words m empty = grind (arith, bit_at-zero (m % 64))
 
 -- a number after the last word isn't marked
 pub none_past : (words : List ℕ) (m : ℕ) → length words ≤ m / 64 → bit_of words m ≡ false
@@ -158,10 +123,7 @@ bit_is words m w x i word bit read = rw (word, bit, ← read) refl
 
 -- a bit that is 1 is one of the lowest 64
 low_bit : (x i : ℕ) → x < 2 ^ 64 → bit_at x i ≡ 1 → i < 64
-low_bit x i fits one = elim (cases_lt i 64) [
-  | inl lt ↦ lt
-  | inr le ↦ let zero_bit = bit_at_above x 64 i fits le in absurd (omega (arith, one, zero_bit))
-]
+low_bit x i fits one = grind (arith, bit_at_above x 64 i fits)
 
 -- the lowest bit of the number's word, from the number's bit on, is the first mark
 pub found_here : (words : List ℕ) (n x : ℕ) → x ≡ get_or words (n / 64) 0 → x < 2 ^ 64 → 0 < x / 2 ^ (n % 64)
@@ -193,30 +155,14 @@ none_here words n x k read empty le word =
 none_between : (words : List ℕ) (n x next k : ℕ) → x ≡ get_or words (n / 64) 0 → x / 2 ^ (n % 64) ≡ 0
     → ((w : ℕ) → n / 64 + 1 ≤ w → w < next → get_or words w 0 ≡ 0) → n ≤ k → k / 64 < next
     → bit_of words k ≡ false
-none_between words n x next k read empty zeros le lt = elim (cases_eq (k / 64) (n / 64)) [
-  | inl word ↦ none_here words n x k read empty le word
-  | inr other ↦ none_in words k (zeros (k / 64) (omega (arith, other, le)) lt)
-]
+none_between words n x next k read empty zeros le lt = grind (arith, none_here, none_in, zeros (k / 64))
 
 -- the lowest bit of the next word with a bit is the first mark
 pub found_later : (words : List ℕ) (n x next y : ℕ) → x ≡ get_or words (n / 64) 0 → x / 2 ^ (n % 64) ≡ 0
     → ((w : ℕ) → n / 64 + 1 ≤ w → w < next → get_or words w 0 ≡ 0) → n / 64 + 1 ≤ next
     → y ≡ get_or words next 0 → 0 < y → y < 2 ^ 64 → IsFound words n (64 * next + trailing_zeros w64 y)
 found_later words n x next y read empty zeros later there some fits =
-    let z = bit_at-trailing_zeros w64 y some fits in
-    let bit : ℕ = trailing_zeros w64 y in
-    record {
-      from = omega (arith, later);
-      marked = bit_is words (64 * next + bit) next y bit (omega (arith, z.0)) (omega (arith, z.0)) there
-          ∙ ap (λ (b : ℕ). eqb b 1) z.1;
-      least = λ k le lt. elim (cases_lt (k / 64) next) [
-        | inl less ↦ none_between words n x next k read empty zeros le less
-        | inr more ↦
-            let word : k / 64 ≡ next = omega (arith, more, lt, z.0) in
-            bit_is words k next y (k % 64) word refl there
-            ∙ ap (λ (b : ℕ). eqb b 1) (z.2 (k % 64) (omega (arith, word, lt)))
-      ];
-    }
+    grind (arith, bit_at-trailing_zeros w64 y some fits, bit_is words, none_between words n x next)
 
 -- if no later word has a bit either, no number is marked from this number on
 pub none_later : (words : List ℕ) (n x next : ℕ) → x ≡ get_or words (n / 64) 0 → x / 2 ^ (n % 64) ≡ 0

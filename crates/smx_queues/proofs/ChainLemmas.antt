@@ -21,10 +21,7 @@ owned-other own key mark x differs = grind (arith, nat_tests)
 
 -- two owners with different places or ranks are the owners of different keys
 pub keys_differ : (own : ℕ → ℕ × ℕ) (x y i j r t : ℕ) → own x ≡ (i, r) → own y ≡ (j, t) → (i ≡ j → r ≡ t → ⊥) → x ≢ y
-keys_differ own x y i j r t e f apart same =
-    let both : own x ≡ own y = ap own same in
-    apart (sym (ap (λ o. o.0) e) ∙ ap (λ o. o.0) both ∙ ap (λ o. o.0) f)
-    (sym (ap (λ o. o.1) e) ∙ ap (λ o. o.1) both ∙ ap (λ o. o.1) f)
+keys_differ own x y i j r t e f apart same = grind arith
 
 -- a change that affects no node of a chain and none of its owners keeps the chain
 pub frame : (own own' : ℕ → ℕ × ℕ) (s s' : Slab Node) (p rank first : ℕ) (ms : List Message) (last : ℕ)
@@ -47,9 +44,7 @@ pub last_owner : (own : ℕ → ℕ × ℕ) (s : Slab Node) (p rank first : ℕ)
     → IsChain own s p rank first (m ∷ rest) last
     → (own last ≡ (p, rank + length rest)) × ((node : Node) × (get s last ≡ Some node))
 last_owner own s p rank first m [] last c = rw (← c.3 refl, add-zero rank) (c.2, (_, c.1))
-last_owner own s p rank first m (m2 ∷ rest) last c =
-    let t = last_owner own s p (suc rank) c.0 m2 rest last c.4 in
-    let e : suc rank + length rest ≡ rank + suc (length rest) = omega arith in (t.0 ∙ ap (λ (r : ℕ). (p, r)) e, t.1)
+last_owner own s p rank first m (m2 ∷ rest) last c = grind (arith, last_owner own s p (suc rank) c.0 m2 rest last c.4)
 
 -- the first key of the chain of these messages after one more node is added at the end
 abbrev pub first_with : List Message → ℕ → ℕ → ℕ
@@ -60,8 +55,7 @@ first_with (m ∷ rest) first key = first
 pub first_with_is : (count first key : ℕ) (ms : List Message) → count ≡ length ms
     → first_with ms first key ≡ cond (nat_eq count 0) key first
 first_with_is count first key [] e = rw e refl
-first_with_is count first key (m ∷ ms) e =
-    let test : nat_eq count 0 ≡ false = grind (arith, nat_tests) in rw test refl
+first_with_is count first key (m ∷ ms) e = grind (arith, nat_tests)
 
 -- a chain with one more node after its last one is a chain, and ends at the new node
 pub chain_more : (own own' : ℕ → ℕ × ℕ) (s s' : Slab Node) (p rank first : ℕ) (ms : List Message) (last key : ℕ)
@@ -100,5 +94,4 @@ chain_more own own' s s' p rank first (m ∷ m2 ∷ rest) last key node c owners
 pub walk_chain : (own : ℕ → ℕ × ℕ) (s : Slab Node) (p rank first : ℕ) (ms : List Message) (last : ℕ)
     → IsChain own s p rank first ms last → walk s (length ms) first ≡ ms
 walk_chain own s p rank first [] last c = refl
-walk_chain own s p rank first (m ∷ rest) last c =
-    rw c.1 (ap (λ (r : List Message). m ∷ r) (walk_chain own s p (suc rank) c.0 rest last c.4))
+walk_chain own s p rank first (m ∷ rest) last c = grind (arith, walk_chain own s p (suc rank) c.0 rest last c.4)

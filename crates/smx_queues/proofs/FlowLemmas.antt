@@ -1,7 +1,7 @@
 -- The flow and the full places that contracts see, when the queue of one place changes.
 use Rattle.std.proofs.Common.{◌≡◌, ◌≢◌, ℕ, suc, ◌+◌, ◌<◌, Bool, true, false, not, List, [], ◌∷◌, ◌++◌, length, drop}
 use Rattle.std.proofs.Common.{filter, map, set, get_or, Option, Some, None, IsSome, refl, sym, ap, ◌∙◌, subst, arith}
-use Rattle.std.proofs.Common.{inl, inr, length-append, add-one, append_assoc}
+use Rattle.std.proofs.Common.{inl, inr, length-append, add-one, append_assoc, rules}
 use Rattle.std.specs.Prelude.{IfNone, OnSome, slice_get, if◌then◌else◌, nat_lt}
 use Rattle.std.specs.List.{AllByRecursion, list_any}
 use Rattle.std.specs.Option.{is_some, option_map}
@@ -321,13 +321,8 @@ flow_length : (places : List Place) (queues : List (Option Queue)) → length qu
 flow_length [] [] many = refl
 flow_length [] (q ∷ queues) many = absurd (omega arith)
 flow_length (p ∷ places) [] many = absurd (omega arith)
-flow_length (p ∷ places) (q ∷ queues) many = omega (
-  arith,
-  length-append (queued_at p q) (flow_of places queues),
-  length-map (messages_in q) (placed p),
-  flow_length places queues (omega arith),
-  sum_by-cons (λ (x : Option Queue). length (messages_in x)) q queues,
-)
+flow_length (p ∷ places) (q ∷ queues) many =
+    search (rules, length-append, length-map, flow_length places queues (omega arith), sum_by-cons)
 
 -- the flow of a table has as many messages as all queues together
 pub total_is : (ds : List DriverSpec) (all : List (Option Queue)) → IsFlow ds all

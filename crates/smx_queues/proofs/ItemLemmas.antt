@@ -33,8 +33,7 @@ skip_inserted : {X : Type 0} (before : X → X → Bool) (x : X) (xs rest : List
     → AllByRecursion (λ y. before x y ≡ false) xs
     → with_inserted before (xs ++ rest) x ≡ xs ++ with_inserted before rest x
 skip_inserted before x [] rest h = refl
-skip_inserted {X} before x (y ∷ xs) rest h =
-    rw h.0 (ap (λ (ys : List X). y ∷ ys) (skip_inserted before x xs rest h.1))
+skip_inserted {X} before x (y ∷ xs) rest h = grind (arith, skip_inserted before x xs rest h.1)
 
 -- an element that comes before all others is inserted in front of them
 first_inserted : {X : Type 0} (before : X → X → Bool) (x : X) (xs : List X)
@@ -47,8 +46,7 @@ skip_without : {X : Type 0} (test : X → Bool) (xs : List X) (x : X) (rest : Li
     → AllByRecursion (λ y. test y ≡ false) xs → test x ≡ true
     → without_first test (xs ++ x ∷ rest) ≡ xs ++ rest
 skip_without test [] x rest h is = rw is refl
-skip_without {X} test (y ∷ xs) x rest h is =
-    rw h.0 (ap (λ (ys : List X). y ∷ ys) (skip_without test xs x rest h.1 is))
+skip_without {X} test (y ∷ xs) x rest h is = grind (arith, skip_without test xs x rest h.1 is)
 
 -- ---- the items of all places
 

@@ -1,7 +1,7 @@
 -- The places of some drivers, and the number of each.
 use Rattle.std.proofs.Common.{◌≡◌, ℕ, zero, suc, ◌+◌, ◌-◌, ◌*◌, ◌<◌, ◌≤◌, true, false, List, [], ◌∷◌, ◌++◌}
 use Rattle.std.proofs.Common.{length, drop, Option, Some, get_or, refl, sym, ap, ◌∙◌, arith, inl, inr, append_assoc}
-use Rattle.std.proofs.Common.{add-one, append-nil, length-append}
+use Rattle.std.proofs.Common.{add-one, append-nil, length-append, rules}
 use Rattle.std.specs.Prelude.{slice_get}
 use Rattle.std.specs.List.{list_any}
 use Rattle.std.specs.Option.{option_map_or}
@@ -47,8 +47,7 @@ get_left xs ys i x at = left_only xs ys i (slice_get_within xs i x at) ∙ at
 -- both sides of `n` minors are twice as many places
 pub sides_length : (driver n : ℕ) → length (sides_of driver n) ≡ 2 * n
 sides_length driver zero = refl
-sides_length driver (suc n) = length-append (sides_of driver n)
-    (place_at driver n side.Write ∷ place_at driver n side.Read ∷ []) ∙ omega (arith, sides_length driver n)
+sides_length driver (suc n) = grind (arith, length-append, place_at, sides_length driver n)
 
 -- of the two sides of a minor, the write side is the first and the read side the second
 last_two : (driver n : ℕ) (s : Side)
@@ -169,17 +168,12 @@ number_from : (first n : ℕ) (drivers : List DriverSpec) (p : Place) (k : ℕ) 
     → (i : ℕ) × ((first + i ≡ number_in row p) × (slice_get (places_from n drivers) i ≡ Some p))
 number_from first n [] p k row at is lt = absurd cc
 number_from first n (d ∷ drivers) p zero row at is lt =
-    let row_is : driver_row first d.minors ≡ row = same_Some (driver_row first d.minors) row at in
-    let below : p.stream.minor < d.minors = rw (← row_is) at lt in
-    let driver_is : n ≡ p.stream.driver = omega arith in
-    rw (← row_is) (
-      2 * p.stream.minor + side_number p.side,
-      (
-        omega arith,
-        get_left (sides_of n d.minors) (places_from (suc n) drivers) (2 * p.stream.minor + side_number p.side) p
-            (sides_at n d.minors p.stream.minor p.side below
-            ∙ ap (λ (x : ℕ). Some (place_at x p.stream.minor p.side)) driver_is),
-      ),
+    grind (
+      arith,
+      same_Some (driver_row first d.minors) row at,
+      get_left (sides_of n d.minors) (places_from (suc n) drivers) (2 * p.stream.minor + side_number p.side) p,
+      sides_at n d.minors p.stream.minor p.side,
+      place_at,
     )
 number_from first n (d ∷ drivers) p (suc k) row at is lt =
     let r = number_from (first + 2 * d.minors) (suc n) drivers p k row at (omega arith) lt in (
@@ -327,9 +321,4 @@ next_driver (first ∷ others) i rows places m lt is h =
 -- after the last driver, these are all rows and places
 pub all_drivers : (drivers : List DriverSpec) (i : ℕ) (rows : List DriverRow) (places : List Place) → length drivers ≤ i
     → AreSoFar drivers rows places i → ArePlaces drivers rows places
-all_drivers drivers i rows places past h =
-    let none : drop i drivers ≡ [] = drop_all i drivers past in
-    record {
-      rows_are = sym (append-nil rows) ∙ rw none at h.rows_left;
-      places_are = sym (append-nil places) ∙ rw none at h.places_left;
-    }
+all_drivers drivers i rows places past h = search (rules, drop_all)

@@ -54,30 +54,21 @@ pub clearing_goes_on : (old mid new : QueueTable) (p : ℕ) (m : Message) → Is
     → new.queues ≡ with_queue mid.queues p (without_front (queue_at mid.queues p)) → new.spare ≡ mid.spare + 1
     → IsClearing old new p
 clearing_goes_on old mid new p m c taken gone room =
-    let below = place_below mid.queues p c.there in
-    let left = set_at mid.queues p (without_front (queue_at mid.queues p)) below in
-    let some = first_some (queue_at mid.queues p).messages m taken in
-    record {
-      there = rw (gone, get_or-set_same mid.queues p (Some (without_front (queue_at mid.queues p))) None below) refl;
-      cleared = rw (gone, left) (set-set mid.queues p _ _) ∙ c.cleared;
-      spare = rw (gone, left) (omega (arith, room, some, c.spare, length-drop 1 (queue_at mid.queues p).messages));
-    }
+    grind (arith, place_below, set_at, first_some, get_or-set_same, set-set, length-drop)
 
 -- setting a queue at the lowest number without a place adds a place
 pub placed_at : (view : List (Option Queue)) (p : ℕ) (q : Queue) → p ≡ least_vacant view → p < length view
     → set view p (Some q) ≡ with_place view q
 placed_at [] p q e lt = absurd (omega (arith, lt))
 placed_at (None ∷ view) p q e lt = rw e refl
-placed_at (Some x ∷ view) p q e lt = rw e (ap (λ (rest : List (Option Queue)). Some x ∷ rest)
-    (placed_at view (least_vacant view) q refl (omega (arith, e, lt))))
+placed_at (Some x ∷ view) p q e lt = grind (arith, placed_at view (least_vacant view) q refl (omega (arith, e, lt)))
 
 -- if each number has a place, appending a queue adds a place
 pub placed_last : (view : List (Option Queue)) (q : Queue) → length view ≡ least_vacant view
     → view ++ Some q ∷ [] ≡ with_place view q
 placed_last [] q e = refl
 placed_last (None ∷ view) q e = absurd (omega (arith, e))
-placed_last (Some x ∷ view) q e =
-    ap (λ (rest : List (Option Queue)). Some x ∷ rest) (placed_last view q (omega (arith, e)))
+placed_last (Some x ∷ view) q e = grind (arith, placed_last view q (omega (arith, e)))
 
 -- the chain has no place
 abbrev pub goes : Chain → Bool
@@ -86,20 +77,12 @@ goes chain = not chain.there
 -- the lowest number without a place is that of the first chain without a place
 least_is : (s : Slab Node) (chains : List Chain) → least_vacant (map (slot_of s) chains) ≡ position_or_len goes chains
 least_is s [] = refl
-least_is s (chain ∷ chains) = elim (cases_Bool chain.there) [
-  | inl t ↦ rw t (omega (arith, least_is s chains))
-  | inr f ↦ rw f refl
-]
+least_is s (chain ∷ chains) = grind (arith, least_is s chains)
 
 -- if a search finds the first chain without a place, its number is the lowest without a place
 pub vacant_found : (s : Slab Node) (chains : List Chain) (p : ℕ) → Some p ≡ position goes chains
     → (p < length chains) × ((chain_at chains p).there ≡ false) × (p ≡ least_vacant (map (slot_of s) chains))
-vacant_found s chains p found =
-    let f = position-Some goes chains p no_chain (sym found) in (
-      f.0,
-      not-true _ f.1,
-      sym (least_is s chains ∙ position_or_len_is goes chains p no_chain (omega (arith, f.0)) f.2 (λ _. f.1)),
-    )
+vacant_found s chains p found = grind (arith, position-Some, goes, least_is, position_or_len_is)
 
 -- if a search finds no chain without a place, the next number is the lowest without a place
 pub vacant_not_found : (s : Slab Node) (chains : List Chain) → None ≡ position goes chains

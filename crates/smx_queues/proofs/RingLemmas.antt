@@ -306,18 +306,9 @@ read_at xs i x below read = read ∙ get_or_default xs i x 0 below
 -- if the ring of a number is set twice, the second ring counts
 pub entered : (old mid new : RingTable) (p n : ℕ) → mid ≡ record old { owners = set old.owners p 0 }
     → new ≡ record mid { owners = set mid.owners p n } → new ≡ record old { owners = set old.owners p n }
-entered old mid new p n first second = second
-    ∙ subst (λ (m : RingTable). record m { owners = set m.owners p n } ≡ record old { owners = set old.owners p n })
-    (sym first) (ap (λ (xs : List ℕ). record old { owners = xs }) (set-set old.owners p 0 n))
+entered old mid new p n first second = grind (arith, set-set old.owners p 0 n)
 
 -- if a number leaves its ring, fewer numbers are in rings
 pub fewer_in : (owners : List ℕ) (p q : ℕ) → at owners p ≡ suc q
     → count_by (λ n. not (n == 0)) (set owners p 0) < count_by (λ n. not (n == 0)) owners
-fewer_in owners p q its = elim (cases_lt p (length owners)) [
-  | inl below ↦
-      let both = sum_by-set (λ (n : ℕ). cond (not (n == 0)) 1 0) owners p 0 0 below in
-      let some : (at owners p == 0) ≡ false = ne_eqb (at owners p) 0 (λ z. omega (arith, its, z)) in
-      let one : cond {A = ℕ} (not (at owners p == 0)) 1 0 ≡ 1 = rw some refl in
-      omega (arith, both, one)
-  | inr past ↦ absurd (omega (arith, its, get_or_past owners p 0 past))
-]
+fewer_in owners p q its = grind (arith, sum_by-set, at owners p == 0, at owners p, get_or_past owners p 0)

@@ -56,34 +56,13 @@ one_arrived chain m ms key more = rw more refl
 -- a chain without nodes has no messages
 pub has_none : (chain : Chain) → chain.count ≡ 0 → chain.bytes ≡ 0 → chain.high ≤ 4096 → chain.low < chain.high
     → HasMessages chain []
-has_none chain count bytes high low = record {
-  count = count;
-  bytes = bytes;
-  have_bytes = All-nil HasBytesThatFit;
-  open_below_high = λ _. omega (arith, low, bytes);
-  high_bounded = high;
-  low_below = low;
-  none_if_gone = λ _. refl;
-}
+has_none chain count bytes high low = grind (arith, All-nil HasBytesThatFit)
 
 -- without its first node, a chain has the later messages
 has_fewer : (chain : Chain) (m : Message) (rest : List Message) (next : ℕ) → HasMessages chain (m ∷ rest)
     → HasMessages (chain_without_first chain next (size m)) rest
 has_fewer chain m rest next h =
-    let left : chain.bytes - size m ≡ bytes_of rest = omega (arith, h.bytes, sum_by-cons size m rest) in
-    record {
-      count = omega (arith, h.count);
-      bytes = left;
-      have_bytes = All-tail HasBytesThatFit m rest h.have_bytes;
-      open_below_high = λ e. elim (cases_Bool chain.full) [
-        | inl marked ↦ let n : nat_lt chain.low (chain.bytes - size m) ≡ false = rw marked at e in
-            grind (arith, nat_tests, h.low_below, n)
-        | inr clear ↦ omega (arith, h.open_below_high clear)
-      ];
-      high_bounded = h.high_bounded;
-      low_below = h.low_below;
-      none_if_gone = λ gone. absurd (let e = h.none_if_gone gone in cc);
-    }
+    grind (arith, sum_by-cons size m rest, All-tail HasBytesThatFit m rest h.have_bytes, nat_tests)
 
 -- with one more node after its last one, a chain has its message too
 has_more : (chain : Chain) (ms : List Message) (key : ℕ) (m : Message) → HasMessages chain ms → chain.there ≡ true
@@ -107,17 +86,14 @@ few_messages (m ∷ ms) h =
 
 -- the chain of a place that is not full has fewer than 4,096 nodes
 pub open_count : (chain : Chain) (ms : List Message) → HasMessages chain ms → chain.full ≡ false → chain.count < 4096
-open_count chain ms h clear =
-    omega (arith, h.count, few_messages ms h.have_bytes, h.open_below_high clear, h.high_bounded, h.bytes)
+open_count chain ms h clear = grind (arith, few_messages ms h.have_bytes, h.open_below_high clear)
 
 -- ---- one chain
 
 -- a walk along a chain meets its messages
 pub walked : (own : ℕ → ℕ × ℕ) (s : Slab Node) (p : ℕ) (chain : Chain) (l : IsQueue own s p chain)
     → walk s chain.count chain.first ≡ l.messages
-walked own s p chain l =
-    ap (λ (n : ℕ). walk s n chain.first) l.has.count
-    ∙ walk_chain own s p l.rank chain.first l.messages chain.last l.nodes
+walked own s p chain l = grind (arith, walk_chain own s p l.rank chain.first l.messages chain.last l.nodes)
 
 -- a change that affects no node of a place keeps its queue
 abbrev queue_kept : (own own' : ℕ → ℕ × ℕ) (s s' : Slab Node) (p : ℕ) (chain : Chain)
@@ -430,29 +406,13 @@ remarked s chains sound p there none chain read exists marked =
 pub again : (s : Slab Node) (chains : List Chain) (sound : IsSound s chains) (p : ℕ) (after : Chain) → p < length chains
     → (chain_at chains p).there ≡ false → HasMessages after []
     → IsNow sound.own s (set chains p after) 0 (set (map (slot_of s) chains) p (as_slot after []))
-again s chains sound p after below gone has =
-    let l = sound.store.each p below in
-    reset s chains sound p after below
-    (l.has.count ∙ ap (λ (ms : List Message). length ms) (l.has.none_if_gone gone)) has
+again s chains sound p after below gone has = grind (arith, reset s chains sound p after below)
 
 -- if a chain without nodes is added after all others, contracts see its queue after the others
 pub pushed : (s : Slab Node) (chains : List Chain) (sound : IsSound s chains) (after : Chain) → HasMessages after []
     → IsNow sound.own s (chains ++ after ∷ []) 0 (map (slot_of s) chains ++ as_slot after [] ∷ [])
-pushed s chains sound after has = record {
-  store = record {
-    each = λ i below. elim (cases_lt i (length chains)) [
-      | inl old ↦ rw (get_or_append_left chains (after ∷ []) no_chain i old) (sound.store.each i old)
-      | inr last ↦
-          let e : i ≡ length chains = omega (arith, length-append chains (after ∷ [])) in
-          rw (get_or_push chains after no_chain i (sym e)) l
-    ];
-    counted = omega (arith, sound.store.counted, has.count, sum_by_push (λ (chain : Chain). chain.count) chains after);
-  };
-  is = map-append (slot_of s) chains (after ∷ [])
-      ∙ ap (λ (o : Option Queue). map (slot_of s) chains ++ o ∷ []) (ap (as_slot after) (walked sound.own s 0 after l));
-} where
-  l : {i : ℕ} → IsQueue sound.own s i after
-  l {i} = record { messages = []; rank = 0; nodes = tt; has = has }
+pushed s chains sound after has =
+    grind (arith, get_or_append_left, length-append, get_or_push, sum_by_push, map-append, walked)
 
 -- ---- all chains, unchanged
 

@@ -44,7 +44,4 @@ lines_more n (p ∷ q ∷ ps) d c h =
 pub last_more : (ps : List (List Command)) (len : ℕ) (old new : List Command) (c : Command) → 0 < length ps
     → len ≡ length ps → old ≡ get_or ps (len - 1) old → new ≡ old ++ c ∷ []
     → set ps (len - 1) new ≡ set ps (length ps - 1) (get_or ps (length ps - 1) [] ++ c ∷ [])
-last_more ps len old new c some is here more =
-    let first : old ≡ get_or ps (len - 1) [] = get_or_read ps (len - 1) old (omega (arith, some, is)) here [] in
-    let last : old ≡ get_or ps (length ps - 1) [] = first ∙ ap (λ (n : ℕ). get_or ps (n - 1) []) is in
-    rw (is, more) (ap (λ (o : List Command). set ps (length ps - 1) (o ++ c ∷ [])) last)
+last_more ps len old new c some is here more = grind (arith, get_or_read, set)

@@ -1,5 +1,6 @@
 -- A transcript whose history was written piece by piece.
 use Rattle.std.proofs.Common.{◌≡◌, ℕ, List, [], ◌∷◌, ◌++◌, length, take, drop, map, refl, sym, ap, ◌∙◌, append_assoc}
+use Rattle.std.proofs.Common.{arith}
 use Rattle.std.proofs.Math.Seq.{take-append_seam, drop-append_seam}
 use Rattle.std.proofs.lemmas.List.{append-nil, map-append}
 use Rattle.std.proofs.lemmas.Simd.{map-map}
@@ -23,15 +24,7 @@ use Rattle.smx_types.specs.declared.version.Version.{Version}
 -- the header and the driver lines begin a transcript with these drivers and no entry yet
 pub begun : (version : Version) (drivers : List DriverSpec) (text : List ℕ) → text ≡ opening_text version drivers
     → AllByRecursion FitsDriver drivers → BeginsTranscript version drivers [] text
-begun version drivers text is fits = record {
-  written = rw (
-    append-nil (map row.Driver drivers),
-    beginning_is (transcript_grammar version) (map row.Driver drivers),
-    map-map transcript_words row.Driver drivers,
-  ) is;
-  drivers_fit = fits;
-  entries_fit = tt;
-}
+begun version drivers text is fits = grind (arith, append-nil, beginning_is, map-map)
 
 -- if bytes begin a transcript, the bytes with the lines of more entries begin the one with these entries too
 pub grown : (version : Version) (drivers : List DriverSpec) (before more : List Entry) (old new : List ℕ)
@@ -65,8 +58,7 @@ one_line_more entries e old new added fits were = record {
 -- bytes written after others and then rotated to the front come before them
 turned : (lines opening all text : List ℕ) (n : ℕ) → n ≡ length lines → all ≡ lines ++ opening
     → text ≡ drop n all ++ take n all → text ≡ opening ++ lines
-turned lines opening all text n many whole now =
-    now ∙ rw (whole, many) (rw (drop-append_seam lines opening, take-append_seam lines opening) refl)
+turned lines opening all text n many whole now = grind (arith, drop-append_seam, take-append_seam)
 
 -- the lines of entries, with the header and the driver lines rotated to the front, begin a transcript
 pub around : (version : Version) (drivers : List DriverSpec) (entries : List Entry) (lines all text : List ℕ) (n : ℕ)
@@ -95,8 +87,4 @@ finished version drivers entries v start view end a b was =
 pub finished_fits : (version : Version) (drivers : List DriverSpec) (entries : List Entry) (v : ConfigView)
     (start : List ℕ) → IsSpellableView v → BeginsTranscript version drivers entries start
     → IsSpellable (transcript_with version drivers entries v)
-finished_fits version drivers entries v start fits was = record {
-  drivers = was.drivers_fit;
-  entries = was.entries_fit;
-  view = fits;
-}
+finished_fits version drivers entries v start fits was = grind arith

@@ -14,9 +14,7 @@ is_first false h = refl
 
 -- as many drivers as version 1 allows, or fewer, are no reason for version 2
 pub few_drivers : (ds : List DriverSpec) → length ds ≤ most_drivers V1 → are_more_drivers ds ≡ false
-few_drivers ds few =
-    false_from_ne_true (are_more_drivers ds)
-    (λ more. omega (arith, ltb-true MAX_DRIVERS_OF_VERSION_1 (length ds) more, few))
+few_drivers ds few = grind arith
 
 -- if the drivers are no reason for version 2, there are at most as many as version 1 allows
 pub not_more : (ds : List DriverSpec) → are_more_drivers ds ≡ false → length ds ≤ most_drivers V1

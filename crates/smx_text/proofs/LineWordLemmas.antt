@@ -27,10 +27,7 @@ one_line_of ws h = line_free LINE_FEED (λ e. cc) ws (words_free LINE_FEED (omeg
 
 -- bytes that compare as unequal are not equal
 pub differ : (w v : List ℕ) → bytes_eq w v ≡ false → w ≢ v
-differ w v other e =
-    let same = (bytes_eq-Decides w v).1 e in
-    let bad : true ≡ false = sym same ∙ other in
-    absurd (cc bad)
+differ w v other e = grind (arith, bytes_eq-Decides w v)
 
 -- words without a space are the words of any line with the same bytes
 pub told : (ws vs : List (List ℕ)) → AllByRecursion (IsFree SPACE) ws × (0 < length ws) → AreWords vs

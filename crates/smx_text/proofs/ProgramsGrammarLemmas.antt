@@ -46,20 +46,15 @@ command_first c = (refl, refl, refl)
 -- two lines of programs that fit a version and have the same words are equal
 words_apart : (version : Version) (k l : Line) → FitsLine version k → FitsLine version l → line_words k ≡ line_words l
     → k ≡ l
-words_apart version (line.Driver d) (line.Driver e) fits also ws =
-    ap line.Driver (one driver_has_words d e fits also ws)
-words_apart version (line.Process n) (line.Process m) fits also ws =
-    ap line.Process (one process_has_words n m fits also ws)
-words_apart version (line.Command c) (line.Command d) fits also ws =
-    ap line.Command (one command_has_words c d fits.0 also.0 ws)
+words_apart version (line.Driver d) (line.Driver e) fits also ws = grind (arith, one, driver_has_words)
+words_apart version (line.Process n) (line.Process m) fits also ws = grind (arith, one, process_has_words)
+words_apart version (line.Command c) (line.Command d) fits also ws = grind (arith, one, command_has_words)
 words_apart version line.End line.End fits also ws = refl
 words_apart version (line.Command c) (line.Driver d) fits also ws = absurd (other_first _ _ (command_first c).0 ws)
 words_apart version (line.Command c) (line.Process n) fits also ws = absurd (other_first _ _ (command_first c).1 ws)
 words_apart version (line.Command c) line.End fits also ws = absurd (other_first _ _ (command_first c).2 ws)
-words_apart version (line.Driver d) (line.Command c) fits also ws =
-    absurd (other_first _ _ (command_first c).0 (sym ws))
-words_apart version (line.Process n) (line.Command c) fits also ws =
-    absurd (other_first _ _ (command_first c).1 (sym ws))
+words_apart version (line.Driver d) (line.Command c) fits also ws = grind (arith, other_first, command_first)
+words_apart version (line.Process n) (line.Command c) fits also ws = grind (arith, other_first, command_first)
 words_apart version line.End (line.Command c) fits also ws = absurd (other_first _ _ (command_first c).2 (sym ws))
 words_apart version k l fits also ws = absurd (other_first _ _ refl ws)
 

@@ -70,9 +70,7 @@ machine version = record {
 -- if a line may follow and is not the end, the programs with it have the same lines and then this one
 body_more : (v : ProgramLists) (k : Line) → takes v k ≡ true → k ≢ line.End
     → body (with_line v k) ≡ body v ++ k ∷ []
-body_more v (line.Driver d) h other =
-    let none : v.programs ≡ [] = nil_from_length v.programs (grind (arith, nat_tests)) in
-    rw (none, map_push line.Driver v.drivers d) (simp append_assoc)
+body_more v (line.Driver d) h other = search (rules, nil_from_length, nat_tests, map_push)
 body_more v (line.Process n) h other = added_process v.drivers v.programs n (grind (arith, nat_tests))
 body_more v (line.Command c) h other =
     rw (lines_more 0 v.programs [] c (grind (arith, nat_tests))) (simp append_assoc)
@@ -81,73 +79,17 @@ body_more v line.End h other = absurd (other refl)
 -- programs that are within the limits with one more line were so before it, and the limit for it was not reached
 before : (version : Version) (v : ProgramLists) (k : Line) → takes v k ≡ true → AreWithin version (with_line v k)
     → AreWithin version v × (is_full v k ≡ false)
-before version v (line.Driver d) h w =
-    let long = length-append v.drivers (d ∷ []) in
-    let most = ap most_drivers w.version_is in
-    let few = w.drivers in (
-      record { version_is = w.version_is; drivers = omega arith; programs = w.programs; commands = w.commands },
-      grind (arith, nat_tests),
-    )
-before version v (line.Process n) h w =
-    let long = length-append v.programs ([] ∷ []) in
-    let few = w.programs in
-    let sum = sum_by-append (length {A = Command}) v.programs ([] ∷ []) in (
-      record {
-        version_is = w.version_is;
-        drivers = w.drivers;
-        programs = omega arith;
-        commands = omega (arith, w.commands, sum);
-      },
-      grind (arith, nat_tests),
-    )
-before version v (line.Command c) h w =
-    let old = get_or v.programs (length v.programs - 1) [] in
-    let same = length-set v.programs (length v.programs - 1) (old ++ c ∷ []) in
-    let some : 0 < length v.programs = grind (arith, nat_tests) in
-    let sum = sum_by-set (length {A = Command}) v.programs (length v.programs - 1) (old ++ c ∷ []) [] (omega arith) in
-    let long = length-append old (c ∷ []) in
-    let few = w.commands in (
-      record {
-        version_is = w.version_is;
-        drivers = w.drivers;
-        programs = omega (arith, w.programs);
-        commands = omega arith;
-      },
-      grind (arith, nat_tests),
-    )
+before version v (line.Driver d) h w = grind (arith, length-append v.drivers (d ∷ []), nat_tests)
+before version v (line.Process n) h w = grind (arith, length-append, sum_by-append, nat_tests)
+before version v (line.Command c) h w = grind (arith, length-set, nat_tests, sum_by-set, length-append)
 before version v line.End h w = (w, refl)
 
 -- programs within the limits stay within them with one more line, if it may follow and its limit is not reached
 behind : (version : Version) (v : ProgramLists) (k : Line) → takes v k ≡ true → is_full v k ≡ false
     → AreWithin version v → AreWithin version (with_line v k)
-behind version v (line.Driver d) h room w =
-    let long = length-append v.drivers (d ∷ []) in
-    let most = ap most_drivers w.version_is in
-    let few : length v.drivers < most_drivers v.version = grind (arith, nat_tests) in
-    record { version_is = w.version_is; drivers = omega arith; programs = w.programs; commands = w.commands }
-behind version v (line.Process n) h room w =
-    let long = length-append v.programs ([] ∷ []) in
-    let few : length v.programs < MAX_PROCESSES = grind (arith, nat_tests) in
-    let sum = sum_by-append (length {A = Command}) v.programs ([] ∷ []) in
-    record {
-      version_is = w.version_is;
-      drivers = w.drivers;
-      programs = omega arith;
-      commands = omega (arith, w.commands, sum);
-    }
-behind version v (line.Command c) h room w =
-    let old = get_or v.programs (length v.programs - 1) [] in
-    let same = length-set v.programs (length v.programs - 1) (old ++ c ∷ []) in
-    let some : 0 < length v.programs = grind (arith, nat_tests) in
-    let sum = sum_by-set (length {A = Command}) v.programs (length v.programs - 1) (old ++ c ∷ []) [] (omega arith) in
-    let long = length-append old (c ∷ []) in
-    let few : sum_by length v.programs < MAX_COMMANDS = grind (arith, nat_tests) in
-    record {
-      version_is = w.version_is;
-      drivers = w.drivers;
-      programs = omega (arith, w.programs);
-      commands = omega arith;
-    }
+behind version v (line.Driver d) h room w = grind (arith, length-append v.drivers (d ∷ []), nat_tests)
+behind version v (line.Process n) h room w = grind (arith, length-append, nat_tests, sum_by-append)
+behind version v (line.Command c) h room w = grind (arith, length-set, nat_tests, sum_by-set, length-append)
 behind version v line.End h room w = w
 
 -- ---- the lines of programs lead to these programs
@@ -156,9 +98,7 @@ behind version v line.End h room w = w
 last_seam : (ps : List (List Command)) (cs : List Command) (c : Command)
     → set (ps ++ cs ∷ []) (length (ps ++ cs ∷ []) - 1)
     (get_or (ps ++ cs ∷ []) (length (ps ++ cs ∷ []) - 1) [] ++ c ∷ []) ≡ ps ++ (cs ++ c ∷ []) ∷ []
-last_seam ps cs c =
-    let last : length (ps ++ cs ∷ []) - 1 ≡ length ps = omega (arith, length-append ps (cs ∷ [])) in
-    rw (last, get_or-append_seam ps cs [] [], set-append_seam) refl
+last_seam ps cs c = grind (arith, length-append ps (cs ∷ []), get_or-append_seam ps cs, set-append_seam)
 
 module _ (version : Version) (ds : List DriverSpec) where
   -- programs of this version with these drivers
@@ -188,33 +128,7 @@ leads version v =
 
 -- the machine reads the programs text
 pub reader : (version : Version) → IsReader (programs_grammar version) (machine version)
-reader version = record {
-  no_lines = refl;
-  starts_within = record { version_is = refl; drivers = omega arith; programs = omega arith; commands = omega arith };
-  longer = body_more;
-  within_before = before version;
-  within_after = behind version;
-  leads = leads version;
-  ends = λ v. refl;
-  fits = λ v allowed. allowed.fits;
-  within = λ v allowed. record {
-    version_is = refl;
-    drivers = allowed.drivers;
-    programs = allowed.programs;
-    commands = allowed.commands;
-  };
-  value = λ v allowed. ap (λ (n : Version). record v { version = n }) (sym allowed.version_is);
-  completes = λ v. sym (append-nil (body v));
-  no_more = λ v may. refl;
-  allowed = λ v within fits. record {
-    version_is = within.version_is;
-    drivers = within.drivers;
-    programs = within.programs;
-    commands = within.commands;
-    fits = fits;
-  };
-  end_has_room = λ v. refl;
-}
+reader version = grind (arith, body_more, before version, behind version, leads, leads version, append-nil)
 
 -- the lines of programs lead the machine of their version to them
 pub stands : (v : ProgramLists) → IsAt (programs_grammar v.version) (machine v.version) (body v) v

@@ -65,17 +65,13 @@ spelling version line.End fits = end_spelled
 -- words that do not begin with digits are not those of an entry
 not_entry : (e : Entry) → FitsEntry e → (ws : List (List ℕ)) → entry_words e ≡ ws
     → all_ascii_digits (first_word ws) ≡ false → ⊥
-not_entry e fits ws is h =
-    let digits = digits_decimal own e.process (omega (arith, fits.process)) in
-    let same = ap (λ (vs : List (List ℕ)). all_ascii_digits (first_word vs)) is in absurd cc
+not_entry e fits ws is h = grind (arith, digits_decimal, own, first_word)
 
 -- two lines of a transcript that fit a version and have the same words are equal
 words_apart : (version : Version) (k l : TranscriptLine) → FitsLine version k → FitsLine version l
     → line_words k ≡ line_words l → k ≡ l
-words_apart version (line.Driver d) (line.Driver e) fits also ws =
-    ap line.Driver (one driver_has_words d e fits also ws)
-words_apart version (line.Entry d) (line.Entry e) fits also ws =
-    ap line.Entry (one entry_has_words d e fits.0 also.0 ws)
+words_apart version (line.Driver d) (line.Driver e) fits also ws = grind (arith, one, driver_has_words)
+words_apart version (line.Entry d) (line.Entry e) fits also ws = grind (arith, one, entry_has_words)
 words_apart version line.Config line.Config fits also ws = refl
 words_apart version (line.Next id serial) (line.Next jd terial) fits also ws =
     ap (λ (p : ℕ × ℕ). line.Next p.0 p.1) (one next_has_words (id, serial) (jd, terial) fits also ws)

@@ -86,29 +86,15 @@ longer s t k h other = absurd cc
 -- a draft that is within the limits with one more line was so before it, and the limit for it was not reached
 before : (version : Version) (d : TranscriptDraft) (k : TranscriptLine) → IsWithin version (with_line d k)
     → IsWithin version d × (is_full d k ≡ false)
-before version d (line.Driver x) w =
-    let long = length-append d.transcript.drivers (x ∷ []) in
-    let most = ap most_drivers w.version_is in
-    let few = w.drivers in
-    (record { version_is = w.version_is; drivers = omega arith; entries = w.entries }, grind (arith, nat_tests))
-before version d (line.Entry x) w =
-    let long = length-append d.transcript.entries (x ∷ []) in
-    let few = w.entries in
-    (record { version_is = w.version_is; drivers = w.drivers; entries = omega arith }, grind (arith, nat_tests))
+before version d (line.Driver x) w = grind (arith, length-append d.transcript.drivers (x ∷ []), nat_tests)
+before version d (line.Entry x) w = grind (arith, length-append d.transcript.entries (x ∷ []), nat_tests)
 before version d k w = (record { version_is = w.version_is; drivers = w.drivers; entries = w.entries }, refl)
 
 -- a draft within the limits stays within them with one more line whose limit is not reached
 behind : (version : Version) (d : TranscriptDraft) (k : TranscriptLine) → is_full d k ≡ false → IsWithin version d
     → IsWithin version (with_line d k)
-behind version d (line.Driver x) room w =
-    let long = length-append d.transcript.drivers (x ∷ []) in
-    let most = ap most_drivers w.version_is in
-    let few : length d.transcript.drivers < most_drivers d.transcript.version = grind (arith, nat_tests) in
-    record { version_is = w.version_is; drivers = omega arith; entries = w.entries }
-behind version d (line.Entry x) room w =
-    let long = length-append d.transcript.entries (x ∷ []) in
-    let few : length d.transcript.entries < MAX_COMMANDS = grind (arith, nat_tests) in
-    record { version_is = w.version_is; drivers = w.drivers; entries = omega arith }
+behind version d (line.Driver x) room w = grind (arith, length-append d.transcript.drivers (x ∷ []), nat_tests)
+behind version d (line.Entry x) room w = grind (arith, length-append d.transcript.entries (x ∷ []), nat_tests)
 behind version d k room w = record { version_is = w.version_is; drivers = w.drivers; entries = w.entries }
 
 -- ---- the lines of a transcript lead to it
@@ -233,7 +219,4 @@ comes stage.View t = leads t.version t.view t
 
 -- the lines of a draft lead the machine of its version and view to it
 pub stands : (d : TranscriptDraft) → IsAt (grammar_of d) (machine d.transcript.version d.transcript.view) (lines d) d
-stands d = record {
-  reader = reader d.transcript.version d.transcript.view;
-  comes = comes d.stage d.transcript;
-}
+stands d = grind (arith, reader, reader d.transcript.version d.transcript.view, comes, comes d.stage d.transcript)

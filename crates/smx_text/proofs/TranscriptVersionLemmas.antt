@@ -35,9 +35,7 @@ each_hung (h ∷ hs) = (tt, each_hung hs)
 -- version 1 can express entries if none involves a hangup
 none_of_hangup : (es : List Entry) → list_any is_of_hangup es ≡ false → AreEntriesIn V1 es
 none_of_hangup [] h = tt
-none_of_hangup (e ∷ es) h =
-    let both = or_parts (is_of_hangup e) (list_any is_of_hangup es) h in
-    (both.0, none_of_hangup es both.1)
+none_of_hangup (e ∷ es) h = grind (arith, none_of_hangup es)
 
 -- version 1 can express an empty list of hung-up streams
 none_hung : (hs : List HungLine) → nat_lt 0 (length hs) ≡ false → AreHungsIn V1 hs
@@ -47,17 +45,13 @@ none_hung (x ∷ hs) h = let some : nat_lt 0 (length (x ∷ hs)) ≡ true = grin
 -- a version not before the earliest one for a transcript can express its entries
 pub entries_expressed : (version : Version) (t : Transcript) → (version ≡ V1 → least_of_transcript t ≡ V1)
     → AreEntriesIn version t.entries
-entries_expressed V1 t told =
-    let two = or_parts (are_more_drivers t.drivers) _ (is_first _ (told refl)) in
-    none_of_hangup t.entries (or_parts (list_any is_of_hangup t.entries) _ two.1).0
+entries_expressed V1 t told = grind (arith, is_first _ (told refl), told refl, none_of_hangup t.entries)
 entries_expressed V2 t told = each_entry t.entries
 
 -- a version not before the earliest one for a transcript can express its hung-up streams
 pub hungs_expressed : (version : Version) (t : Transcript) → (version ≡ V1 → least_of_transcript t ≡ V1)
     → AreHungsIn version t.view.hungs
-hungs_expressed V1 t told =
-    let two = or_parts (are_more_drivers t.drivers) _ (is_first _ (told refl)) in
-    none_hung t.view.hungs (or_parts (list_any is_of_hangup t.entries) _ two.1).1
+hungs_expressed V1 t told = grind (arith, is_first _ (told refl), told refl, none_hung t.view.hungs)
 hungs_expressed V2 t told = each_hung t.view.hungs
 
 -- ---- a transcript whose lines fit version 1 needs no later version
@@ -76,6 +70,5 @@ no_hung (x ∷ hs) h = absurd (cc h.0)
 pub needs_no_later : (version : Version) (t : Transcript) → length t.drivers ≤ most_drivers version
     → AreEntriesIn version t.entries → AreHungsIn version t.view.hungs
     → version ≡ V1 → least_of_transcript t ≡ V1
-needs_no_later V1 t few entries hungs is =
-    rw (few_drivers t.drivers few, no_hangup t.entries entries, no_hung t.view.hungs hungs) refl
+needs_no_later V1 t few entries hungs is = grind (arith, few_drivers, no_hangup, no_hung)
 needs_no_later V2 t few entries hungs is = absurd (cc is)

@@ -33,10 +33,7 @@ one_line_more before ws = append_assoc before (line_of ws) (LINE_FEED ∷ [])
 one_more : (ps : List (List Command)) (i : ℕ) (cs : List Command) → i < length ps → cs ≡ get_or ps i cs
     → program_lines 0 (take (i + 1) ps) ≡ program_lines 0 (take i ps) ++ line.Process i ∷ map line.Command cs
 one_more ps i cs lt e =
-    let len : 0 + length (take i ps) ≡ i = omega (arith, length-take-le i ps (omega arith)) in
-    let all : take (i + 1) ps ≡ take i ps ++ cs ∷ [] = take_more ps i cs lt
-    ∙ ap (λ (c : List Command). take i ps ++ c ∷ []) (sym e) in
-    rw (all, lines_add 0 (take i ps) cs, len) refl
+    grind (arith, length-take-le i ps (omega arith), take_more ps i cs lt, lines_add 0 (take i ps) cs)
 
 -- the text of some programs and the next one is theirs, the line of its process, and its commands
 pub program_text : (ps : List (List Command)) (i : ℕ) (cs : List Command) → i < length ps → cs ≡ get_or ps i cs
