@@ -19,8 +19,7 @@ some_driver = record { name = []; kind = Leaf; minors = 0; high = 0; low = 0; ma
 -- the name of a driver that exists
 pub name_at : (drivers : List DriverSpec) (n : ℕ) → n < length drivers
     → name_of drivers n ≡ (get_or drivers n some_driver).name
-name_at drivers n lt =
-    ap (λ (o : Option DriverSpec). option_map_or (λ d. d.name) o []) (slice_get-get_or drivers n some_driver lt)
+name_at drivers n lt = grind (arith, slice_get-get_or, some_driver)
 
 -- the number of the driver with this name
 abbrev pub number_of : List DriverSpec → List ℕ → Option ℕ

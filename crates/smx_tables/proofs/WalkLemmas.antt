@@ -34,9 +34,7 @@ numbered fds process fd (Some d) h = h.1
 -- the descriptors from number 0 of process 0 on are all descriptors
 pub from_first : (fds : List Descriptor) → fds_from 0 0 fds ≡ fds
 from_first [] = refl
-from_first (d ∷ ds) =
-    let first : not (pair_before d.process d.fd 0 0) ≡ true = grind (arith, nat_tests) in
-    rw first (ap (λ (es : List Descriptor). d ∷ es) (from_first ds))
+from_first (d ∷ ds) = grind (arith, nat_tests, from_first ds)
 
 -- at the first descriptor of a walk, all are left
 pub all_left : (fds : List Descriptor) (next : Option Descriptor) → IsNext fds 0 0 next → left_of fds next ≡ fds
