@@ -1,8 +1,7 @@
 -- Removing what belongs to dead streams from a configuration, stream by stream.
 use Rattle.std.proofs.Common.{◌≡◌, ℕ, ◌+◌, Bool, true, false, ◌&&◌, ◌||◌, not, eqb, List, [], ◌∷◌, ◌++◌, filter, take}
-use Rattle.std.proofs.Common.{refl, sym, ap, ◌∙◌, arith, inl, inr}
+use Rattle.std.proofs.Common.{refl, sym, ap, ◌∙◌, arith}
 use Rattle.std.proofs.Math.Bool.{and-false, and-true, not-not}
-use Rattle.std.proofs.lemmas.Bool.{cases_Bool}
 use Rattle.std.proofs.lemmas.Bool.Decides.{nat_tests}
 use Rattle.smx_types.specs.declared.driver.DriverSpec.{DriverSpec}
 use Rattle.smx_types.specs.declared.link.Binding.{Binding}
@@ -11,11 +10,10 @@ use Rattle.smx_types.specs.declared.stream.StreamId.{StreamId}
 use Rattle.smx_model.specs.Configuration.{Configuration, QueuedMessage, same_stream}
 use Rattle.smx_model.specs.Hangups.{is_hung}
 use Rattle.smx_model.specs.Removal.{without_dead_streams}
-use Rattle.smx_model.specs.Standing.{exists}
 use Rattle.smx_model.proofs.EachLemmas.{each_of_list_all}
 use Rattle.smx_streams.specs.StreamTables.{StreamTable, exists as is_there}
 use Rattle.smx_tables.specs.ExistingStreams.{TellsExisting}
-use Rattle.smx_tables.specs.TouchedStreams.{is_dead, is_there_or_touched, without_streams, IsTouched}
+use Rattle.smx_tables.specs.TouchedStreams.{is_dead, without_streams, IsTouched}
 use Rattle.smx_tables.proofs.AboveLemmas.{stream_is}
 use Rattle.smx_tables.proofs.BelowLemmas.{tests_less}
 use Rattle.smx_tables.proofs.HungLemmas.{all_pass}

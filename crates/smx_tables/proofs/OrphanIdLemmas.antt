@@ -1,21 +1,18 @@
 -- Collecting the ids of links whose lower streams are released.
 use Rattle.std.proofs.Common.{◌≡◌, ℕ, ◌-◌, ◌<◌, ◌≤◌, Bool, true, false, ◌||◌, not, eqb, List, [], ◌∷◌, ◌++◌, length}
-use Rattle.std.proofs.Common.{length-append, find, Option, Some, None, if◌then◌else◌, refl, sym, ap, subst, ◌∙◌, arith}
-use Rattle.std.specs.Prelude.{nat_lt, slice_get}
-use Rattle.std.specs.List.{list_any}
+use Rattle.std.proofs.Common.{length-append, find, Option, Some, None, refl, sym, ap, ◌∙◌, arith}
+use Rattle.std.specs.Prelude.{slice_get}
 use Rattle.std.specs.Option.{option_map_or}
 use Rattle.std.proofs.lemmas.Option.{slice_get_within}
-use Rattle.std.proofs.lemmas.Bool.Decides.{nat_tests}
 use Rattle.smx_types.specs.declared.link.Link.{Link}
 use Rattle.smx_types.specs.declared.stream.StreamId.{StreamId}
 use Rattle.smx_model.specs.Configuration.{same_stream}
 use Rattle.smx_model.specs.Paths.{AreLowersApart}
 use Rattle.smx_streams.specs.StreamTables.{StreamTable, HasHolds, number_at}
 use Rattle.smx_tables.specs.ExistingStreams.{AreHeld, IsReleasing, holds_below, is_held, is_loose}
-use Rattle.smx_tables.specs.ListedLinks.{is_listed, AreIdsOf}
+use Rattle.smx_tables.specs.ListedLinks.{AreIdsOf}
 use Rattle.smx_tables.specs.TouchedStreams.{AreReleased}
-use Rattle.smx_tables.proofs.AboveLemmas.{above_with_id, eqb_swap, found_itself, once_below, stream_self}
-use Rattle.smx_tables.proofs.AboveLemmas.{IsIdsRising}
+use Rattle.smx_tables.proofs.AboveLemmas.{above_with_id, eqb_swap, found_itself, once_below, stream_self, IsIdsRising}
 use Rattle.smx_tables.proofs.ExistingLemmas.{holds_few}
 use Rattle.smx_tables.proofs.ReleaseLemmas.{loose_held, this_one}
 use Rattle.smx_tables.proofs.ReleasedIdLemmas.{listed_one_more, released_once}

@@ -1,6 +1,6 @@
 -- Releasing the lower streams of links by the ids of the links.
-use Rattle.std.proofs.Common.{◌≡◌, ℕ, ◌-◌, ◌<◌, ◌≤◌, Bool, true, false, ◌&&◌, ◌||◌, not, eqb, List, [], ◌∷◌, ◌++◌}
-use Rattle.std.proofs.Common.{find, Option, Some, None, if◌then◌else◌, refl, ap, subst, ◌∙◌, arith}
+use Rattle.std.proofs.Common.{◌≡◌, ℕ, ◌-◌, ◌<◌, ◌≤◌, false, ◌&&◌, ◌||◌, not, eqb, List, [], ◌∷◌, ◌++◌, find, Option}
+use Rattle.std.proofs.Common.{Some, None, refl, ◌∙◌, arith}
 use Rattle.std.proofs.Math.Bool.{and-true, or-false}
 use Rattle.std.specs.Option.{option_map_or}
 use Rattle.std.proofs.lemmas.List.Folds.{list_any-append}
@@ -14,7 +14,7 @@ use Rattle.smx_streams.specs.StreamTables.{StreamTable, AreHungsSound, HasHolds,
 use Rattle.smx_tables.specs.ExistingStreams.{AreHeld}
 use Rattle.smx_tables.specs.ListedLinks.{is_listed}
 use Rattle.smx_links.specs.LinkLists.{is_one_of, others_of}
-use Rattle.smx_tables.proofs.AboveLemmas.{above_with_id, any_once, once_below, stream_is, stream_turned, IsIdsRising}
+use Rattle.smx_tables.proofs.AboveLemmas.{above_with_id, any_once, once_below, stream_turned, IsIdsRising}
 use Rattle.smx_tables.proofs.HungLemmas.{none_went}
 use Rattle.smx_tables.proofs.RemovalLemmas.{any_kept}
 
