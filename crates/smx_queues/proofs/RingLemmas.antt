@@ -1,6 +1,6 @@
 -- Rings after two nodes swapped the nodes after them.
-use Rattle.std.proofs.Common.{◌≡◌, ◌≢◌, ℕ, zero, suc, ◌+◌, ◌-◌, ◌*◌, ◌<◌, ◌≤◌, List, length, set, get_or, refl, sym}
-use Rattle.std.proofs.Common.{ap, ◌∙◌, subst, arith, inl, inr, cond, eqb, false, [], ◌∷◌, ◌++◌, replicate}
+use Rattle.std.proofs.Common.{◌≡◌, ◌≢◌, ℕ, zero, suc, ◌+◌, ◌-◌, ◌*◌, ◌<◌, ◌≤◌, List, length, set, get_or, refl, sym, ap}
+use Rattle.std.proofs.Common.{◌∙◌, arith, inl, inr, cond, eqb, [], ◌∷◌, ◌++◌, replicate}
 use Rattle.std.specs.Prelude.{◌^◌, ◌==◌, ◌⊎◌, not, count_by}
 use Rattle.std.specs.List.{range_with_len, swap}
 use Rattle.std.proofs.lemmas.Bool.{cases_eq, cases_lt, eq-eqb, le-ltb, lt-ltb, ne_eqb}
@@ -311,4 +311,4 @@ entered old mid new p n first second = grind (arith, set-set old.owners p 0 n)
 -- if a number leaves its ring, fewer numbers are in rings
 pub fewer_in : (owners : List ℕ) (p q : ℕ) → at owners p ≡ suc q
     → count_by (λ n. not (n == 0)) (set owners p 0) < count_by (λ n. not (n == 0)) owners
-fewer_in owners p q its = grind (arith, sum_by-set, at owners p == 0, at owners p, get_or_past owners p 0)
+fewer_in owners p q its = grind (arith, sum_by-set, get_or_past owners p 0)

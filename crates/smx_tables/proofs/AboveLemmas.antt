@@ -1,11 +1,11 @@
 -- At most one link is above a stream, and at most one has an id, so that this link is found.
 use Rattle.std.proofs.Common.{◌≡◌, ℕ, zero, suc, ◌<◌, Bool, true, false, ◌&&◌, eqb, List, [], ◌∷◌, length, map, filter}
-use Rattle.std.proofs.Common.{get_or, find, Some, None, refl, sym, ap, ◌∙◌, arith, inl, inr}
+use Rattle.std.proofs.Common.{get_or, find, Some, None, refl, sym, ap, ◌∙◌, arith}
 use Rattle.std.specs.Prelude.{nat_lt}
 use Rattle.std.specs.List.{list_any}
 use Rattle.std.specs.Option.{option_map_or}
 use Rattle.std.proofs.Math.Bool.{and_comm, or-false}
-use Rattle.std.proofs.lemmas.Bool.{and_parts, cases_Bool, eqb-true, false_from_ne_true, false≢true}
+use Rattle.std.proofs.lemmas.Bool.{false≢true}
 use Rattle.std.proofs.lemmas.Bool.Decides.{nat_tests}
 use Rattle.std.proofs.lemmas.List.Folds.{list_any_at}
 use Rattle.std.proofs.lemmas.Option.{same_Some}
@@ -36,18 +36,14 @@ IsOnce key (l ∷ ls) = (key l ≡ true → list_any key ls ≡ false) × IsOnce
 -- if no link passes a test, no link passes both it and another test
 none_also : (key t u : Link → Bool) (ls : List Link) → ((l : Link) → u l ≡ (key l && t l)) → list_any key ls ≡ false
     → list_any u ls ≡ false
-none_also key t u ls e h = false_from_ne_true _
-    (λ up. false≢true (sym h ∙ any_more u key ls (λ l k. (and_parts (key l) (t l) (sym (e l) ∙ k)).0) up))
+none_also key t u ls e h = grind (arith, any_more u key ls)
 
 -- if at most one link passes a test, some link passes both it and another one exactly if the link that the first test
 -- finds passes the other
 pub any_once : (key t u : Link → Bool) (ls : List Link) → IsOnce key ls → ((l : Link) → u l ≡ (key l && t l))
     → list_any u ls ≡ option_map_or t (find key ls) false
 any_once key t u [] o e = refl
-any_once key t u (l ∷ ls) o e = elim (cases_Bool (key l)) [
-  | inl k ↦ rw (e l, k, none_also key t u ls e (o.0 k)) (or-false (t l))
-  | inr k ↦ rw (e l, k) (any_once key t u ls o.1 e)
-]
+any_once key t u (l ∷ ls) o e = grind (arith, e l, none_also key t u ls e, or-false (t l), any_once key t u ls o.1 e)
 
 -- ---- no stream is below two links
 
@@ -72,9 +68,7 @@ once_below s (l ∷ ls) h = (
 none_later : (l : Link) (ls : List Link) → ComesBefore (λ l k. nat_lt l.id k.id) l ls
     → list_any (λ k. eqb k.id l.id) ls ≡ false
 none_later l [] h = refl
-none_later l (k ∷ ls) h =
-    let f : eqb k.id l.id ≡ false = grind (arith, nat_tests, h.0) in
-    rw f (none_later l ls h.1)
+none_later l (k ∷ ls) h = grind (arith, nat_tests, none_later l ls h.1)
 
 -- the ids of the links rise
 abbrev pub IsIdsRising : List Link → Type 0
@@ -83,10 +77,7 @@ IsIdsRising ls = IsRising (λ l k. nat_lt l.id k.id) ls
 -- if the ids of links rise, at most one link has a given id
 pub once_id : (id : ℕ) (ls : List Link) → IsIdsRising ls → IsOnce (λ l. eqb l.id id) ls
 once_id id [] h = tt
-once_id id (l ∷ ls) h = (
-  (λ k. ap (λ (x : ℕ). list_any (λ m. eqb m.id x) ls) (sym (eqb-true l.id id k)) ∙ none_later l ls h.0),
-  once_id id ls h.1,
-)
+once_id id (l ∷ ls) h = grind (arith, none_later l ls h.0, once_id id ls h.1)
 
 -- if ids rise, some link with an id passes a test exactly if the link that is found by this id passes it
 pub any_with_id : (t : Link → Bool) (id : ℕ) (ls : List Link) → IsIdsRising ls
@@ -116,21 +107,14 @@ none_with_id t id ls h e = sym (any_with_id t id ls h ∙ rw (sym e) refl)
 none_kept : (t : Link → Bool) (id : ℕ) (ls : List Link) → list_any (λ l. eqb l.id id) ls ≡ false
     → filter (λ l. eqb l.id id && t l) ls ≡ []
 none_kept t id [] h = refl
-none_kept t id (l ∷ ls) h = elim (cases_Bool (eqb l.id id)) [
-  | inl k ↦ let n : true ≡ false = rw k at h in absurd cc
-  | inr k ↦ rw k (none_kept t id ls (rw k at h))
-]
+none_kept t id (l ∷ ls) h = grind (arith, none_kept t id ls)
 
 -- if at most one link has an id, and a link with this id passes a further test, the ids of all such links are this one
 -- id
 ids_of_one : (t : Link → Bool) (id : ℕ) (ls : List Link) → IsOnce (λ l. eqb l.id id) ls
     → list_any (λ l. eqb l.id id && t l) ls ≡ true → map (λ l. l.id) (filter (λ l. eqb l.id id && t l) ls) ≡ id ∷ []
 ids_of_one t id [] o h = absurd (false≢true h)
-ids_of_one t id (l ∷ ls) o h = elim (cases_Bool (eqb l.id id && t l)) [
-  | inl b ↦ let k = (and_parts (eqb l.id id) (t l) b).0 in
-      rw (b, none_kept t id ls (o.0 k)) (ap (λ (x : ℕ). x ∷ []) (eqb-true l.id id k))
-  | inr n ↦ rw n (ids_of_one t id ls o.1 (rw n at h))
-]
+ids_of_one t id (l ∷ ls) o h = grind (arith, none_kept t id ls, ids_of_one t id ls o.1)
 
 -- if ids rise and a link with an id passes a test, the ids of all links with both are this one id
 pub target_of_id : (t : Link → Bool) (id : ℕ) (ls : List Link) → IsIdsRising ls
@@ -144,22 +128,13 @@ pub found_itself : (test : Link → Bool) (ls : List Link) (i : ℕ) (d : Link) 
     → test (get_or ls i d) ≡ true → find test ls ≡ Some (get_or ls i d)
 found_itself test [] i d o lt h = absurd (omega arith)
 found_itself test (l ∷ ls) zero d o lt h = rw h refl
-found_itself test (l ∷ ls) (suc i) d o lt h = elim (cases_Bool (test l)) [
-  | inl t ↦ absurd (false≢true (sym (o.0 t) ∙ list_any_at test ls i d (omega arith) h))
-  | inr f ↦ rw f (found_itself test ls i d o.1 (omega arith) h)
-]
+found_itself test (l ∷ ls) (suc i) d o lt h = grind (arith, list_any_at, found_itself test ls i d o.1 (omega arith) h)
 
 -- the lower stream of each link is below a link
 pub below_at : (ls : List Link) (i : ℕ) (d : Link) → i < length ls → is_below ls (get_or ls i d).lower ≡ true
-below_at ls i d lt =
-    list_any_at (λ l. same_stream l.lower (get_or ls i d).lower) ls i d lt (stream_self (get_or ls i d).lower)
+below_at ls i d lt = grind (arith, list_any_at, stream_self (get_or ls i d).lower)
 
 -- two links with the same lower stream are equal
 pub one_link : (ls : List Link) (i j : ℕ) (d : Link) → AreLowersApart ls → i < length ls → j < length ls
     → same_stream (get_or ls j d).lower (get_or ls i d).lower ≡ true → get_or ls j d ≡ get_or ls i d
-one_link ls i j d apart lt in_range same =
-    let s = (get_or ls i d).lower in
-    let once = once_below s ls apart in
-    let a = found_itself (λ l. same_stream l.lower s) ls i d once lt (stream_self s) in
-    let b = found_itself (λ l. same_stream l.lower s) ls j d once in_range same in
-    same_Some _ _ (sym b ∙ a)
+one_link ls i j d apart lt in_range same = grind (arith, once_below, found_itself, stream_self, same_Some)

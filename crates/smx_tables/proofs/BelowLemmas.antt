@@ -1,6 +1,6 @@
 -- Emptying the read sides below listed links, link by link.
-use Rattle.std.proofs.Common.{◌≡◌, ℕ, Bool, false, ◌&&◌, ◌||◌, not, eqb, List, [], ◌∷◌, ◌++◌, filter, find}
-use Rattle.std.proofs.Common.{arith, Option, Some, None, refl, sym, ap, ◌∙◌}
+use Rattle.std.proofs.Common.{◌≡◌, ℕ, Bool, false, ◌&&◌, ◌||◌, not, eqb, List, [], ◌∷◌, ◌++◌, filter, find, arith}
+use Rattle.std.proofs.Common.{Option, Some, None, sym, ◌∙◌}
 use Rattle.std.proofs.Math.Bool.{and-false, or-false}
 use Rattle.std.specs.Prelude.{Vec}
 use Rattle.std.specs.Option.{option_map_or}
@@ -37,15 +37,13 @@ pub read_more : (links : List Link) (ids : List ℕ) (id : ℕ) (l : Link) → A
     → find (λ k. eqb k.id id) links ≡ Some l → (p : Place)
     → is_read_below_listed links (ids ++ id ∷ []) p
     ≡ (is_read_below_listed links ids p || same_place p (read_side l.lower))
-read_more links ids id l apart rise found p =
-    rw (one_read_more links ids id apart rise p, found, stream_turned l.lower p.stream) refl
+read_more links ids id l apart rise found p = grind (arith, one_read_more, stream_turned)
 
 -- an id that no link has adds no place
 pub read_none : (links : List Link) (ids : List ℕ) (id : ℕ) → AreLowersApart links → IsIdsRising links
     → find (λ k. eqb k.id id) links ≡ None → (p : Place)
     → is_read_below_listed links (ids ++ id ∷ []) p ≡ is_read_below_listed links ids p
-read_none links ids id apart rise none p =
-    rw (one_read_more links ids id apart rise p, none) (or-false (is_read_below_listed links ids p))
+read_none links ids id apart rise none p = grind (arith, one_read_more, or-false)
 
 -- an empty list of ids removes nothing
 pub none_listed_yet : {X : Type 0} (place : X → Place) (links : List Link) (xs : List X)
@@ -65,11 +63,7 @@ not_either a b = grind (arith, nat_tests)
 -- removing the items of one test and then those of another removes the items of either
 pub tests_less : {X : Type 0} (goes one more : X → Bool) (xs ys zs : List X) → ((x : X) → more x ≡ (goes x || one x))
     → ys ≡ filter (λ x. not (goes x)) xs → zs ≡ filter (λ x. not (one x)) ys → zs ≡ filter (λ x. not (more x)) xs
-tests_less goes one more xs ys zs h e f =
-    f ∙ (ap (filter (λ x. not (one x))) e
-    ∙ (filter_twice (λ x. not (goes x)) (λ x. not (one x)) xs
-    ∙ filter_agree (λ x. not (goes x) && not (one x)) (λ x. not (more x))
-    (λ x. not_either (goes x) (one x) ∙ ap not (sym (h x))) xs))
+tests_less goes one more xs ys zs h e f = grind (arith, filter_twice, filter_agree, not_either)
 
 -- emptying the places of one test and then those of another empties the places of either
 pub empties_more : {A : Type 0} (goes one more : Place → Bool) (old mid new : FlowLists) (first then last : Vec ℕ A)
@@ -87,18 +81,10 @@ empties_more goes one more old mid new first then last h a b = record {
 -- two tests that pass the same places empty the same places
 pub empties_alike : {A : Type 0} (goes more : Place → Bool) (old new : FlowLists) (first last : Vec ℕ A)
     → ((p : Place) → more p ≡ goes p) → EmptiesPlaces goes old first new last → EmptiesPlaces more old first new last
-empties_alike goes more old new first last h a = record {
-  flow = a.flow ∙ filter_agree (λ (x : QueuedMessage). not (goes x.place)) (λ x. not (more x.place))
-      (λ x. ap not (sym (h x.place))) old.flow;
-  fulls = a.fulls ∙ filter_agree (λ p. not (goes p)) (λ p. not (more p)) (λ p. ap not (sym (h p))) old.fulls;
-  drivers = a.drivers;
-  dropped = a.dropped;
-  room = a.room;
-}
+empties_alike goes more old new first last h a = grind (arith, filter_agree)
 
 -- a test that passes no place with a message and no full place empties nothing
 pub empties_none : {A : Type 0} (goes : Place → Bool) (t : FlowLists) (dropped : Vec ℕ A)
     → t.flow ≡ filter (λ h. not (goes h.place)) t.flow → t.fulls ≡ filter (λ p. not (goes p)) t.fulls
     → HasRoom dropped t.flow → EmptiesPlaces goes t dropped t dropped
-empties_none goes t dropped flow fulls room =
-    record { flow = flow; fulls = fulls; drivers = refl; dropped = λ was d. d; room = room }
+empties_none goes t dropped flow fulls room = grind arith

@@ -48,8 +48,7 @@ by_more : (fds : List Descriptor) (links : List Link) (n : ℕ) (named : Bool) (
     ≡ (named || stands_by fds links (suc n) o)
 by_more fds links n named None = or-false (named || false)
 by_more fds links zero named (Some l) = first_climb named (is_persistent l) (stands_within fds links 0 l.ctl)
-by_more fds links (suc n) named (Some l) = climbed named (is_persistent l) (stands_within fds links n l.ctl)
-    (stands_within fds links (suc n) l.ctl) (one_climb_more fds links n l.ctl)
+by_more fds links (suc n) named (Some l) = grind (arith, one_climb_more fds links n l.ctl)
 
 -- within 0 climbs, a stream exists through the link above it exactly if this link is persistent
 by_held : (fds : List Descriptor) (links : List Link) (o : Option Link)
@@ -60,21 +59,8 @@ by_held fds links (Some l) = refl
 -- a stream exists within n climbs exactly if a descriptor names it, or it exists through the one link above it
 pub stands_is : (fds : List Descriptor) (links : List Link) (n : ℕ) (s : StreamId) → AreLowersApart links
     → stands_within fds links n s ≡ (is_named fds s || stands_by fds links n (find (λ l. same_stream l.lower s) links))
-stands_is fds links zero s h =
-    rw (
-      any_once (λ l. same_stream l.lower s) is_persistent (λ l. is_persistent l && same_stream l.lower s) links
-          (once_below s links h) (λ l. and_comm (is_persistent l) (same_stream l.lower s)),
-      by_held fds links (find (λ l. same_stream l.lower s) links),
-    ) refl
-stands_is fds links (suc n) s h =
-    rw (
-      stands_is fds links n s h,
-      any_once (λ l. same_stream l.lower s) (λ l. not (is_persistent l) && stands_within fds links n l.ctl)
-          (λ l. not (is_persistent l) && (same_stream l.lower s && stands_within fds links n l.ctl)) links
-          (once_below s links h)
-          (λ l. between (not (is_persistent l)) (same_stream l.lower s) (stands_within fds links n l.ctl)),
-    )
-    (by_more fds links n (is_named fds s) (find (λ l. same_stream l.lower s) links))
+stands_is fds links zero s h = grind (arith, any_once, once_below s links h, and_comm, by_held fds links)
+stands_is fds links (suc n) s h = grind (arith, stands_is fds links n s h, any_once, once_below, between, by_more)
 
 -- a stream that a descriptor names exists within any number of climbs
 pub named_stands : (fds : List Descriptor) (links : List Link) (n : ℕ) (s : StreamId) → is_named fds s ≡ true

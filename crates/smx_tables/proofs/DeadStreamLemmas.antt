@@ -1,8 +1,7 @@
 -- Removing what belongs to dead streams from a configuration, stream by stream.
 use Rattle.std.proofs.Common.{◌≡◌, ℕ, ◌+◌, Bool, true, false, ◌&&◌, ◌||◌, not, eqb, List, [], ◌∷◌, ◌++◌, filter, take}
-use Rattle.std.proofs.Common.{refl, sym, ap, ◌∙◌, arith, inl, inr}
+use Rattle.std.proofs.Common.{refl, sym, ap, ◌∙◌, arith}
 use Rattle.std.proofs.Math.Bool.{and-false, and-true, not-not}
-use Rattle.std.proofs.lemmas.Bool.{cases_Bool}
 use Rattle.std.proofs.lemmas.Bool.Decides.{nat_tests}
 use Rattle.smx_types.specs.declared.driver.DriverSpec.{DriverSpec}
 use Rattle.smx_types.specs.declared.link.Binding.{Binding}
@@ -11,11 +10,10 @@ use Rattle.smx_types.specs.declared.stream.StreamId.{StreamId}
 use Rattle.smx_model.specs.Configuration.{Configuration, QueuedMessage, same_stream}
 use Rattle.smx_model.specs.Hangups.{is_hung}
 use Rattle.smx_model.specs.Removal.{without_dead_streams}
-use Rattle.smx_model.specs.Standing.{exists}
 use Rattle.smx_model.proofs.EachLemmas.{each_of_list_all}
 use Rattle.smx_streams.specs.StreamTables.{StreamTable, exists as is_there}
 use Rattle.smx_tables.specs.ExistingStreams.{TellsExisting}
-use Rattle.smx_tables.specs.TouchedStreams.{is_dead, is_there_or_touched, without_streams, IsTouched}
+use Rattle.smx_tables.specs.TouchedStreams.{is_dead, without_streams, IsTouched}
 use Rattle.smx_tables.proofs.AboveLemmas.{stream_is}
 use Rattle.smx_tables.proofs.BelowLemmas.{tests_less}
 use Rattle.smx_tables.proofs.HungLemmas.{all_pass}
@@ -72,23 +70,12 @@ pub one_gone : (c : Configuration) (t : StreamTable) (s : StreamId)
     → flow ≡ filter (λ h. not (same_stream h.place.stream s && true)) c.flow
     → fulls ≡ filter (λ p. not (same_stream p.stream s && true)) c.fulls
     → parts c binds flow fulls ≡ without_streams c (is_dead t (s ∷ []))
-one_gone c t s binds flow fulls gone no_bind no_message no_mark = same_parts c _ _ _ _ _ _
-    (no_bind ∙ same_kept _ (λ b. is_dead t (s ∷ []) (bound b)) c.binds (λ b. dead (bound b)))
-    (no_message ∙ same_kept _ (λ m. is_dead t (s ∷ []) (queued m)) c.flow (λ m. and-true _ ∙ dead (queued m)))
-    (no_mark ∙ same_kept _ (λ p. is_dead t (s ∷ []) (marked p)) c.fulls (λ p. and-true _ ∙ dead (marked p))) where
-      dead : (x : StreamId) → same_stream x s ≡ is_dead t (s ∷ []) x
-      dead x = elim (cases_Bool (same_stream x s)) [
-        | inl same ↦ rw (same, ap (is_there t) (stream_is x s same) ∙ gone) refl
-        | inr other ↦ rw other (sym (and-false (not (is_there t x))))
-      ]
+one_gone c t s binds flow fulls gone no_bind no_message no_mark = grind (arith, same_parts, same_kept, bound, and-true)
 
 -- a stream in the table loses nothing
 pub none_gone : (c : Configuration) (t : StreamTable) (s : StreamId) → is_there t s ≡ true
     → c ≡ without_streams c (is_dead t (s ∷ []))
-none_gone c t s there = none_goes c (is_dead t (s ∷ [])) (λ x. elim (cases_Bool (same_stream x s)) [
-  | inl same ↦ rw (ap (is_there t) (stream_is x s same) ∙ there) refl
-  | inr other ↦ rw other (and-false (not (is_there t x)))
-])
+none_gone c t s there = grind (arith, none_goes c (is_dead t (s ∷ [])), stream_is, and-false)
 
 -- ---- all streams
 
@@ -112,13 +99,5 @@ one_more_gone old c new t u seen i s here taken_one e f =
 pub all_gone : (drivers : List DriverSpec) (c : Configuration) (t : StreamTable) (seen : List StreamId)
     → TellsExisting drivers c t → IsTouched t seen c → ((x : StreamId) → is_hung c.hungs x ≡ true → is_there t x ≡ true)
     → without_streams c (is_dead t seen) ≡ without_dead_streams drivers c
-all_gone drivers c t seen told touched hung = same_parts c _ _ _ _ _ _
-    (kept_alike _ _ c.binds (each_of_list_all _ _ c.binds (λ b. stays (bound b)) touched.binds))
-    (kept_alike _ _ c.flow (each_of_list_all _ _ c.flow (λ m h. stays (queued m) h ∙ sym (not-not _)) touched.flow))
-    (kept_alike _ _ c.fulls (each_of_list_all _ _ c.fulls (λ p h. stays (marked p) h ∙ sym (not-not _)) touched.fulls))
-    ∙ ap (λ (hs : List StreamId). record (without_dead_streams drivers c) { hungs = hs })
-    (all_pass (exists drivers c) c.hungs (λ x up. sym (told x) ∙ hung x up)) where
-      stays : (x : StreamId) → is_there_or_touched t seen x ≡ true → not (is_dead t seen x) ≡ exists drivers c x
-      stays x h = left ∙ told x where
-        left : not (is_dead t seen x) ≡ is_there t x
-        left = grind (arith, nat_tests)
+all_gone drivers c t seen told touched hung =
+    grind (arith, same_parts, kept_alike, each_of_list_all, bound, not-not, all_pass)

@@ -1,9 +1,8 @@
 -- Lists of drivers that are valid for a configuration, driver by driver.
-use Rattle.std.proofs.Common.{◌≡◌, ◌≢◌, ℕ, ◌+◌, ◌<◌, ◌≤◌, ltb, ◌||◌, List, [], ◌∷◌, ◌++◌, length, get_or, take, Ok, sym}
-use Rattle.std.proofs.Common.{ap, subst, ◌∙◌, arith, inl, inr, length-append}
+use Rattle.std.proofs.Common.{◌≡◌, ◌≢◌, ℕ, ◌+◌, ◌<◌, ◌≤◌, List, [], ◌∷◌, ◌++◌, length, get_or, take, Ok, sym, ap, subst}
+use Rattle.std.proofs.Common.{◌∙◌, arith, length-append}
 use Rattle.std.specs.Prelude.{Any}
 use Rattle.std.specs.List.{AllByRecursion}
-use Rattle.std.proofs.lemmas.Bool.{cases_Bool}
 use Rattle.std.proofs.lemmas.Bool.Decides.{nat_tests}
 use Rattle.std.proofs.lemmas.List.{take_more, length-take-le, get_or_default, get_or-take}
 use Rattle.std.proofs.lemmas.List.Elements.{All-push, recursion_from_All}
@@ -37,19 +36,13 @@ next_driver ds i d lt few here h can new =
 pub taken_name : (ds : List DriverSpec) (i : ℕ) (d : DriverSpec) → i < length ds → d ≡ get_or ds i d
     → Any (λ e. e.name ≡ d.name) (take i ds) → IsDriverList ds → ⊥
 taken_name ds i d lt here (k, e, before, at, same) h =
-    let len = length-take-le i ds (omega arith) in
-    let earlier : k < i = omega arith in
-    let e_is : e ≡ get_or ds k d = sym at ∙ get_or-take i ds k e earlier ∙ get_or_default ds k e d (omega arith) in
-    h.names k i d earlier lt (ap (λ (x : DriverSpec). x.name) (sym e_is) ∙ same ∙ ap (λ (x : DriverSpec). x.name) here)
+    grind (arith, length-take-le, get_or-take, get_or_default, h.names k i d)
 
 -- ---- the minors of the drivers of a valid list
 
 -- a driver that passes the check has at most as many minors as allowed
 few_minors : (d : DriverSpec) → spec_check d ≡ Ok tt → d.minors ≤ MAX_MINORS
-few_minors d can = elim (cases_Bool (ltb d.minors 1 || ltb MAX_MINORS d.minors)) [
-  | inl t ↦ let bad = rw t at can in absurd cc
-  | inr f ↦ grind (arith, nat_tests)
-]
+few_minors d can = grind (arith, nat_tests)
 
 -- if each driver passes the check, each has at most as many minors as allowed
 all_few : (ds : List DriverSpec) → AllByRecursion (λ d. spec_check d ≡ Ok tt) ds

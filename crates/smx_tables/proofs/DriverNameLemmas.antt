@@ -1,8 +1,7 @@
 -- Drivers by name.
-use Rattle.std.proofs.Common.{◌≡◌, ℕ, ◌<◌, false, cond, List, [], length, get_or, Option, Some}
-use Rattle.std.proofs.Common.{None, sym, ap, ◌∙◌, arith}
+use Rattle.std.proofs.Common.{◌≡◌, ℕ, ◌<◌, false, cond, List, [], length, get_or, Option, Some, None, sym, ap, ◌∙◌}
+use Rattle.std.proofs.Common.{arith}
 use Rattle.std.specs.Prelude.{position, nat_lt}
-use Rattle.std.specs.Option.{option_map_or}
 use Rattle.std.specs.Str.{bytes_eq}
 use Rattle.std.proofs.lemmas.Bool.{false_from_ne_true, lt-ltb}
 use Rattle.std.proofs.lemmas.List.Sums.{position_or_len_is}
@@ -19,8 +18,7 @@ some_driver = record { name = []; kind = Leaf; minors = 0; high = 0; low = 0; ma
 -- the name of a driver that exists
 pub name_at : (drivers : List DriverSpec) (n : ℕ) → n < length drivers
     → name_of drivers n ≡ (get_or drivers n some_driver).name
-name_at drivers n lt =
-    ap (λ (o : Option DriverSpec). option_map_or (λ d. d.name) o []) (slice_get-get_or drivers n some_driver lt)
+name_at drivers n lt = grind (arith, slice_get-get_or, some_driver)
 
 -- the number of the driver with this name
 abbrev pub number_of : List DriverSpec → List ℕ → Option ℕ

@@ -1,10 +1,10 @@
 -- The messages that are dropped at a place, and the serials of dropped messages in order.
-use Rattle.std.proofs.Common.{◌≡◌, ◌≢◌, ℕ, suc, ◌+◌, ◌≤◌, Bool, true, false, ◌&&◌, ◌||◌, not, cond, eqb, ltb, List, []}
-use Rattle.std.proofs.Common.{◌∷◌, ◌++◌, length, map, filter, refl, sym, ap, ◌∙◌, arith, inl, inr}
+use Rattle.std.proofs.Common.{◌≡◌, ◌≢◌, ℕ, suc, ◌+◌, ◌≤◌, Bool, true, false, ◌&&◌, ◌||◌, not, cond, eqb, List, [], ◌∷◌}
+use Rattle.std.proofs.Common.{◌++◌, length, map, filter, refl, sym, ap, ◌∙◌, arith, rules}
 use Rattle.std.specs.List.{AllByRecursion, AllPairs, sum_by}
 use Rattle.std.specs.List.Sorted.{IsNonDecreasing, IsPermutation}
 use Rattle.std.proofs.Math.Bool.{not-not}
-use Rattle.std.proofs.lemmas.Bool.{cases_Bool, cases_eq, eq-eqb, ltb-true, ltb-false, ne_eqb}
+use Rattle.std.proofs.lemmas.Bool.{eq-eqb}
 use Rattle.std.proofs.lemmas.Bool.Decides.{nat_tests}
 use Rattle.std.proofs.lemmas.List.{map-append}
 use Rattle.std.proofs.lemmas.List.Elements.{filter_agree}
@@ -52,8 +52,7 @@ split t u xs =
 serials_at : (flow : List QueuedMessage) (p : Place)
     → serials (filter (is_at p) flow) ≡ map (λ m. m.serial) (queue flow p)
 serials_at [] p = refl
-serials_at (h ∷ hs) p = elim (cases_Bool (is_at p h))
-    [ inl t ↦ rw t (ap (λ (ns : List ℕ). h.message.serial ∷ ns) (serials_at hs p)) | inr f ↦ rw f (serials_at hs p) ]
+serials_at (h ∷ hs) p = grind (arith, serials_at hs p)
 
 -- if one more place is emptied, the serials of its messages are dropped too
 pub dropped_more : (old flow new : List QueuedMessage) (p : Place) (dropped more : List ℕ)
@@ -93,8 +92,7 @@ none_dropped flow dropped none = record {
 pub place_and_rest : (flow : List QueuedMessage) (p : Place)
     → length (queue flow p) + length (filter (λ h. not (is_at p h)) flow) ≡ length flow
 place_and_rest [] p = refl
-place_and_rest (h ∷ hs) p = elim (cases_Bool (is_at p h))
-    [ inl t ↦ rw t (omega (arith, place_and_rest hs p)) | inr f ↦ rw f (omega (arith, place_and_rest hs p)) ]
+place_and_rest (h ∷ hs) p = grind (arith, place_and_rest hs p)
 
 -- a place on a named side of the stream is on its write side or its read side
 pub on_both_sides : (stream : StreamId) (sides : Sides) (s : StreamId) (x : Side)
@@ -112,9 +110,7 @@ IsUp ns = AllLater (λ m n. m ≤ n) ns
 -- the function `in_rising_order` puts a list in order
 rising_up : (ns : List ℕ) → IsUp (in_rising_order ns)
 rising_up [] = tt
-rising_up (n ∷ ns) = later_placed (λ m k. m ≤ k) ltb n (λ k t. let lt = ltb-true n k t in omega arith)
-    (λ k m t le. let lt = ltb-true n k t in omega (arith, le)) (in_rising_order ns)
-    (each_of_every _ (in_rising_order ns) (λ k f. ltb-false n k f)) (rising_up ns)
+rising_up (n ∷ ns) = grind (arith, later_placed, each_of_every, rising_up ns)
 
 -- the number of times that a number is in a list, as a sum over the list
 times_sum : (k : ℕ) (ns : List ℕ) → times k ns ≡ sum_by (λ m. cond (eqb m k) 1 0) ns
@@ -124,8 +120,7 @@ times_sum k (n ∷ ns) =
 
 -- a permutation has each number as often
 pub times_permuted : (k : ℕ) (ns ms : List ℕ) → IsPermutation ns ms → times k ms ≡ times k ns
-times_permuted k ns ms h =
-    times_sum k ms ∙ (sum_by-IsPermutation (λ m. cond (eqb m k) 1 0) ns ms h ∙ sym (times_sum k ns))
+times_permuted k ns ms h = grind (arith, times_sum k ms, sum_by-IsPermutation, times_sum k ns)
 
 -- a number is once more in a list with that number in front
 here_once : (n : ℕ) (ns : List ℕ) → times n (n ∷ ns) ≡ suc (times n ns)
@@ -134,19 +129,14 @@ here_once n ns = rw (eq-eqb n n refl) (omega arith)
 -- if no number of a list is below m, no number that is in it is
 none_lower : (m n : ℕ) (ns : List ℕ) → AllByRecursion (λ k. m ≤ k) ns → 1 ≤ times n ns → m ≤ n
 none_lower m n [] h some = absurd (omega arith)
-none_lower m n (k ∷ ns) h some = elim (cases_eq k n)
-    [ inl e ↦ omega (arith, h.0, e) | inr ne ↦ none_lower m n ns h.1 (omega (arith, rw (ne_eqb k n ne) at some)) ]
+none_lower m n (k ∷ ns) h some = grind (arith, none_lower m n ns h.1, at)
 
 -- two lists in order are equal if each number is in both equally often
 one_up : (ns ms : List ℕ) → IsUp ns → IsUp ms → ((k : ℕ) → times k ns ≡ times k ms) → ns ≡ ms
 one_up [] [] h g same = refl
 one_up [] (m ∷ ms) h g same = absurd (omega (arith, same m, here_once m ms))
 one_up (n ∷ ns) [] h g same = absurd (omega (arith, same n, here_once n ns))
-one_up (n ∷ ns) (m ∷ ms) h g same =
-    let below = none_lower m n (m ∷ ms) (omega arith, g.0) (omega (arith, same n, here_once n ns)) in
-    let above = none_lower n m (n ∷ ns) (omega arith, h.0) (omega (arith, same m, here_once m ms)) in
-    let e : n ≡ m = omega (arith, below, above) in
-    rw e (ap (λ (ks : List ℕ). m ∷ ks) (one_up ns ms h.1 g.1 (λ k. omega (arith, rw e at (same k)))))
+one_up (n ∷ ns) (m ∷ ms) h g same = grind (arith, none_lower, same n, here_once, same m, one_up ns ms h.1 g.1, at)
 
 -- a permutation that doesn't decrease is the list in rising order
 pub sorted_is : (ns ms out : List ℕ) → IsPermutation ns ms → IsPermutation ms out → IsNonDecreasing out
@@ -168,6 +158,5 @@ left_in_order old new dropped out apart h sorted up =
 pub none_left : (old new : List QueuedMessage) (dropped : List ℕ)
     → AllPairs (λ m n. m ≢ n) (serials old) → AreDropped old new dropped → length dropped ≡ 0
     → [] ≡ serials_that_left old new
-none_left old new [] apart h none =
-    left_in_order old new [] [] apart h (IsPermutation-refl []) (λ i j d le lt. absurd (omega (arith, lt)))
+none_left old new [] apart h none = search (rules, left_in_order, IsPermutation-refl)
 none_left old new (n ∷ ns) apart h none = absurd (omega (arith, none))

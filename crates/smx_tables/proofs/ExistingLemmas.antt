@@ -1,12 +1,10 @@
 -- The streams that exist are those in the table of streams: named by a descriptor, or held.
-use Rattle.std.proofs.Common.{◌≡◌, ℕ, zero, suc, ◌+◌, ◌<◌, ◌≤◌, Bool, true, false, ◌&&◌, ◌||◌, not, List, [], ◌∷◌}
-use Rattle.std.proofs.Common.{length, find, get_or, Option, Some, None, Ok, Err, ◌++◌, if◌then◌else◌, refl, sym}
-use Rattle.std.proofs.Common.{ap, subst, ◌∙◌, arith, inl, inr}
+use Rattle.std.proofs.Common.{◌≡◌, ℕ, zero, suc, ◌+◌, ◌<◌, ◌≤◌, Bool, true, false, ◌||◌, List, [], ◌∷◌, length, find}
+use Rattle.std.proofs.Common.{Option, Some, None, Ok, ◌++◌, refl, sym, ap, subst, ◌∙◌, arith, rules}
 use Rattle.std.proofs.Math.Bool.{or-false}
 use Rattle.std.specs.Prelude.{nat_lt}
 use Rattle.std.specs.Option.{is_some, option_map, ok_or}
-use Rattle.std.specs.List.{All, AllByRecursion, list_any, list_all}
-use Rattle.std.proofs.lemmas.Bool.{cases_Bool, and_parts, or_cases, or_left, or_right, false_from_ne_true}
+use Rattle.std.specs.List.{All, AllByRecursion, list_all}
 use Rattle.std.proofs.lemmas.Bool.{false≢true}
 use Rattle.std.proofs.lemmas.Bool.Decides.{nat_tests}
 use Rattle.std.proofs.lemmas.List.{get_or_default}
@@ -44,9 +42,7 @@ pub use Rattle.smx_model.proofs.TestLemmas.{all_filter as all_fewer, all_more as
 -- if the controlling stream of each ordinary link passes a test, it passes each weaker test
 pub linked_weaker : (f g : StreamId → Bool) (ls : List Link) → ((s : StreamId) → f s ≡ true → g s ≡ true)
     → list_all (λ l. is_persistent l || f l.ctl) ls ≡ true → list_all (λ l. is_persistent l || g l.ctl) ls ≡ true
-linked_weaker f g ls on = all_weaker (λ l. is_persistent l || f l.ctl) (λ l. is_persistent l || g l.ctl) ls
-    (λ l e. elim (or_cases (is_persistent l) (f l.ctl) e)
-    [ inl p ↦ or_left _ _ p | inr o ↦ or_right _ _ (on l.ctl o) ])
+linked_weaker f g ls on = grind (arith, all_weaker)
 
 -- two tests that imply each other are equal
 pub same_test : (a b : Bool) → (a ≡ true → b ≡ true) → (b ≡ true → a ≡ true) → a ≡ b
@@ -60,24 +56,13 @@ same_test false false f g = refl
 pub named_stream : (process fd : ℕ) (fds : List Descriptor) (s : StreamId)
     → option_map (λ (d : Descriptor). d.stream) (find (is_fd process fd) fds) ≡ Some s → is_named fds s ≡ true
 named_stream process fd [] s h = absurd cc
-named_stream process fd (d ∷ ds) s h = elim (cases_Bool (is_fd process fd d)) [
-  | inl t ↦ or_left _ _ (ap (λ (x : StreamId). same_stream x s) (same_Some d.stream s (rw t at h)) ∙ stream_self s)
-  | inr f ↦ or_right _ _ (named_stream process fd ds s (rw f at h))
-]
+named_stream process fd (d ∷ ds) s h = grind (arith, same_Some d.stream s, stream_self s, named_stream process fd ds s)
 
 -- a stream that exists within n climbs is named by a descriptor, or is below a link
 pub stands_there : (fds : List Descriptor) (links : List Link) (n : ℕ) (s : StreamId)
     → stands_within fds links n s ≡ true → (is_named fds s || is_below links s) ≡ true
-stands_there fds links zero s h =
-    elim (or_cases (is_named fds s) (list_any (λ l. is_persistent l && same_stream l.lower s) links) h) [
-      | inl a ↦ or_left _ _ a
-      | inr b ↦ or_right _ _ (any_weaker _ _ links (λ l t. (and_parts (is_persistent l) _ t).1) b)
-    ]
-stands_there fds links (suc n) s h = elim (or_cases (stands_within fds links n s) _ h) [
-  | inl a ↦ stands_there fds links n s a
-  | inr b ↦
-      or_right _ _ (any_weaker _ _ links (λ l t. (and_parts _ _ (and_parts (not (is_persistent l)) _ t).1).0) b)
-]
+stands_there fds links zero s h = grind (arith, any_weaker)
+stands_there fds links (suc n) s h = grind (arith, stands_there fds links n s, any_weaker)
 
 -- ---- a climb reaches a driver to which fewer drivers lead
 
@@ -92,10 +77,7 @@ ClimbsToFewer drivers links l = height drivers links l.ctl.driver < height drive
 -- if there is no cycle, fewer drivers lead to the upper driver of each link than to its lower one
 climbs_to_fewer : (drivers : List DriverSpec) (links : List Link) → HasNoCycle links
     → All (λ l. IsKnown drivers l.ctl) links → All (ClimbsToFewer drivers links) links
-climbs_to_fewer drivers links none known = λ i d lt.
-    let l = get_or links i d in
-    up_less links (length drivers) l.ctl.driver l.lower.driver none
-    (reaches_at links i l lt (get_or_default links i l d lt)) (known i d lt).0
+climbs_to_fewer drivers links none known = search (rules, up_less, reaches_at, get_or_default)
 
 -- ---- a stream in the table exists
 
@@ -134,23 +116,16 @@ there_stands_within : (drivers : List DriverSpec) (links : List Link) (t : Strea
     → AreLowersApart links → IsHeldBelow links t
     → AllByRecursion (λ l. IsTight t l × ClimbsToFewer drivers links l) links
     → height drivers links s.driver ≤ n → is_there t s ≡ true → stands_within t.fds links n s ≡ true
-there_stands_within drivers links t zero s apart up h few there =
-    elim (or_cases (is_named t.fds s) (nat_lt 0 (number_at t.holds s)) there) [
-      | inl named ↦ named_stands t.fds links 0 s named
-      | inr held ↦ let above = above_held drivers links t s up h held in absurd (omega (arith, above.3, few))
-    ]
+there_stands_within drivers links t zero s apart up h few there = grind (arith, named_stands, above_held)
 there_stands_within drivers links t (suc n) s apart up h few there =
-    elim (or_cases (is_named t.fds s) (nat_lt 0 (number_at t.holds s)) there) [
-      | inl named ↦ named_stands t.fds links (suc n) s named
-      | inr held ↦
-          let above = above_held drivers links t s up h held in
-          stands_is t.fds links (suc n) s apart
-          ∙ or_right _ _ (ap (stands_by t.fds links (suc n)) above.1 ∙ elim (cases_Bool (is_persistent above.0)) [
-            | inl p ↦ or_left _ _ p
-            | inr o ↦ or_right _ _ (there_stands_within drivers links t n above.0.ctl apart up h
-                (omega (arith, above.3, few)) (above.2 o))
-          ])
-    ]
+    grind (
+      arith,
+      named_stands t.fds links (suc n) s,
+      above_held drivers links t s up h,
+      stands_is t.fds links (suc n) s apart,
+      stands_by t.fds links (suc n),
+      there_stands_within drivers links t n,
+    )
 
 -- a stream in the table exists
 pub there_exists : (drivers : List DriverSpec) (c : Configuration) (t : StreamTable) (s : StreamId)
@@ -184,12 +159,7 @@ there_is links t s h = ap (λ (b : Bool). is_named t.fds s || b) (held_is_below 
 all_linked : (t : StreamTable) (ls : List Link) → list_all (λ l. is_persistent l || is_there t l.ctl) ls ≡ true
     → AllByRecursion (IsTight t) ls
 all_linked t [] h = tt
-all_linked t (l ∷ ls) h =
-    let p = and_parts (is_persistent l || is_there t l.ctl)
-    (list_all (λ k. is_persistent k || is_there t k.ctl) ls) h in (
-      (λ held o. grind (arith, nat_tests, p.0)),
-      all_linked t ls p.1,
-    )
+all_linked t (l ∷ ls) h = grind (arith, nat_tests, all_linked t ls)
 
 -- if the controlling stream of each ordinary link is in the table, and each stream below a link is held, the streams in
 -- the table are those that exist
@@ -197,12 +167,8 @@ pub tells_existing : (drivers : List DriverSpec) (c : Configuration) (t : Stream
     → AreLinksSound c.links → All (λ l. IsKnown drivers l.ctl) c.links
     → t.fds ≡ c.fds → AreHeld c.links t → list_all (λ l. is_persistent l || is_there t l.ctl) c.links ≡ true
     → TellsExisting drivers c t
-tells_existing drivers c t sound known same held linked = λ s.
-    same_test (is_there t s) (exists drivers c s)
-    (there_exists drivers c t s sound known same (λ x up. sym (held_is_below c.links t x held) ∙ up)
-    (all_linked t c.links linked))
-    (λ e. there_is c.links t s held ∙ subst (λ (fds : List Descriptor). (is_named fds s || is_below c.links s) ≡ true)
-    (sym same) (stands_there c.fds c.links (length drivers) s e))
+tells_existing drivers c t sound known same held linked =
+    grind (arith, same_test, there_exists, held_is_below, all_linked, there_is, stands_there)
 
 -- if the controlling stream of each ordinary link exists, it is in the table
 pub swept_is_linked : (drivers : List DriverSpec) (c : Configuration) (t : StreamTable) → t.fds ≡ c.fds
@@ -223,38 +189,21 @@ holds_few links s = grind (arith, nat_tests)
 -- with one more link, its lower stream is below a link too, and no other stream changes
 below_more : (links : List Link) (l : Link) (s : StreamId)
     → is_below (links ++ l ∷ []) s ≡ (is_below links s || same_stream l.lower s)
-below_more links l s = list_any-append (λ k. same_stream k.lower s) links (l ∷ [])
-    ∙ ap (λ (b : Bool). is_below links s || b) (or-false (same_stream l.lower s))
+below_more links l s = grind (arith, list_any-append, or-false (same_stream l.lower s))
 
 -- a new link is refused if its lower stream is below a link already
 pub not_below_yet : (t : LinkList) (ctl lower : StreamId) (id : ℕ) → IsLinked (refusal t ctl lower) t (Ok id)
     → is_below t.links lower ≡ false
-not_below_yet t ctl lower id h =
-    false_from_ne_true _ (λ b. let k : Ok id ≡ Err link_fault.Already = rw b at h in absurd cc)
+not_below_yet t ctl lower id h = grind arith
 
 -- if a link is added above a stream that was below none, and this stream gets one more hold, all streams below links
 -- are held
 pub held_by_one_more : (old : LinkList) (new : LinkList) (ctl lower : StreamId) (kind : LinkKind) (t u : StreamTable)
     → is_below old.links lower ≡ false → new ≡ with_link old ctl lower kind
     → AreHeld old.links t → HasHolds t lower (number_at t.holds lower + 1) u → AreHeld new.links u
-held_by_one_more old new ctl lower kind t u free is held h = λ s.
-    let l : Link = record { id = old.next_id; ctl = ctl; lower = lower; kind = kind } in
-    let links : new.links ≡ old.links ++ l ∷ [] = ap (λ (x : LinkList). x.links) is in
-    let more = ap (λ (ls : List Link). is_below ls s) links ∙ below_more old.links l s
-    ∙ ap (λ (b : Bool). is_below old.links s || b) (stream_turned lower s) in
-    h.holds s ∙ by s (same_stream s lower) ∙ ap (λ (b : Bool). if b then 1 else 0) (sym more) where
-      none : number_at t.holds lower ≡ 0
-      none = held lower ∙ ap (λ (b : Bool). if b then 1 else 0) free
-
-      by : (s : StreamId) (v : Bool) → (if v then number_at t.holds lower + 1 else number_at t.holds s)
-          ≡ (if (is_below old.links s || v) then 1 else 0)
-      by s true = ap (λ (n : ℕ). n + 1) none ∙ grind (arith, nat_tests)
-      by s false = held s ∙ grind (arith, nat_tests)
+held_by_one_more old new ctl lower kind t u free is held h = grind (arith, below_more old.links, stream_turned lower)
 
 -- the stream of a descriptor is in the table
 pub fd_is_there : (t : StreamTable) (process fd : ℕ) (s : StreamId)
     → ok_or (stream_at t.fds process fd) BadDescriptor ≡ Ok s → is_there t s ≡ true
-fd_is_there t process fd s h = or_left _ _ (named_stream process fd t.fds s (some (stream_at t.fds process fd) h)) where
-  some : (o : Option StreamId) → ok_or o BadDescriptor ≡ Ok s → o ≡ Some s
-  some None e = absurd cc
-  some (Some x) e = let same : x ≡ s = cc in ap (λ (y : StreamId). Some y) same
+fd_is_there t process fd s h = grind (arith, named_stream process fd t.fds s)

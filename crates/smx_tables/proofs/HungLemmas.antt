@@ -1,9 +1,8 @@
 -- The hung-up streams that are left when streams cease to exist.
-use Rattle.std.proofs.Common.{◌≡◌, ℕ, ◌≤◌, Bool, true, false, List, [], ◌∷◌, filter, refl, sym, ap, ◌∙◌, arith, inl}
-use Rattle.std.proofs.Common.{inr, ◌&&◌, ◌||◌, not, length, subst}
-use Rattle.std.specs.Prelude.{nat_lt}
+use Rattle.std.proofs.Common.{◌≡◌, ℕ, ◌≤◌, Bool, true, List, [], ◌∷◌, filter, refl, sym, ap, ◌∙◌, arith, inl, inr, ◌&&◌}
+use Rattle.std.proofs.Common.{◌||◌, not, length, subst}
 use Rattle.std.specs.List.{list_all}
-use Rattle.std.proofs.lemmas.Bool.{cases_Bool, and_from, and_parts, or_cases, or_left, or_right, false≢true}
+use Rattle.std.proofs.lemmas.Bool.{and_parts, or_cases, or_left, or_right, false≢true}
 use Rattle.std.proofs.lemmas.Bool.Decides.{nat_tests}
 use Rattle.smx_types.specs.declared.driver.DriverSpec.{DriverSpec}
 use Rattle.smx_types.specs.declared.link.Link.{Link}
@@ -28,24 +27,18 @@ pub use Rattle.smx_streams.proofs.HungLemmas.{twice as stricter}
 pub pass_all : (p : StreamId → Bool) (xs : List StreamId) → ((x : StreamId) → is_hung xs x ≡ true → p x ≡ true)
     → list_all p xs ≡ true
 pass_all p [] h = refl
-pass_all p (x ∷ xs) h =
-    and_from _ _ (h x (or_left _ _ (stream_self x))) (pass_all p xs (λ y t. h y (or_right (same_stream x y) _ t)))
+pass_all p (x ∷ xs) h = grind (arith, h x (or_left _ _ (stream_self x)), stream_self x, pass_all p xs)
 
 -- a test that each hung-up stream passes removes none
 pub all_pass : (p : StreamId → Bool) (xs : List StreamId) → ((x : StreamId) → is_hung xs x ≡ true → p x ≡ true)
     → xs ≡ filter p xs
 all_pass p [] h = refl
-all_pass p (x ∷ xs) h = rw (h x (or_left _ _ (stream_self x)))
-    (ap (λ (ys : List StreamId). x ∷ ys) (all_pass p xs (λ y t. h y (or_right (same_stream x y) _ t))))
+all_pass p (x ∷ xs) h = grind (arith, h x (or_left _ _ (stream_self x)), stream_self x, all_pass p xs)
 
 -- a stream that is left by a test passes it
 passed : (p : StreamId → Bool) (xs : List StreamId) (s : StreamId) → is_hung (filter p xs) s ≡ true → p s ≡ true
 passed p [] s h = absurd (false≢true h)
-passed p (x ∷ xs) s h = elim (cases_Bool (p x)) [
-  | inl keeps ↦ elim (or_cases (same_stream x s) (is_hung (filter p xs) s) (rw keeps at h))
-      [ inl same ↦ ap p (sym (stream_is x s same)) ∙ keeps | inr other ↦ passed p xs s other ]
-  | inr drops ↦ passed p xs s (rw drops at h)
-]
+passed p (x ∷ xs) s h = grind (arith, stream_is x s, passed p xs s)
 
 -- ---- tables of streams
 
@@ -66,16 +59,7 @@ left_twice a b c first second h = second ∙ ap (filter (is_there c)) first ∙ 
 -- a stream that is in the table with fewer holds was in it before
 pub there_before : (t u : StreamTable) (s x : StreamId) (n : ℕ) → HasHolds t s n u → n ≤ number_at t.holds s
     → is_there u x ≡ true → is_there t x ≡ true
-there_before t u s x n h few there = elim (or_cases (is_named u.fds x) (nat_lt 0 (number_at u.holds x)) there) [
-  | inl a ↦ or_left _ _ (ap (λ (fds : List Descriptor). is_named fds x) (sym h.fds) ∙ a)
-  | inr b ↦ or_right (is_named t.fds x) _ (grind (arith, nat_tests, not_more (same_stream x s) refl))
-] where
-  not_more : (b : Bool) → same_stream x s ≡ b → number_at u.holds x ≤ number_at t.holds x
-  not_more true e =
-      let now : number_at u.holds x ≡ n = h.holds x ∙ rw e refl in
-      let same : number_at t.holds x ≡ number_at t.holds s = ap (number_at t.holds) (stream_is x s e) in
-      omega (arith, now, same, few)
-  not_more false e = let now : number_at u.holds x ≡ number_at t.holds x = h.holds x ∙ rw e refl in omega (arith, now)
+there_before t u s x n h few there = grind (arith, nat_tests)
 
 -- ---- a sweep, whether or not the table of streams has removed hung-up streams before it
 
@@ -84,10 +68,7 @@ there_before t u s x n h few there = elim (or_cases (is_named u.fds x) (nat_lt 0
 pub dead_of_left : (drivers : List DriverSpec) (c : Configuration) (t : StreamTable) (hungs : List StreamId)
     → TellsExisting drivers c t → hungs ≡ filter (is_there t) c.hungs
     → without_dead_streams drivers (record c { hungs = hungs }) ≡ without_dead_streams drivers c
-dead_of_left drivers c t hungs told left =
-    ap (λ (hs : List StreamId). record (without_dead_streams drivers c) { hungs = filter (exists drivers c) hs }) left
-    ∙ ap (λ (hs : List StreamId). record (without_dead_streams drivers c) { hungs = hs })
-    (stricter (exists drivers c) (is_there t) c.hungs (λ x up. told x ∙ up))
+dead_of_left drivers c t hungs told left = grind (arith, stricter (exists drivers c) (is_there t) c.hungs)
 
 -- a stream that exists after some links are removed is in the table, while the streams below all links are held
 exists_there : (drivers : List DriverSpec) (c : Configuration) (t : StreamTable) (goes : Link → Bool) (x : StreamId)

@@ -1,5 +1,5 @@
 -- Holds in equal tables and in empty tables.
-use Rattle.std.proofs.Common.{◌≡◌, List, [], sym, subst}
+use Rattle.std.proofs.Common.{◌≡◌, List, [], sym, subst, arith}
 use Rattle.smx_types.specs.declared.link.Link.{Link}
 use Rattle.smx_types.specs.declared.stream.StreamId.{StreamId}
 use Rattle.smx_streams.specs.StreamTables.{StreamTable, number_at}
@@ -7,8 +7,7 @@ use Rattle.smx_tables.specs.ExistingStreams.{AreHeld}
 
 -- equal links and equal streams have the same holds
 pub held_again : (links same : List Link) (t u : StreamTable) → AreHeld links t → same ≡ links → u ≡ t → AreHeld same u
-held_again links same t u h e f =
-    subst (λ (ls : List Link). AreHeld ls u) (sym e) (subst (λ (x : StreamTable). AreHeld links x) (sym f) h)
+held_again links same t u h e f = grind arith
 
 -- without links and holds, each stream below a link is held
 pub held_at_first : (links : List Link) (t : StreamTable) → links ≡ [] → ((s : StreamId) → number_at t.holds s ≡ 0)

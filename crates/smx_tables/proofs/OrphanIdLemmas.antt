@@ -1,21 +1,18 @@
 -- Collecting the ids of links whose lower streams are released.
 use Rattle.std.proofs.Common.{◌≡◌, ℕ, ◌-◌, ◌<◌, ◌≤◌, Bool, true, false, ◌||◌, not, eqb, List, [], ◌∷◌, ◌++◌, length}
-use Rattle.std.proofs.Common.{length-append, find, Option, Some, None, if◌then◌else◌, refl, sym, ap, subst, ◌∙◌, arith}
-use Rattle.std.specs.Prelude.{nat_lt, slice_get}
-use Rattle.std.specs.List.{list_any}
+use Rattle.std.proofs.Common.{length-append, find, Option, Some, None, refl, sym, ap, ◌∙◌, arith}
+use Rattle.std.specs.Prelude.{slice_get}
 use Rattle.std.specs.Option.{option_map_or}
 use Rattle.std.proofs.lemmas.Option.{slice_get_within}
-use Rattle.std.proofs.lemmas.Bool.Decides.{nat_tests}
 use Rattle.smx_types.specs.declared.link.Link.{Link}
 use Rattle.smx_types.specs.declared.stream.StreamId.{StreamId}
 use Rattle.smx_model.specs.Configuration.{same_stream}
 use Rattle.smx_model.specs.Paths.{AreLowersApart}
 use Rattle.smx_streams.specs.StreamTables.{StreamTable, HasHolds, number_at}
 use Rattle.smx_tables.specs.ExistingStreams.{AreHeld, IsReleasing, holds_below, is_held, is_loose}
-use Rattle.smx_tables.specs.ListedLinks.{is_listed, AreIdsOf}
+use Rattle.smx_tables.specs.ListedLinks.{AreIdsOf}
 use Rattle.smx_tables.specs.TouchedStreams.{AreReleased}
-use Rattle.smx_tables.proofs.AboveLemmas.{above_with_id, eqb_swap, found_itself, once_below, stream_self}
-use Rattle.smx_tables.proofs.AboveLemmas.{IsIdsRising}
+use Rattle.smx_tables.proofs.AboveLemmas.{above_with_id, eqb_swap, found_itself, once_below, stream_self, IsIdsRising}
 use Rattle.smx_tables.proofs.ExistingLemmas.{holds_few}
 use Rattle.smx_tables.proofs.ReleaseLemmas.{loose_held, this_one}
 use Rattle.smx_tables.proofs.ReleasedIdLemmas.{listed_one_more, released_once}
@@ -27,11 +24,7 @@ use Rattle.smx_tables.proofs.TouchLemmas.{few_below, none_free}
 -- while each stream below a link is held, an empty list has the ids of the released links
 pub none_released_yet : (links : List Link) (t : StreamTable) (ids : List ℕ) (room : ℕ) → AreHeld links t → ids ≡ []
     → length links ≤ room → AreReleased links t ids room
-none_released_yet links t ids room held none enough = record {
-  same = λ id. ap (λ (xs : List ℕ). is_listed xs id) none
-      ∙ sym (ap (list_any (λ (l : Link). eqb l.id id)) (none_free links t held));
-  enough = omega (arith, ap length none, few_below links t held links, enough);
-}
+none_released_yet links t ids room held none enough = grind (arith, none_free, few_below)
 
 -- ---- one more link
 
@@ -48,11 +41,7 @@ found_at links i l apart at =
 -- after the release of a stream, a link's lower stream is free if it was free before, or is this stream
 held_less : (t new : StreamTable) (s : StreamId) (k : Link) → HasHolds t s 0 new
     → not (is_held new k) ≡ (not (is_held t k) || same_stream k.lower s)
-held_less t new s k h = by (same_stream k.lower s) (h.holds k.lower) where
-  by : (b : Bool) → number_at new.holds k.lower ≡ (if b then 0 else number_at t.holds k.lower)
-      → not (is_held new k) ≡ (not (is_held t k) || b)
-  by true e = ap (λ (n : ℕ). not (nat_lt 0 n)) e ∙ grind (arith, nat_tests)
-  by false e = ap (λ (n : ℕ). not (nat_lt 0 n)) e ∙ grind (arith, nat_tests)
+held_less t new s k h = grind (arith, h.holds k.lower)
 
 -- if one more lower stream is released, the ids of the released links have one more, the id of its link
 id_more : (links : List Link) (t new : StreamTable) (ids : List ℕ) (i : ℕ) (l : Link) → AreLowersApart links
@@ -80,10 +69,4 @@ pub one_released : (links : List Link) (i room : ℕ) (l : Link) (t new : Stream
     → holds_below links new < holds_below links t → AreReleased links t ids room
     → AreReleased links new more room
 one_released links i room l t new ids more apart rise at loose releasing h longer less was =
-    let few : number_at t.holds l.lower ≤ 1 = omega (arith, releasing.once l.lower, holds_few links l.lower) in
-    let none = released_once t new l.lower few (loose_held t l loose) h in
-    record {
-      same = subst (AreIdsOf (λ k. not (is_held new k)) links) (sym longer)
-          (id_more links t new ids i l apart rise at none was.same);
-      enough = omega (arith, less, ap length longer, length-append ids (l.id ∷ []), was.enough);
-    }
+    grind (arith, releasing.once l.lower, holds_few, released_once, loose_held, id_more, length-append)

@@ -1,10 +1,10 @@
 -- If no link is loose, the links whose lower streams are not held are the orphaned ones.
-use Rattle.std.proofs.Common.{◌≡◌, ℕ, true, false, ◌&&◌, ◌||◌, not, List, [], ◌∷◌, length, filter}
-use Rattle.std.proofs.Common.{refl, sym, ap, subst, ◌∙◌, arith, inl, inr}
+use Rattle.std.proofs.Common.{◌≡◌, ℕ, true, false, ◌&&◌, ◌||◌, not, List, [], ◌∷◌, length, filter, refl, sym, ap, subst}
+use Rattle.std.proofs.Common.{◌∙◌, arith, inl, inr}
 use Rattle.std.proofs.Math.Bool.{not-not}
 use Rattle.std.specs.Prelude.{nat_lt}
 use Rattle.std.specs.List.{All, AllByRecursion, list_any, list_all}
-use Rattle.std.proofs.lemmas.Bool.{cases_Bool, and_from, or_parts}
+use Rattle.std.proofs.lemmas.Bool.{cases_Bool}
 use Rattle.std.proofs.lemmas.Bool.Decides.{nat_tests}
 use Rattle.std.proofs.lemmas.List.Elements.{filter_agree, recursion_from_All}
 use Rattle.smx_types.specs.declared.driver.DriverSpec.{DriverSpec}
@@ -27,9 +27,7 @@ use Rattle.smx_tables.proofs.RemovalLemmas.{any_kept, links_stay, listed_any}
 -- if no link is loose, the controlling stream of each ordinary link whose lower stream is held is in the table
 all_tight : (t : StreamTable) (ls : List Link) → list_any (is_loose t) ls ≡ false → AllByRecursion (IsTight t) ls
 all_tight t [] h = tt
-all_tight t (l ∷ ls) h =
-    let p = or_parts (is_loose t l) (list_any (is_loose t) ls) h in
-    ((λ held o. grind (arith, nat_tests, p.0)), all_tight t ls p.1)
+all_tight t (l ∷ ls) h = grind (arith, nat_tests, all_tight t ls)
 
 -- while links are released, a held stream is below a link
 held_below : (links : List Link) (n : ℕ) (t : StreamTable) (s : StreamId) → IsReleasing links n t
@@ -86,13 +84,7 @@ held_is_left links n t h = λ s. rw (below_held t s links) (grind (arith, nat_te
 pub left_is_linked : (t : StreamTable) (ls : List Link) → list_any (is_loose t) ls ≡ false
     → list_all (λ l. is_persistent l || is_there t l.ctl) (filter (is_held t) ls) ≡ true
 left_is_linked t [] h = refl
-left_is_linked t (l ∷ ls) h =
-    let p = or_parts (is_loose t l) (list_any (is_loose t) ls) h in
-    let rest = left_is_linked t ls p.1 in
-    elim (cases_Bool (is_held t l)) [
-      | inl u ↦ rw u (and_from (is_persistent l || is_there t l.ctl) _ (grind (arith, nat_tests, p.0)) rest)
-      | inr n ↦ rw n rest
-    ]
+left_is_linked t (l ∷ ls) h = grind (arith, left_is_linked t ls, nat_tests)
 
 -- the links that are left, by the ids of the others
 pub left_links : (links : List Link) (ids : List ℕ) (t : StreamTable) → IsIdsRising links

@@ -1,15 +1,13 @@
 -- Releasing the lower streams of loose links.
-use Rattle.std.proofs.Common.{◌≡◌, ℕ, zero, suc, ◌-◌, ◌<◌, ◌≤◌, Bool, true, false, not, List, [], ◌∷◌, length}
-use Rattle.std.proofs.Common.{get_or, find, Option, Some, None, if◌then◌else◌, refl, sym, ap, subst, ◌∙◌, arith, inl}
-use Rattle.std.proofs.Common.{inr, ◌&&◌}
+use Rattle.std.proofs.Common.{◌≡◌, ℕ, zero, suc, ◌-◌, ◌<◌, ◌≤◌, Bool, true, false, not, List, [], ◌∷◌, length, get_or}
+use Rattle.std.proofs.Common.{find, Option, Some, None, if◌then◌else◌, refl, sym, ap, subst, ◌∙◌, arith, ◌&&◌}
 use Rattle.std.specs.Prelude.{nat_lt, slice_get}
-use Rattle.std.proofs.lemmas.Bool.{cases_Bool, and_parts, and_from, or_parts, false_from_ne_true, false≢true, not-true}
+use Rattle.std.proofs.lemmas.Bool.{and_parts, or_parts, false_from_ne_true, false≢true, not-true}
 use Rattle.std.proofs.lemmas.Bool.Decides.{nat_tests}
 use Rattle.std.proofs.lemmas.List.Elements.{recursion_from_All}
 use Rattle.std.proofs.lemmas.Option.{get_or_from_slice_get, slice_get-get_or, slice_get_within}
 use Rattle.smx_types.specs.declared.link.Link.{Link}
 use Rattle.smx_types.specs.declared.link.LinkKind.TheVariants as kind
-use Rattle.smx_types.specs.declared.stream.Descriptor.{Descriptor}
 use Rattle.smx_types.specs.declared.stream.StreamId.{StreamId}
 use Rattle.smx_model.specs.Configuration.{same_stream}
 use Rattle.smx_model.specs.Paths.{AreLowersApart}
@@ -27,11 +25,7 @@ use Rattle.smx_tables.proofs.ExistingLemmas.{held_is_below}
 
 -- while each stream below a link is held, the conditions for releasing streams hold
 pub starts : (links : List Link) (climbs : ℕ) (t : StreamTable) → AreHeld links t → IsReleasing links climbs t
-starts links climbs t h = record {
-  once = λ s. omega (arith, h s);
-  orphaned = λ i d lt free.
-      absurd (false≢true (sym free ∙ held_is_below links t (get_or links i d).lower h ∙ below_at links i d lt));
-}
+starts links climbs t h = grind (arith, held_is_below links t, below_at links)
 
 -- ---- one more loose link
 
@@ -64,9 +58,7 @@ gone_stands_not links n t s apart h gone =
 -- a loose link is orphaned
 loose_orphaned : (links : List Link) (n : ℕ) (t : StreamTable) (l : Link) → AreLowersApart links → IsReleasing links n t
     → is_loose t l ≡ true → is_orphaned t.fds links n l ≡ true
-loose_orphaned links n t l apart h loose =
-    and_from (not (is_persistent l)) _ (grind (arith, nat_tests))
-    (ap not (gone_stands_not links n t l.ctl apart h (grind (arith, nat_tests))))
+loose_orphaned links n t l apart h loose = grind (arith, nat_tests, gone_stands_not)
 
 -- one less, or the same
 less_held : (a : Bool) (x y z : ℕ) → z ≡ (if a then x - 1 else y) → (a ≡ true → x ≡ y) → z ≤ y
@@ -76,8 +68,7 @@ less_held false x y z e same = let as_many : z ≡ y = e in omega (arith, as_man
 -- no stream has more holds than before the release
 pub not_more_held : (t new : StreamTable) (s x : StreamId) → HasHolds t s (number_at t.holds s - 1) new
     → number_at new.holds x ≤ number_at t.holds x
-not_more_held t new s x h = less_held (same_stream x s) (number_at t.holds s) (number_at t.holds x)
-    (number_at new.holds x) (h.holds x) (λ same. ap (number_at t.holds) (sym (stream_is x s same)))
+not_more_held t new s x h = grind (arith, less_held, h.holds x, stream_is)
 
 -- the release of a stream changes the holds of no other stream
 pub other_held : (t new : StreamTable) (s x : StreamId) → HasHolds t s (number_at t.holds s - 1) new
@@ -112,19 +103,16 @@ this_one ls i l e = get_or_from_slice_get ls i l l (sym e)
 pub releases_this : (links : List Link) (n i : ℕ) (l : Link) (t new : StreamTable) → AreLowersApart links
     → Some l ≡ slice_get links i → is_loose t l ≡ true
     → HasHolds t l.lower (number_at t.holds l.lower - 1) new → IsReleasing links n t → IsReleasing links n new
-releases_this links n i l t new apart at loose h was = record {
-  once = λ s. let a = not_more_held t new l.lower s h in let b = was.once s in omega (arith, a, b);
-  orphaned = λ j e in_range free.
-      let here : get_or links i e ≡ l = get_or_from_slice_get links i l e (sym at) in
-      subst (λ (fds : List Descriptor). is_orphaned fds links n (get_or links j e) ≡ true) (sym h.fds)
-      (elim (cases_Bool (same_stream (get_or links j e).lower l.lower)) [
-        | inl same ↦
-            let one = one_link links i j e apart (slice_get_within links i l (sym at)) in_range (rw here same) in
-            rw (one, here) (loose_orphaned links n t l apart was loose)
-        | inr other ↦ was.orphaned j e in_range
-            (ap (nat_lt 0) (sym (other_held t new l.lower (get_or links j e).lower h other)) ∙ free)
-      ]);
-}
+releases_this links n i l t new apart at loose h was =
+    grind (
+      arith,
+      not_more_held t new l.lower,
+      get_or_from_slice_get links i l,
+      one_link links i,
+      slice_get_within links i l (sym at),
+      loose_orphaned links n t l apart was loose,
+      other_held t new l.lower,
+    )
 
 -- after the lower stream of the loose link at an index is released, the streams below links have fewer holds in total
 pub less_this : (links : List Link) (i : ℕ) (l : Link) (t new : StreamTable) → Some l ≡ slice_get links i

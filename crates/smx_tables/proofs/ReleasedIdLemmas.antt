@@ -1,6 +1,6 @@
 -- Releasing the lower streams of links by the ids of the links.
-use Rattle.std.proofs.Common.{◌≡◌, ℕ, ◌-◌, ◌<◌, ◌≤◌, Bool, true, false, ◌&&◌, ◌||◌, not, eqb, List, [], ◌∷◌, ◌++◌}
-use Rattle.std.proofs.Common.{find, Option, Some, None, if◌then◌else◌, refl, ap, subst, ◌∙◌, arith}
+use Rattle.std.proofs.Common.{◌≡◌, ℕ, ◌-◌, ◌<◌, ◌≤◌, false, ◌&&◌, ◌||◌, not, eqb, List, [], ◌∷◌, ◌++◌, find, Option}
+use Rattle.std.proofs.Common.{Some, None, refl, ◌∙◌, arith}
 use Rattle.std.proofs.Math.Bool.{and-true, or-false}
 use Rattle.std.specs.Option.{option_map_or}
 use Rattle.std.proofs.lemmas.List.Folds.{list_any-append}
@@ -14,7 +14,7 @@ use Rattle.smx_streams.specs.StreamTables.{StreamTable, AreHungsSound, HasHolds,
 use Rattle.smx_tables.specs.ExistingStreams.{AreHeld}
 use Rattle.smx_tables.specs.ListedLinks.{is_listed}
 use Rattle.smx_links.specs.LinkLists.{is_one_of, others_of}
-use Rattle.smx_tables.proofs.AboveLemmas.{above_with_id, any_once, once_below, stream_is, stream_turned, IsIdsRising}
+use Rattle.smx_tables.proofs.AboveLemmas.{above_with_id, any_once, once_below, stream_turned, IsIdsRising}
 use Rattle.smx_tables.proofs.HungLemmas.{none_went}
 use Rattle.smx_tables.proofs.RemovalLemmas.{any_kept}
 
@@ -23,27 +23,17 @@ use Rattle.smx_tables.proofs.RemovalLemmas.{any_kept}
 -- a stream with one hold has none after it is released
 pub released_once : (t new : StreamTable) (s : StreamId) → number_at t.holds s ≤ 1 → 0 < number_at t.holds s
     → HasHolds t s (number_at t.holds s - 1) new → HasHolds t s 0 new
-released_once t new s few some h =
-    let none : number_at t.holds s - 1 ≡ 0 = omega (arith, few, some) in subst (λ (n : ℕ). HasHolds t s n new) none h
+released_once t new s few some h = grind arith
 
 -- a stream without a hold need not be released
 pub released_already : (t : StreamTable) (s : StreamId) → AreHungsSound t → number_at t.holds s ≤ 0 → HasHolds t s 0 t
-released_already t s sound none =
-    record { minors = refl; fds = refl; holds = λ x. by x (same_stream x s) refl; hungs = none_went t sound } where
-      none_there : number_at t.holds s ≡ 0
-      none_there = omega (arith, none)
-
-      by : (x : StreamId) (b : Bool) → same_stream x s ≡ b
-          → number_at t.holds x ≡ (if b then 0 else number_at t.holds x)
-      by x true e = ap (number_at t.holds) (stream_is x s e) ∙ none_there
-      by x false e = refl
+released_already t s sound none = grind (arith, none_went t sound)
 
 -- ---- the lower streams of links by their ids
 
 -- an id is in a list with one more id exactly if it was there before or is this one
 pub listed_one_more : (ids : List ℕ) (id x : ℕ) → is_listed (ids ++ id ∷ []) x ≡ (is_listed ids x || eqb x id)
-listed_one_more ids id x = list_any-append (λ i. eqb x i) ids (id ∷ [])
-    ∙ ap (λ (b : Bool). is_listed ids x || b) (or-false (eqb x id))
+listed_one_more ids id x = grind (arith, list_any-append, or-false (eqb x id))
 
 -- after one more id, the streams below the remaining links are the same ones except the lower stream of its link
 below_less : (links : List Link) (ids : List ℕ) (id : ℕ) (x : StreamId) → AreLowersApart links → IsIdsRising links
@@ -67,17 +57,10 @@ below_less links ids id x apart rise =
 pub released_more : (links : List Link) (ids : List ℕ) (id : ℕ) (l : Link) (t new : StreamTable) → AreLowersApart links
     → IsIdsRising links → find (λ k. eqb k.id id) links ≡ Some l
     → AreHeld (others_of ids links) t → HasHolds t l.lower 0 new → AreHeld (others_of (ids ++ id ∷ []) links) new
-released_more links ids id l t new apart rise found held h = λ x.
-    rw (below_less links ids id x apart rise, found, stream_turned l.lower x)
-    (h.holds x ∙ by x (same_stream x l.lower)) where
-      by : (x : StreamId) (v : Bool) → (if v then 0 else number_at t.holds x)
-          ≡ (if (is_below (others_of ids links) x && not v) then 1 else 0)
-      by x true = grind (arith, nat_tests)
-      by x false = held x ∙ grind (arith, nat_tests)
+released_more links ids id l t new apart rise found held h = grind (arith, below_less, stream_turned)
 
 -- one more id that no link has
 pub released_none : (links : List Link) (ids : List ℕ) (id : ℕ) (t : StreamTable) → AreLowersApart links
     → IsIdsRising links → find (λ k. eqb k.id id) links ≡ None
     → AreHeld (others_of ids links) t → AreHeld (others_of (ids ++ id ∷ []) links) t
-released_none links ids id t apart rise none held = λ x.
-    rw (below_less links ids id x apart rise, none, and-true (is_below (others_of ids links) x)) (held x)
+released_none links ids id t apart rise none held = grind (arith, below_less links ids id, and-true)

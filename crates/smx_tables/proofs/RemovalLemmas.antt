@@ -1,10 +1,10 @@
 -- Removing links by their ids removes the links that pass the test by which the ids were listed.
-use Rattle.std.proofs.Common.{◌≡◌, ℕ, Bool, true, false, ◌&&◌, ◌||◌, not, eqb, List, [], ◌∷◌, length, map, filter}
-use Rattle.std.proofs.Common.{find, get_or, refl, sym, ap, subst, ◌∙◌, inl, inr}
+use Rattle.std.proofs.Common.{◌≡◌, ℕ, Bool, true, false, ◌&&◌, not, eqb, List, [], ◌∷◌, length, map, filter, find}
+use Rattle.std.proofs.Common.{get_or, refl, sym, ap, subst, ◌∙◌, arith, rules}
 use Rattle.std.proofs.Math.Bool.{and-false, and-true}
 use Rattle.std.specs.List.{list_any, AllByRecursion}
 use Rattle.std.specs.Option.{option_map_or}
-use Rattle.std.proofs.lemmas.Bool.{cases_Bool, eqb-true, eq-eqb}
+use Rattle.std.proofs.lemmas.Bool.{eqb-true, eq-eqb}
 use Rattle.std.proofs.lemmas.List.{nil_from_length}
 use Rattle.std.proofs.lemmas.List.Elements.{filter_agree, recursion_from_All}
 use Rattle.smx_types.specs.declared.link.Link.{Link}
@@ -34,10 +34,7 @@ IsListOf goes ids ls = AllByRecursion (λ l. is_listed ids l.id ≡ goes l) ls
 pub kept_alike : {X : Type 0} (p q : X → Bool) (xs : List X) → AllByRecursion (λ x. p x ≡ q x) xs
     → filter p xs ≡ filter q xs
 kept_alike p q [] h = refl
-kept_alike p q (x ∷ xs) h = elim (cases_Bool (q x)) [
-  | inl t ↦ rw (h.0, t) (ap (λ (ys : List _). x ∷ ys) (kept_alike p q xs h.1))
-  | inr f ↦ rw (h.0, f) (kept_alike p q xs h.1)
-]
+kept_alike p q (x ∷ xs) h = grind (arith, kept_alike p q xs h.1)
 
 -- two tests that agree on each link leave the same links
 pub links_stay : (f g : Link → Bool) (ls : List Link) → AllByRecursion (λ l. f l ≡ g l) ls
@@ -53,17 +50,13 @@ route_listed (l ∷ ls) id = rw (eqb_swap id l.id, route_listed ls id) refl
 found_same : (f g key : Link → Bool) (ls : List Link) → AllByRecursion (λ l. f l ≡ g l) ls
     → option_map_or f (find key ls) false ≡ option_map_or g (find key ls) false
 found_same f g key [] h = refl
-found_same f g key (l ∷ ls) h =
-    elim (cases_Bool (key l)) [ inl t ↦ rw t (h.0) | inr n ↦ rw n (found_same f g key ls h.1) ]
+found_same f g key (l ∷ ls) h = grind (arith, found_same f g key ls h.1)
 
 -- some link that is kept passes a test exactly if some link passes both tests
 pub any_kept : (key goes : Link → Bool) (ls : List Link)
     → list_any key (filter goes ls) ≡ list_any (λ l. key l && goes l) ls
 any_kept key goes [] = refl
-any_kept key goes (l ∷ ls) = elim (cases_Bool (goes l)) [
-  | inl t ↦ rw (t, and-true (key l)) (ap (λ (b : Bool). key l || b) (any_kept key goes ls))
-  | inr n ↦ rw (n, and-false (key l)) (any_kept key goes ls)
-]
+any_kept key goes (l ∷ ls) = grind (arith, and-true (key l), any_kept key goes ls, and-false (key l))
 
 -- if ids rise, some link that is kept has an id exactly if the link that is found by this id is kept
 pub kept_with_id : (goes : Link → Bool) (id : ℕ) (ls : List Link) → IsIdsRising ls
@@ -83,8 +76,7 @@ below_listed goes ids ls s apart h =
 -- a place is a read side below a listed link exactly if it is one below a link that goes
 read_listed : (goes : Link → Bool) (ids : List ℕ) (ls : List Link) (p : Place) → AreLowersApart ls
     → IsListOf goes ids ls → is_read_below_listed ls ids p ≡ is_read_below (filter goes ls) p
-read_listed goes ids ls p apart h =
-    ap (λ (x : Bool). same_side p.side side.Read && x) (below_listed goes ids ls p.stream apart h)
+read_listed goes ids ls p apart h = grind (arith, below_listed goes ids ls p.stream apart h)
 
 -- two tests that agree on each item remove the same items
 pub same_kept : {X : Type 0} (f g : X → Bool) (xs : List X) → ((x : X) → f x ≡ g x)
@@ -125,15 +117,7 @@ same_parts c ls ks rs ss hs gs ps qs a b d e = cc
 -- removing links by a list of their ids removes the links that go
 pub removed_is : (c : Configuration) (ids : List ℕ) → AreLowersApart c.links → IsIdsRising c.links
     → (goes : Link → Bool) → AreIdsOf goes c.links ids → without_listed c ids ≡ without_links c goes
-removed_is c ids apart rise goes h =
-    let gone = filter goes c.links in
-    let here = listed_any goes c.links ids rise h in
-    same_parts c _ _ _ _ _ _ _ _ (links_stay (is_one_of ids) goes c.links here)
-    (same_kept (λ (r : Route). is_listed ids r.id) (λ r. list_any (λ l. eqb l.id r.id) gone) c.routes (λ r. h r.id))
-    (same_kept (λ (h : QueuedMessage). is_read_below_listed c.links ids h.place)
-    (λ h. is_read_below gone h.place) c.flow (λ h. read_listed goes ids c.links h.place apart here))
-    (same_kept (is_read_below_listed c.links ids) (is_read_below gone) c.fulls
-    (λ p. read_listed goes ids c.links p apart here))
+removed_is c ids apart rise goes h = search (rules, listed_any, same_parts, links_stay, same_kept, read_listed)
 
 -- a list of length 0 is empty
 pub is_nothing : (ids : List ℕ) → eqb (length ids) 0 ≡ true → ids ≡ []
@@ -149,11 +133,7 @@ none_goes goes ls h = no_ids (filter goes ls) h where
 -- if no link goes, all links stay
 all_stay : (goes : Link → Bool) (ls : List Link) → filter goes ls ≡ [] → filter (λ l. not (goes l)) ls ≡ ls
 all_stay goes [] h = refl
-all_stay goes (l ∷ ls) h = elim (cases_Bool (goes l)) [
-  | inl t ↦ let k = rw t at h in
-      absurd cc
-  | inr f ↦ rw f (ap (λ (zs : List Link). l ∷ zs) (all_stay goes ls (rw f at h)))
-]
+all_stay goes (l ∷ ls) h = grind (arith, all_stay goes ls)
 
 -- a test that no item passes removes nothing
 pub none_passes : {X : Type 0} (t : X → Bool) (xs : List X) → ((x : X) → t x ≡ false) → filter (λ x. not (t x)) xs ≡ xs

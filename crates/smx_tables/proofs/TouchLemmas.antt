@@ -2,7 +2,7 @@
 use Rattle.std.proofs.Common.{◌≡◌, ℕ, suc, ◌+◌, ◌≤◌, Bool, true, false, ◌||◌, not, List, [], ◌∷◌, ◌++◌, length, map}
 use Rattle.std.proofs.Common.{filter, get_or, refl, sym, ap, ◌∙◌, arith, inl, inr}
 use Rattle.std.specs.List.{All, list_any, list_all}
-use Rattle.std.proofs.lemmas.Bool.{cases_Bool, and_parts, or_cases, or_left, or_right, false≢true, not-true}
+use Rattle.std.proofs.lemmas.Bool.{and_parts, or_cases, false≢true}
 use Rattle.std.proofs.lemmas.List.{length-map}
 use Rattle.std.proofs.lemmas.Bool.Decides.{nat_tests}
 use Rattle.smx_types.specs.declared.driver.DriverSpec.{DriverSpec}
@@ -43,8 +43,7 @@ touched_there t ss s all h =
 -- the controlling stream of each ordinary link is in the table
 pub linked_still : (t : StreamTable) (ss : List StreamId) (c : Configuration) → list_all (is_there t) ss ≡ true
     → IsTouched t ss c → list_all (λ l. is_persistent l || is_there t l.ctl) c.links ≡ true
-linked_still t ss c all h =
-    linked_weaker (is_there_or_touched t ss) (is_there t) c.links (λ s o. touched_there t ss s all o) h.links
+linked_still t ss c all h = grind (arith, linked_weaker, touched_there)
 
 -- nothing is left to sweep
 pub swept_still : (drivers : List DriverSpec) (c : Configuration) (t : StreamTable) (ss : List StreamId)
@@ -64,16 +63,7 @@ swept_still drivers c t ss told all h hung = record {
 pub none_loose_still : (t : StreamTable) (ss : List StreamId) (ls : List Link) → list_all (is_there t) ss ≡ true
     → list_all (is_watched t ss) ls ≡ true → list_any (is_loose t) ls ≡ false
 none_loose_still t ss [] all h = refl
-none_loose_still t ss (l ∷ ls) all h =
-    let p = and_parts (is_watched t ss l) (list_all (is_watched t ss) ls) h in
-    let tight : is_loose t l ≡ false =
-    elim (or_cases (not (is_loose t l)) (list_any (same_stream l.ctl) ss) p.0) [
-      | inl quiet ↦ not-true _ quiet
-      | inr listed ↦
-          let there : is_there t l.ctl ≡ true = touched_there t ss l.ctl all (or_right (is_there t l.ctl) _ listed) in
-          grind (arith, nat_tests)
-    ] in
-    rw tight (none_loose_still t ss ls all p.1)
+none_loose_still t ss (l ∷ ls) all h = grind (arith, touched_there, nat_tests, none_loose_still t ss ls all)
 
 -- ---- streams that were in the table are in it or touched
 
@@ -82,14 +72,7 @@ none_loose_still t ss (l ∷ ls) all h =
 pub touched_by : (drivers : List DriverSpec) (c : Configuration) (t u : StreamTable) (ss : List StreamId)
     → TellsExisting drivers c t → IsSwept drivers c
     → ((s : StreamId) → is_there t s ≡ true → is_there_or_touched u ss s ≡ true) → IsTouched u ss c
-touched_by drivers c t u ss told h stays = record {
-  links = linked_weaker (exists drivers c) (is_there_or_touched u ss) c.links now h.links;
-  binds = all_weaker _ _ c.binds (λ b. now (record { driver = b.driver; minor = b.minor })) h.binds;
-  flow = all_weaker _ _ c.flow (λ m. now m.place.stream) h.flow;
-  fulls = all_weaker _ _ c.fulls (λ p. now p.stream) h.fulls;
-} where
-  now : (s : StreamId) → exists drivers c s ≡ true → is_there_or_touched u ss s ≡ true
-  now s e = stays s (told s ∙ e)
+touched_by drivers c t u ss told h stays = grind (arith, linked_weaker, all_weaker)
 
 -- other descriptors and hung-up streams don't change which streams must be in the table or touched
 pub touched_beside : (t : StreamTable) (ss : List StreamId) (c : Configuration) (fds : List Descriptor)
@@ -99,50 +82,29 @@ touched_beside t ss c fds hungs h = record { links = h.links; binds = h.binds; f
 -- after links are removed, each stream with something is still in the table or touched
 pub touched_without : (t : StreamTable) (ss : List StreamId) (c : Configuration) (goes : Link → Bool) → IsTouched t ss c
     → IsTouched t ss (without_links c goes)
-touched_without t ss c goes h = record {
-  links = all_fewer _ _ c.links h.links;
-  binds = h.binds;
-  flow = all_fewer _ _ c.flow h.flow;
-  fulls = all_fewer _ _ c.fulls h.fulls;
-}
+touched_without t ss c goes h = grind (arith, all_fewer)
 
 -- after places are emptied, each stream with something is still in the table or touched
 pub touched_emptied : (t : StreamTable) (ss : List StreamId) (c : Configuration) (goes : Place → Bool)
     → IsTouched t ss c → IsTouched t ss (without_queues_at c goes)
-touched_emptied t ss c goes h = record {
-  links = h.links;
-  binds = h.binds;
-  flow = all_fewer _ _ c.flow h.flow;
-  fulls = all_fewer _ _ c.fulls h.fulls;
-}
+touched_emptied t ss c goes h = grind (arith, all_fewer)
 
 -- if each stream in one table or touched there is in another one or touched there, the condition carries over
 pub touched_on : (t u : StreamTable) (ss vs : List StreamId) (c : Configuration) → IsTouched t ss c
     → ((s : StreamId) → is_there_or_touched t ss s ≡ true → is_there_or_touched u vs s ≡ true) → IsTouched u vs c
-touched_on t u ss vs c h on = record {
-  links = linked_weaker (is_there_or_touched t ss) (is_there_or_touched u vs) c.links on h.links;
-  binds = all_weaker _ _ c.binds (λ b. on (record { driver = b.driver; minor = b.minor })) h.binds;
-  flow = all_weaker _ _ c.flow (λ m. on m.place.stream) h.flow;
-  fulls = all_weaker _ _ c.fulls (λ p. on p.stream) h.fulls;
-}
+touched_on t u ss vs c h on = grind (arith, linked_weaker, all_weaker)
 
 -- if one stream is released and touched, each stream that was in the table or touched still is
 pub still_touched : (u v : StreamTable) (ss : List StreamId) (s : StreamId) (n : ℕ) → HasHolds u s n v
     → (x : StreamId) → is_there_or_touched u ss x ≡ true → is_there_or_touched v (ss ++ s ∷ []) x ≡ true
-still_touched u v ss s n h x there = elim (cases_Bool (same_stream x s)) [
-  | inl it ↦ or_right _ _ (listed_more x ss s ∙ or_right _ _ it)
-  | inr other ↦ rw (there_same u v s x n h other) (grind (arith, nat_tests, listed_more x ss s))
-]
+still_touched u v ss s n h x there = grind (arith, listed_more x ss s, there_same u v s x n h, nat_tests)
 
 -- after one touched stream has been examined, each stream that was in the table, touched or seen still is
 pub seen_more : (u v : StreamTable) (left rest now seen : List StreamId) (s x : StreamId) → left ≡ rest ++ s ∷ []
     → ((y : StreamId) → is_there_or_touched u rest y ≡ true → is_there_or_touched v now y ≡ true)
     → (is_there_or_touched u left x || list_any (same_stream x) seen) ≡ true
     → (is_there_or_touched v now x || list_any (same_stream x) (seen ++ s ∷ [])) ≡ true
-seen_more u v left rest now seen s x last on h = elim (cases_Bool (is_there_or_touched u rest x)) [
-  | inl t ↦ or_left _ _ (on x t)
-  | inr f ↦ let was = rw last at h in grind (arith, nat_tests, listed_more x rest s, listed_more x seen s)
-]
+seen_more u v left rest now seen s x last on h = grind (arith, on x, nat_tests, listed_more)
 
 -- ---- before the cascade
 
@@ -150,8 +112,7 @@ seen_more u v left rest now seen s x last on h = elim (cases_Bool (is_there_or_t
 pub few_below : (links : List Link) (t : StreamTable) → AreHeld links t → (ls : List Link)
     → holds_below ls t ≤ length ls
 few_below links t held [] = omega arith
-few_below links t held (l ∷ ls) = let one = holds_few links l.lower in let here = held l.lower in
-    let rest = few_below links t held ls in omega (arith, one, here, rest)
+few_below links t held (l ∷ ls) = grind (arith, holds_few links l.lower, few_below links t held ls)
 
 -- if the controlling stream of each ordinary link is in the table or touched, and there is room, the conditions of the
 -- cascade hold
@@ -177,5 +138,4 @@ none_free links t held =
 -- there are at most as many ids of links that pass a test as links
 pub few_ids : (t : Link → Bool) (ls : List Link) (ids : List ℕ) → ids ≡ map (λ l. l.id) (filter t ls)
     → length ids ≤ length ls
-few_ids t ls ids e =
-    omega (arith, ap length e, length-map (filter t ls) (λ (l : Link). l.id), not_more t ls (filter t ls) refl)
+few_ids t ls ids e = grind (arith, length-map, not_more)

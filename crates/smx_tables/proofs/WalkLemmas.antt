@@ -1,6 +1,6 @@
 -- A walk over the descriptors of a table, from the first on.
-use Rattle.std.proofs.Common.{◌≡◌, ℕ, ◌+◌, ◌<◌, true, not, List, [], ◌∷◌, ◌++◌, length, map}
-use Rattle.std.proofs.Common.{Option, Some, None, refl, sym, ap, subst, ◌∙◌, arith, append_assoc}
+use Rattle.std.proofs.Common.{◌≡◌, ℕ, ◌+◌, ◌<◌, not, List, [], ◌∷◌, ◌++◌, length, map, Option, Some, None, refl, sym}
+use Rattle.std.proofs.Common.{ap, subst, ◌∙◌, arith, append_assoc}
 use Rattle.std.specs.List.{All}
 use Rattle.std.proofs.lemmas.Bool.Decides.{nat_tests}
 use Rattle.std.proofs.lemmas.List.Elements.{All-filter}
@@ -34,9 +34,7 @@ numbered fds process fd (Some d) h = h.1
 -- the descriptors from number 0 of process 0 on are all descriptors
 pub from_first : (fds : List Descriptor) → fds_from 0 0 fds ≡ fds
 from_first [] = refl
-from_first (d ∷ ds) =
-    let first : not (pair_before d.process d.fd 0 0) ≡ true = grind (arith, nat_tests) in
-    rw first (ap (λ (es : List Descriptor). d ∷ es) (from_first ds))
+from_first (d ∷ ds) = grind (arith, nat_tests, from_first ds)
 
 -- at the first descriptor of a walk, all are left
 pub all_left : (fds : List Descriptor) (next : Option Descriptor) → IsNext fds 0 0 next → left_of fds next ≡ fds

@@ -26,8 +26,7 @@ use Rattle.smx_tables.proofs.ReleaseLemmas.{not_more_held, this_one}
 -- a stream is in a list with one more stream exactly if it was there before or is this one
 pub listed_more : (x : StreamId) (ss : List StreamId) (s : StreamId)
     → list_any (same_stream x) (ss ++ s ∷ []) ≡ (list_any (same_stream x) ss || same_stream x s)
-listed_more x ss s = list_any-append (same_stream x) ss (s ∷ [])
-    ∙ ap (λ (b : Bool). list_any (same_stream x) ss || b) (or-false (same_stream x s))
+listed_more x ss s = grind (arith, list_any-append (same_stream x) ss (s ∷ []), or-false (same_stream x s))
 
 -- inserting a stream before the last one keeps each stream in the list
 pub still_listed_before : (x : StreamId) (ss : List StreamId) (s last : StreamId)
@@ -61,22 +60,17 @@ all_more test ls i l at h t = list_all_more test ls i l (slice_get_within ls i l
 -- another stream is in the table exactly if it was before
 pub there_same : (t u : StreamTable) (s x : StreamId) (n : ℕ) → HasHolds t s n u → same_stream x s ≡ false
     → is_there u x ≡ is_there t x
-there_same t u s x n h other =
-    let as_many : number_at u.holds x ≡ number_at t.holds x = h.holds x ∙ rw other refl in
-    ap (λ (fds : List Descriptor). is_named fds x || nat_lt 0 (number_at u.holds x)) h.fds
-    ∙ ap (λ (m : ℕ). is_named t.fds x || nat_lt 0 m) as_many
+there_same t u s x n h other = grind (arith, h.holds x)
 
 -- only the stream that is released can have ceased to exist
 went_is_released : (t u : StreamTable) (s x : StreamId) (n : ℕ) → HasHolds t s n u → is_there t x ≡ true
     → is_there u x ≡ false → same_stream x s ≡ true
-went_is_released t u s x n h there gone = elim (cases_Bool (same_stream x s))
-    [ inl e ↦ e | inr f ↦ absurd (false≢true (sym gone ∙ there_same t u s x n h f ∙ there)) ]
+went_is_released t u s x n h there gone = grind (arith, there_same t u s x n h)
 
 -- a stream that is held after the release was held before
 held_before : (t u : StreamTable) (s : StreamId) (l : Link) → HasHolds t s (number_at t.holds s - 1) u
     → is_held u l ≡ true → is_held t l ≡ true
-held_before t u s l h up = let few = not_more_held t u s l.lower h in
-    grind (arith, nat_tests)
+held_before t u s l h up = grind (arith, not_more_held t u s l.lower h, nat_tests)
 
 -- a watched link stays watched, if the stream that is released is among those that may have ceased to exist
 pub watch_on : (t u : StreamTable) (s : StreamId) (ss vs : List StreamId) (l : Link)

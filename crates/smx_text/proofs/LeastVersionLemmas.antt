@@ -1,10 +1,8 @@
 -- The earliest version that can express something.
 use Rattle.std.proofs.Common.{◌≡◌, ◌≤◌, Bool, true, false, List, length, refl, arith}
-use Rattle.std.proofs.lemmas.Bool.{false_from_ne_true, ltb-true}
 use Rattle.std.proofs.lemmas.Bool.Decides.{nat_tests}
 use Rattle.smx_types.specs.Versions.{are_more_drivers, most_drivers, version_2_where}
 use Rattle.smx_types.specs.declared.driver.DriverSpec.{DriverSpec}
-use Rattle.smx_types.specs.declared.limits.TheConstants.{MAX_DRIVERS_OF_VERSION_1}
 use Rattle.smx_types.specs.declared.version.Version.TheVariants.{V1}
 
 -- if version 1 is the earliest version, the reason for version 2 does not hold

@@ -1,9 +1,8 @@
 -- The transcripts that a version can express, as a whole and line by line.
 use Rattle.std.proofs.Common.{◌≡◌, ◌≤◌, true, false, nat_lt, List, [], ◌∷◌, length, refl, arith}
 use Rattle.std.specs.List.{AllByRecursion, list_any}
-use Rattle.std.proofs.lemmas.Bool.{or_parts}
 use Rattle.std.proofs.lemmas.Bool.Decides.{nat_tests}
-use Rattle.smx_types.specs.Versions.{are_more_drivers, is_of_hangup, least_of_transcript, most_drivers}
+use Rattle.smx_types.specs.Versions.{is_of_hangup, least_of_transcript, most_drivers}
 use Rattle.smx_types.specs.declared.command.Entry.{Entry}
 use Rattle.smx_types.specs.declared.transcript.Transcript.{Transcript}
 use Rattle.smx_types.specs.declared.version.Version.{Version}

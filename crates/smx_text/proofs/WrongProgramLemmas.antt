@@ -14,7 +14,6 @@ use Rattle.smx_types.specs.declared.version.Version.TheVariants.{V1, V2}
 use Rattle.smx_words.specs.Spellable.{FitsDriver}
 use Rattle.smx_text.specs.declared.text_fault.Cause.TheVariants as cause
 use Rattle.smx_text.specs.Grammar.{IsBegun}
-use Rattle.smx_text.specs.ProgramLines.{Line}
 use Rattle.smx_text.specs.ProgramLines as line
 use Rattle.smx_text.specs.ProgramsText.{FitsLine, IsAllowed, body, programs_grammar}
 use Rattle.smx_text.specs.WorkedFaults.{AreWrongPrograms, with_drivers, with_line_4, with_processes}

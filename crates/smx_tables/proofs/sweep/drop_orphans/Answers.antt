@@ -12,8 +12,7 @@ use Rattle.smx_tables.specs.ExistingStreams.{AreHeld, is_held}
 use Rattle.smx_tables.specs.ListedLinks.{is_listed, is_orphaned, AreIdsOf}
 use Rattle.smx_tables.specs.ModelOfLists.{configuration_of}
 use Rattle.smx_tables.proofs.ExistingLemmas.{tells_existing}
-use Rattle.smx_tables.proofs.OrphanLemmas.{held_is_left, left_is_linked, left_links}
-use Rattle.smx_tables.proofs.OrphanLemmas.{released_are_orphaned}
+use Rattle.smx_tables.proofs.OrphanLemmas.{held_is_left, left_is_linked, left_links, released_are_orphaned}
 use Rattle.smx_tables.proofs.OrphanIdLemmas.{none_released_yet}
 use Rattle.smx_tables.proofs.RemovalLemmas.{kept_alike}
 use Rattle.smx_tables.proofs.TouchLemmas.{cascade_at_first}

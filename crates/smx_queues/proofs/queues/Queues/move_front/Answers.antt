@@ -5,11 +5,11 @@ use Rattle.smx_queues.specs.declared.chain.Chain.{Chain}
 use Rattle.smx_queues.specs.Chains.{slot_of}
 use Rattle.smx_queues.specs.QueueTable.{queue_at, with_arrival, without_front}
 use Rattle.smx_queues.proofs.FollowLemmas.{followed}
-use Rattle.smx_queues.proofs.StoreLemmas.{IsAt, IsSeen, first_of, first_there, last_there, moved, open_count}
-use Rattle.smx_queues.proofs.StoreLemmas.{place_at, read_twice}
+use Rattle.smx_queues.proofs.StoreLemmas.{IsAt, IsSeen, first_of, first_there, last_there, moved, open_count, place_at}
+use Rattle.smx_queues.proofs.StoreLemmas.{read_twice}
 use Rattle.smx_queues.proofs.queues.Queues.move_front.Goals as goal
-use Rattle.smx_queues.proofs.queues.Queues.move_front.Goals.{After-index-source, After-index-node, After-index_mut}
-use Rattle.smx_queues.proofs.queues.Queues.move_front.Goals.{After-index-target, After-index_mut-2, After-add_last}
+use Rattle.smx_queues.proofs.queues.Queues.move_front.Goals.{After-index-source, After-index_mut, After-index-target}
+use Rattle.smx_queues.proofs.queues.Queues.move_front.Goals.{After-index_mut-2, After-add_last}
 
 -- the chain that was read first is the chain of the place that the message leaves
 from : (c : After-index-source) → IsAt c.self.invariant.own c.self.inside.nodes c.self.inside.chains.items c.args.from
