@@ -1,7 +1,7 @@
 -- A stream that exists has a driver and a minor that the list of drivers has.
 use Rattle.std.proofs.Common.{◌≡◌, ℕ, ◌<◌, ◌≤◌, true, false, List, length, Ok, subst, arith, inl, inr}
 use Rattle.std.specs.List.{All}
-use Rattle.std.proofs.lemmas.Bool.{or_cases, false_from_ne_true}
+use Rattle.std.proofs.lemmas.Bool.{or_cases}
 use Rattle.std.proofs.lemmas.List.Elements.{recursion_from_All}
 use Rattle.smx_types.specs.declared.driver.DriverSpec.{DriverSpec}
 use Rattle.smx_types.specs.declared.stream.Descriptor.{Descriptor}
@@ -40,8 +40,7 @@ exists_known drivers c s k h =
 -- a stream whose minor its driver doesn't have doesn't exist
 pub unknown_is_not : (drivers : List DriverSpec) (c : Configuration) (s : StreamId) → AreStreamsKnown drivers c
     → minors_of drivers s.driver ≤ s.minor → exists drivers c s ≡ false
-unknown_is_not drivers c s k past =
-    false_from_ne_true _ (λ t. let known = exists_known drivers c s k t in omega (arith, known.1))
+unknown_is_not drivers c s k past = grind (arith, exists_known drivers c s k)
 
 -- the stream of a descriptor is known
 pub stream_known : (drivers : List DriverSpec) (c : Configuration) (process fd : ℕ) (s : StreamId)
