@@ -1,6 +1,6 @@
 -- The streams that a close of descriptors touches, and its outcome.
 use Rattle.std.proofs.Common.{◌≡◌, ℕ, ◌+◌, ◌<◌, true, false, not, List, [], ◌∷◌, ◌++◌, filter, Some, None, Ok, refl, ap}
-use Rattle.std.proofs.Common.{◌∙◌, arith}
+use Rattle.std.proofs.Common.{◌∙◌, arith, rules}
 use Rattle.std.specs.List.{list_any}
 use Rattle.smx_types.specs.declared.driver.DriverSpec.{DriverSpec}
 use Rattle.smx_types.specs.declared.limits.TheConstants.{MAX_DESCRIPTORS}
@@ -55,8 +55,7 @@ pub close_touches : (drivers : List DriverSpec) (old : Configuration) (t u : Str
     → ((x : StreamId) → is_there t x ≡ true → is_there u x ≡ false → stream_at t.fds p n ≡ Some x)
     → IsTouched u ss (record old { fds = u.fds; hungs = u.hungs })
 close_touches drivers old t u p n s ss told swept at one went =
-    touched_beside u ss old u.fds u.hungs
-    (touched_by drivers old t u ss told swept (closed_touches t u p n s ss at one went))
+    search (rules, touched_beside, touched_by, closed_touches)
 
 -- if the streams of all closed descriptors of a process are in a list, each stream that was in the table still is, or
 -- is in the list

@@ -1,4 +1,4 @@
-use Rattle.std.proofs.Common.{◌≡◌, IsSome, List, false, ap, subst, sym, ◌∙◌, arith}
+use Rattle.std.proofs.Common.{◌≡◌, IsSome, List, false, ap, subst, sym, ◌∙◌}
 use Rattle.smx_types.specs.declared.driver.DriverSpec.{DriverSpec}
 use Rattle.smx_model.specs.Queues.{first_message, is_full}
 use Rattle.smx_queues.specs.PlaceLists.{places_of}
@@ -37,4 +37,7 @@ invariant_of-self c =
     }
 
 pub returns : goal.returns
-returns c = grind (arith, carried, is_there)
+returns c = λ p q at there. carried c.self.inside _ c.move_front_at.new.self p q c.self.invariant c.self.view_is
+    (c.requires.some p at) (λ m first. c.move_front_at.ensures p q m
+    (is_there c.self.inside _ c.args.from p c.self.invariant c.self.view_is at)
+    (is_there c.self.inside _ c.args.to q c.self.invariant c.self.view_is there) first)
