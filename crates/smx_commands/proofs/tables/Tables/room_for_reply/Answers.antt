@@ -1,20 +1,8 @@
-use Rattle.std.proofs.Common.{◌≡◌, true, rules, arith}
+use Rattle.std.proofs.Common.{◌≡◌, true, rules}
 use Rattle.smx_model.proofs.DropLemmas.{step_drops}
 use Rattle.smx_commands.proofs.DoneLemmas.{punlink_is, unlink_is}
 use Rattle.smx_commands.proofs.ReplyLemmas.{carries_nothing, nothing_fits}
 use Rattle.smx_commands.proofs.tables.Tables.room_for_reply.Goals as goal
-
-pub returns-in_ok-stream-in-Read-clause-makes : goal.returns-in_ok-stream-in-Read-clause-makes
-returns-in_ok-stream-in-Read-clause-makes c = grind arith
-
-pub returns-in_ok-stream-in-Read-clause-in_place : goal.returns-in_ok-stream-in-Read-clause-in_place
-returns-in_ok-stream-in-Read-clause-in_place c = grind arith
-
-pub returns-in_ok-stream-in-Transmit-clause-makes : goal.returns-in_ok-stream-in-Transmit-clause-makes
-returns-in_ok-stream-in-Transmit-clause-makes c = grind arith
-
-pub returns-in_ok-stream-in-Transmit-clause-in_place : goal.returns-in_ok-stream-in-Transmit-clause-in_place
-returns-in_ok-stream-in-Transmit-clause-in_place c = grind arith
 
 pub returns-in-OpenClone-clause-makes : goal.returns-in-OpenClone-clause-makes
 returns-in-OpenClone-clause-makes c =
