@@ -1,17 +1,14 @@
 -- Consequences of an accepted result.
-use Rattle.std.proofs.Common.{◌≡◌, ℕ, Bool, true, false, not, List, Option, Some, None}
-use Rattle.std.proofs.Common.{Result, Ok, refl, ap, ◌∙◌, subst}
-use Rattle.std.proofs.lemmas.Bool.{not-false}
+use Rattle.std.proofs.Common.{◌≡◌, ℕ, Bool, true, false, not, List, Option, Some, None, Result, Ok, refl, ap, arith}
 use Rattle.std.specs.Option.{ok_or}
 use Rattle.smx_types.specs.declared.driver.DriverSpec.{DriverSpec}
 use Rattle.smx_types.specs.declared.reply.Fault.{Fault}
-use Rattle.smx_types.specs.declared.reply.Fault.TheVariants.{BadDescriptor, Below}
-use Rattle.smx_types.specs.declared.reply.Fault.TheVariants.{NoDriver, NoMinor}
+use Rattle.smx_types.specs.declared.reply.Fault.TheVariants.{BadDescriptor}
 use Rattle.smx_types.specs.declared.stream.StreamId.{StreamId}
 use Rattle.smx_model.specs.Configuration.{Configuration}
 use Rattle.smx_model.specs.DriverList.{is_mux}
-use Rattle.smx_model.specs.Lookups.{driver_of, free_stream, leaf_stream, stream_of}
-use Rattle.smx_model.specs.Outcomes.{◌>>=◌, refuse}
+use Rattle.smx_model.specs.Lookups.{free_stream, leaf_stream, stream_of}
+use Rattle.smx_model.specs.Outcomes.{refuse}
 use Rattle.smx_model.specs.Standing.{exists, is_below}
 -- if a result is accepted, so is the look-up before it
 pub use Rattle.smx_model.proofs.LookupLemmas.{looked_up as bound}
@@ -35,23 +32,9 @@ fd_at (Some x) s e = ap (λ (y : StreamId). Some y) (accepted x s e)
 -- the stream of a free descriptor is the descriptor's stream, and it is not below a link
 pub free_says : (c : Configuration) (process fd : ℕ) (s : StreamId) → free_stream c process fd ≡ Ok s
     → (stream_of c process fd ≡ Ok s) × (is_below c.links s ≡ false)
-free_says c process fd s e =
-    let found = bound (stream_of c process fd) (λ x. refuse Below (is_below c.links x) >>= (λ a. Ok x)) s e in
-    let above = bound (refuse Below (is_below c.links found.0)) (λ a. Ok found.0) s found.2 in (
-      found.1 ∙ above.2,
-      subst (λ (x : StreamId). is_below c.links x ≡ false) (accepted found.0 s above.2)
-          (not_refused Below _ above.1),
-    )
+free_says c process fd s e = grind (arith, bound, accepted, not_refused)
 
 -- the stream of a device exists, and its driver is not a multiplexing driver
 pub leaf_says : (drivers : List DriverSpec) (c : Configuration) (name : List ℕ) (minor : ℕ) (s : StreamId)
     → leaf_stream drivers c name minor ≡ Ok s → (exists drivers c s ≡ true) × (is_mux drivers s.driver ≡ false)
-leaf_says drivers c name minor s e =
-    let found = bound (driver_of drivers name) _ s e in
-    let leaf = bound (refuse NoDriver (is_mux drivers found.0)) _ s found.2 in
-    let here : StreamId = record { driver = found.0; minor = minor } in
-    let there = bound (refuse NoMinor (not (exists drivers c here))) _ s leaf.2 in
-    let same = accepted here s there.2 in (
-      subst (λ (x : StreamId). exists drivers c x ≡ true) same (not-false _ (not_refused NoMinor _ there.1)),
-      subst (λ (x : StreamId). is_mux drivers x.driver ≡ false) same (not_refused NoDriver _ leaf.1),
-    )
+leaf_says drivers c name minor s e = grind (arith, bound, accepted, not_refused)

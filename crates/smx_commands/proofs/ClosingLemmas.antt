@@ -1,25 +1,20 @@
 -- The streams that a close of descriptors touches, and its outcome.
-use Rattle.std.proofs.Common.{◌≡◌, ℕ, ◌+◌, ◌<◌, true, false, ◌||◌, not, List, [], ◌∷◌, ◌++◌, filter, Option, Some, None}
-use Rattle.std.proofs.Common.{Ok, refl, sym, ap, subst, ◌∙◌, arith, inl, inr}
-use Rattle.std.specs.Prelude.{nat_lt}
+use Rattle.std.proofs.Common.{◌≡◌, ℕ, ◌+◌, ◌<◌, true, false, not, List, [], ◌∷◌, ◌++◌, filter, Some, None, Ok, refl, ap}
+use Rattle.std.proofs.Common.{◌∙◌, arith, rules}
 use Rattle.std.specs.List.{list_any}
-use Rattle.std.proofs.lemmas.Bool.{cases_Bool, cases_lt, or_left, or_right, false≢true}
 use Rattle.smx_types.specs.declared.driver.DriverSpec.{DriverSpec}
 use Rattle.smx_types.specs.declared.limits.TheConstants.{MAX_DESCRIPTORS}
 use Rattle.smx_types.specs.declared.reply.Reply.{Reply}
 use Rattle.smx_types.specs.declared.reply.Reply.TheVariants.{Done}
 use Rattle.smx_types.specs.declared.stream.Descriptor.{Descriptor}
 use Rattle.smx_types.specs.declared.stream.StreamId.{StreamId}
-use Rattle.smx_model.specs.Commands.{done_outcome}
 use Rattle.smx_model.specs.Configuration.{Configuration, is_fd, same_stream}
 use Rattle.smx_model.specs.Hangups.{is_hung}
 use Rattle.smx_model.specs.Removal.{after_sweep, serials_that_left}
-use Rattle.smx_model.specs.Standing.{is_named}
 use Rattle.smx_model.specs.Swept.{IsSwept}
 use Rattle.smx_model.proofs.DropLemmas.{done_idle}
 use Rattle.smx_model.proofs.TestLemmas.{any_push}
-use Rattle.smx_streams.specs.StreamTables.{StreamTable, HasOneLess, is_last, number_at, stream_at, without_fd}
-use Rattle.smx_streams.specs.StreamTables.{exists as is_there}
+use Rattle.smx_streams.specs.StreamTables.{StreamTable, HasOneLess, is_last, stream_at, without_fd, exists as is_there}
 use Rattle.smx_tables.specs.ExistingStreams.{TellsExisting}
 use Rattle.smx_tables.specs.ModelOfLists.{configuration_of}
 use Rattle.smx_tables.specs.TouchedStreams.{IsTouched, is_there_or_touched}
@@ -37,15 +32,7 @@ use Rattle.smx_tables.proofs.WatchLemmas.{listed_last}
 pub closed_stays : (t u : StreamTable) (p n : ℕ) → is_last t p n ≡ false → HasOneLess t p n u
     → ((s : StreamId) → is_there t s ≡ true → is_there u s ≡ false → stream_at t.fds p n ≡ Some s)
     → (s : StreamId) → is_there t s ≡ true → is_there_or_touched u [] s ≡ true
-closed_stays t u p n stays less went s there = elim (cases_Bool (is_there u s)) [
-  | inl a ↦ or_left _ _ a
-  | inr gone ↦
-      let last : is_last t p n ≡ not (is_there (without_fd t p n) s) = rw (went s there gone) refl in
-      absurd (false≢true (sym stays ∙ last ∙ ap not (sym same ∙ gone)))
-] where
-  same : is_there u s ≡ is_there (without_fd t p n) s
-  same = ap (λ (fds : List Descriptor). is_named fds s || nat_lt 0 (number_at u.holds s)) less.fds
-      ∙ ap (λ (m : ℕ). is_named (filter (λ d. not (is_fd p n d)) t.fds) s || nat_lt 0 m) (less.holds s)
+closed_stays t u p n stays less went s there = grind (arith, is_there u s, is_there (without_fd t p n) s, went s there)
 
 -- if each stream that was in the table still is, so is each hung-up stream
 pub all_stay : (t u : StreamTable) (hungs : List StreamId)
@@ -59,13 +46,7 @@ pub closed_touches : (t u : StreamTable) (p n : ℕ) (s : StreamId) (ss : List S
     → list_any (same_stream s) ss ≡ true
     → ((x : StreamId) → is_there t x ≡ true → is_there u x ≡ false → stream_at t.fds p n ≡ Some x) → (x : StreamId)
     → is_there t x ≡ true → is_there_or_touched u ss x ≡ true
-closed_touches t u p n s ss at one went x there = elim (cases_Bool (is_there u x)) [
-  | inl a ↦ or_left _ _ a
-  | inr gone ↦
-      let both : ◌≡◌ {A = Option StreamId} (Some s) (Some x) = sym at ∙ went x there gone in
-      let same : s ≡ x = cc in
-      or_right _ _ (subst (λ (y : StreamId). list_any (same_stream y) ss ≡ true) same one)
-]
+closed_touches t u p n s ss at one went x there = grind (arith, is_there u x, went x there)
 
 -- if the stream of a closed descriptor is in a list, the list has all streams that may have ceased to exist
 pub close_touches : (drivers : List DriverSpec) (old : Configuration) (t u : StreamTable) (p n : ℕ) (s : StreamId)
@@ -74,8 +55,7 @@ pub close_touches : (drivers : List DriverSpec) (old : Configuration) (t u : Str
     → ((x : StreamId) → is_there t x ≡ true → is_there u x ≡ false → stream_at t.fds p n ≡ Some x)
     → IsTouched u ss (record old { fds = u.fds; hungs = u.hungs })
 close_touches drivers old t u p n s ss told swept at one went =
-    touched_beside u ss old u.fds u.hungs
-    (touched_by drivers old t u ss told swept (closed_touches t u p n s ss at one went))
+    search (rules, touched_beside, touched_by, closed_touches)
 
 -- if the streams of all closed descriptors of a process are in a list, each stream that was in the table still is, or
 -- is in the list
@@ -83,10 +63,7 @@ pub all_closed_touch : (t u : StreamTable) (p : ℕ) (ss : List StreamId)
     → ((n : ℕ) (s : StreamId) → n < MAX_DESCRIPTORS → stream_at t.fds p n ≡ Some s → list_any (same_stream s) ss ≡ true)
     → ((x : StreamId) → is_there t x ≡ true → is_there u x ≡ false → (n : ℕ) × (n < MAX_DESCRIPTORS)
     × (stream_at t.fds p n ≡ Some x)) → (x : StreamId) → is_there t x ≡ true → is_there_or_touched u ss x ≡ true
-all_closed_touch t u p ss named went x there = elim (cases_Bool (is_there u x)) [
-  | inl a ↦ or_left _ _ a
-  | inr gone ↦ let at = went x there gone in or_right _ _ (named at.0 x at.1 at.2)
-]
+all_closed_touch t u p ss named went x there = grind (arith, is_there u x, went x there)
 
 -- ---- the outcome of a close
 
@@ -109,9 +86,7 @@ pub closes_shared : (drivers : List DriverSpec) (c : Configuration) (process fd 
     (new : Configuration) (r : Reply) → IsSwept drivers (record c { fds = fds })
     → fds ≡ filter (λ d. not (is_fd process fd d)) c.fds → new ≡ record c { fds = fds } → r ≡ Done []
     → closing drivers c process fd ≡ Ok (new, r)
-closes_shared drivers c process fd fds new r swept e is none =
-    subst (λ (ds : List Descriptor). done_outcome drivers c (record c { fds = ds }) ≡ Ok (new, r)) e
-    (rw (is, none) (done_idle drivers c (record c { fds = fds }) swept refl))
+closes_shared drivers c process fd fds new r swept e is none = grind (arith, done_idle)
 
 -- ---- the streams of a process's descriptors
 
@@ -122,24 +97,9 @@ AreNamed fds p k ss = (n : ℕ) (s : StreamId) → n < k → stream_at fds p n �
 -- a list with one more stream covers the next number, whose descriptor names this stream
 pub one_named_more : (fds : List Descriptor) (p k : ℕ) (t : StreamId) (ss : List StreamId) → stream_at fds p k ≡ Some t
     → AreNamed fds p k ss → AreNamed fds p (k + 1) (ss ++ t ∷ [])
-one_named_more fds p k t ss at h = λ n s lt e. elim (cases_lt n k) [
-  | inl earlier ↦ any_push (same_stream s) ss t (h n s earlier e)
-  | inr here ↦
-      let last : n ≡ k = omega (arith, here, lt) in
-      let both : ◌≡◌ {A = Option StreamId} (Some t) (Some s) =
-      sym at ∙ subst (λ (m : ℕ). stream_at fds p m ≡ Some s) last e in
-      let same : t ≡ s = cc in
-      subst (λ (x : StreamId). list_any (same_stream x) (ss ++ t ∷ []) ≡ true) same (listed_last ss t)
-]
+one_named_more fds p k t ss at h = grind (arith, any_push, listed_last ss t)
 
 -- the same list covers the next number, if there is no descriptor with this number
 pub none_named_more : (fds : List Descriptor) (p k : ℕ) (ss : List StreamId) → stream_at fds p k ≡ None
     → AreNamed fds p k ss → AreNamed fds p (k + 1) ss
-none_named_more fds p k ss at h = λ n s lt e. elim (cases_lt n k) [
-  | inl earlier ↦ h n s earlier e
-  | inr here ↦
-      let last : n ≡ k = omega (arith, here, lt) in
-      let both : ◌≡◌ {A = Option StreamId} None (Some s) =
-      sym at ∙ subst (λ (m : ℕ). stream_at fds p m ≡ Some s) last e in
-      absurd cc
-]
+none_named_more fds p k ss at h = grind arith

@@ -3,14 +3,12 @@ use Rattle.std.proofs.Common.{◌≡◌, ℕ, zero, suc, ◌<◌, Bool, true, fa
 use Rattle.std.proofs.Common.{Some, None, Ok, Err, refl, sym, ap, subst, ◌∙◌, arith, inl, inr}
 use Rattle.std.specs.Prelude.{IsOk, nat_le, slice_index}
 use Rattle.std.specs.List.{range_with_len}
-use Rattle.std.proofs.lemmas.Bool.{cases_Bool}
 use Rattle.std.proofs.lemmas.Bool.Decides.{nat_tests}
 use Rattle.std.specs.Option.{ok_or}
 use Rattle.smx_types.specs.declared.command.Command.TheVariants as command
 use Rattle.smx_types.specs.declared.driver.DriverSpec.{DriverSpec}
 use Rattle.smx_types.specs.declared.reply.Fault.TheVariants.{NoMinor, TooManyDescriptors}
 use Rattle.smx_types.specs.declared.reply.Reply.TheVariants.{Fd}
-use Rattle.smx_types.specs.declared.stream.Descriptor.{Descriptor}
 use Rattle.smx_types.specs.declared.stream.StreamId.{StreamId}
 use Rattle.smx_model.specs.Commands.{outcome, with_fd}
 use Rattle.smx_model.specs.Configuration.{Configuration}
@@ -18,8 +16,8 @@ use Rattle.smx_model.specs.DriverList.{minors_of}
 use Rattle.smx_model.specs.Lookups.{driver_of, free_fd, free_minor}
 use Rattle.smx_model.specs.Outcomes.{Outcome}
 use Rattle.smx_model.specs.Standing.{exists, is_below}
-use Rattle.smx_streams.specs.StreamTables.{Answer, StreamTable, IsRefused, is_in_range, clone_answer}
-use Rattle.smx_streams.specs.StreamTables.{minor_answer, least_fd, least_minor, exists as is_there}
+use Rattle.smx_streams.specs.StreamTables.{Answer, StreamTable, IsRefused, is_in_range, clone_answer, minor_answer}
+use Rattle.smx_streams.specs.StreamTables.{least_fd, least_minor, exists as is_there}
 use Rattle.smx_streams.specs.declared.stream_fault.StreamFault.{StreamFault}
 use Rattle.smx_commands.specs.declared.step_error.StepError.{StepError}
 use Rattle.smx_commands.specs.declared.step_error.StepError.TheVariants as step_error
@@ -59,8 +57,7 @@ agrees_some c process (Err f) o h some = absurd cc
 pub agrees_err : (c : Configuration) (process : ℕ) (a : Answer) (o : Outcome) (f : StreamFault) → Agrees c process a o
     → IsRefused a f → IsRefusedBy o (as_step_error f)
 agrees_err c process a o f h (inl e) = subst (λ (b : Answer). Agrees c process b o) e h
-agrees_err c process a o f h (inr both) =
-    subst (λ (g : StreamFault). IsRefusedBy o (as_step_error g)) (sym both.0) (agrees_some c process a o h both.1)
+agrees_err c process a o f h (inr both) = grind (arith, agrees_some c process a o h both.1)
 
 -- ---- the three commands
 
@@ -74,8 +71,7 @@ minors_at (d ∷ ds) (suc n) = minors_at ds n
 -- two tests that agree on each number find the same number
 find_same : (f g : ℕ → Bool) (ns : List ℕ) → ((n : ℕ) → f n ≡ g n) → find f ns ≡ find g ns
 find_same f g [] h = refl
-find_same f g (n ∷ ns) h =
-    elim (cases_Bool (g n)) [ inl t ↦ rw (h n, t) refl | inr u ↦ rw (h n, u) (find_same f g ns h) ]
+find_same f g (n ∷ ns) h = grind (arith, h n, find_same f g ns h)
 
 -- if the table has exactly the streams that exist, its lowest free minor is the lowest whose stream doesn't exist
 least_same : (drivers : List DriverSpec) (c : Configuration) (t : StreamTable) (n : ℕ)
@@ -102,9 +98,7 @@ has_driver drivers t n minors lt =
 -- the free descriptor number of the model is the lowest free number of the table
 number : (c : Configuration) (t : StreamTable) (process : ℕ) → t.fds ≡ c.fds → (k : Option ℕ)
     → least_fd t.fds process ≡ k → free_fd c process ≡ ok_or k TooManyDescriptors
-number c t process same k e =
-    ap (λ (o : Option ℕ). ok_or o TooManyDescriptors)
-    (ap (λ (fds : List Descriptor). least_fd fds process) (sym same) ∙ e)
+number c t process same k e = grind arith
 
 -- the answer of the table of streams to a clone open agrees with the outcome of the command
 pub clone_agrees : (drivers : List DriverSpec) (c : Configuration) (t : StreamTable) (process n : ℕ) (name : List ℕ)

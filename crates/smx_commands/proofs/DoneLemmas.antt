@@ -1,6 +1,5 @@
 -- The outcomes of changes after a sweep.
-use Rattle.std.proofs.Common.{◌≡◌, ℕ, Bool, true, false, ◌&&◌, not, eqb, List, [], filter}
-use Rattle.std.proofs.Common.{Ok, Err, refl, rules, ap, ◌∙◌}
+use Rattle.std.proofs.Common.{◌≡◌, ℕ, Bool, true, false, ◌&&◌, not, eqb, List, [], filter, Ok, Err, refl, rules}
 use Rattle.std.specs.List.{list_any}
 use Rattle.smx_types.specs.declared.command.Command.TheVariants as command
 use Rattle.smx_types.specs.declared.command.Which.{Which}
@@ -33,8 +32,7 @@ use Rattle.smx_commands.proofs.AcceptedLemmas.{leaf_says}
 pub swept_is : (drivers given : List DriverSpec) (c new changed d : Configuration) (r : Reply) → given ≡ drivers
     → d ≡ after_sweep given changed → after_sweep drivers changed ≡ after_sweep drivers new
     → r ≡ Done (serials_that_left c.flow d.flow) → done_outcome drivers c new ≡ Ok (d, r)
-swept_is drivers given c new changed d r same is left gone =
-    let swept = is ∙ ap (λ (ds : List DriverSpec). after_sweep ds changed) same ∙ left in rw (gone, swept) refl
+swept_is drivers given c new changed d r same is left gone = search rules
 
 -- ---- fewer bindings or other routes leave nothing to sweep
 

@@ -1,7 +1,7 @@
 -- A stream that exists has a driver and a minor that the list of drivers has.
-use Rattle.std.proofs.Common.{◌≡◌, ℕ, ◌<◌, ◌≤◌, true, false, List, length, Ok, subst, arith, inl, inr}
+use Rattle.std.proofs.Common.{◌≡◌, ℕ, ◌<◌, ◌≤◌, true, false, List, length, Ok, subst, arith, inl, inr, rules}
 use Rattle.std.specs.List.{All}
-use Rattle.std.proofs.lemmas.Bool.{or_cases, false_from_ne_true}
+use Rattle.std.proofs.lemmas.Bool.{or_cases}
 use Rattle.std.proofs.lemmas.List.Elements.{recursion_from_All}
 use Rattle.smx_types.specs.declared.driver.DriverSpec.{DriverSpec}
 use Rattle.smx_types.specs.declared.stream.Descriptor.{Descriptor}
@@ -12,7 +12,6 @@ use Rattle.smx_model.specs.KnownStreams.{IsKnown, AreStreamsKnown}
 use Rattle.smx_model.specs.Lookups.{stream_of}
 use Rattle.smx_model.specs.Standing.{is_below, is_named, exists}
 use Rattle.smx_model.proofs.TestLemmas.{any_found}
-use Rattle.smx_streams.specs.StreamTables.{stream_at}
 use Rattle.smx_tables.proofs.AboveLemmas.{stream_is}
 use Rattle.smx_tables.proofs.ExistingLemmas.{named_stream, stands_there}
 use Rattle.smx_commands.proofs.AcceptedLemmas.{fd_at}
@@ -40,14 +39,12 @@ exists_known drivers c s k h =
 -- a stream whose minor its driver doesn't have doesn't exist
 pub unknown_is_not : (drivers : List DriverSpec) (c : Configuration) (s : StreamId) → AreStreamsKnown drivers c
     → minors_of drivers s.driver ≤ s.minor → exists drivers c s ≡ false
-unknown_is_not drivers c s k past =
-    false_from_ne_true _ (λ t. let known = exists_known drivers c s k t in omega (arith, known.1))
+unknown_is_not drivers c s k past = grind (arith, exists_known drivers c s k)
 
 -- the stream of a descriptor is known
 pub stream_known : (drivers : List DriverSpec) (c : Configuration) (process fd : ℕ) (s : StreamId)
     → AreStreamsKnown drivers c → stream_of c process fd ≡ Ok s → IsKnown drivers s
-stream_known drivers c process fd s k h =
-    named_known drivers c.fds s k.fds (named_stream process fd c.fds s (fd_at (stream_at c.fds process fd) s h))
+stream_known drivers c process fd s k h = search (rules, named_known, named_stream, fd_at)
 
 -- the driver of a descriptor's stream exists
 pub driver_known : (drivers : List DriverSpec) (c : Configuration) (process fd : ℕ) (s : StreamId)

@@ -1,8 +1,7 @@
 -- Replies without bytes and serials, and the room for them.
-use Rattle.std.proofs.Common.{◌≡◌, ℕ, Bool, true, false, not, List, [], ◌∷◌, Result, Ok, Err}
-use Rattle.std.proofs.Common.{refl, rules, sym, ◌∙◌}
+use Rattle.std.proofs.Common.{◌≡◌, ℕ, Bool, true, false, not, List, [], ◌∷◌, Result, Ok, Err, refl, rules, arith}
 use Rattle.std.specs.Prelude.{◌≢◌, IsTrue}
-use Rattle.std.proofs.lemmas.Bool.{false≢true, not-true}
+use Rattle.std.proofs.lemmas.Bool.{not-true}
 use Rattle.smx_types.specs.declared.command.Command.{Command}
 use Rattle.smx_types.specs.declared.command.Command.TheVariants as command
 use Rattle.smx_types.specs.declared.driver.DriverSpec.{DriverSpec}
@@ -64,8 +63,4 @@ pub nothing_fits : (drivers : List DriverSpec) (c : Configuration) (process : �
     → carries_nothing k ≡ true → (dropped_by (step drivers c process k).1 ≢ [] → IsTrue (may_drop k))
     → HasRoomFor 0 0 room
     → HasRoomForReply (after_outcome drivers c (outcome drivers c process k)).1 room
-nothing_fits drivers c process k room plain law h =
-    rw (
-      (no_bytes drivers c process k plain).none,
-      not_some (dropped_by (step drivers c process k).1) (λ some. false≢true (sym (drops_none k plain) ∙ law some)),
-    ) h
+nothing_fits drivers c process k room plain law h = grind (arith, no_bytes, not_some, drops_none)

@@ -1,6 +1,5 @@
 -- The streams at which messages are sent and taken are known.
-use Rattle.std.proofs.Common.{◌≡◌, ℕ, List, Result, Ok, Err}
-use Rattle.std.proofs.Common.{refl, ◌∙◌}
+use Rattle.std.proofs.Common.{◌≡◌, ℕ, List, Result, Ok, Err, refl, ◌∙◌, arith}
 use Rattle.std.specs.Prelude.{IfOk}
 use Rattle.smx_types.specs.declared.driver.DriverSpec.{DriverSpec}
 use Rattle.smx_types.specs.declared.reply.Fault.{Fault}
@@ -35,10 +34,7 @@ live_known drivers c process fd s k e =
 -- the stream of a device that has not hung up is known
 pub live_leaf_known : (drivers : List DriverSpec) (c : Configuration) (name : List ℕ) (minor : ℕ) (s : StreamId)
     → AreStreamsKnown drivers c → live_leaf drivers c name minor ≡ Ok s → IsKnown drivers s
-live_leaf_known drivers c name minor s k e =
-    let there = bound (leaf_stream drivers c name minor) (λ x. refuse HungUp (is_hung c.hungs x) >>= (λ h. Ok x)) s e in
-    let live = bound (refuse HungUp (is_hung c.hungs there.0)) (λ h. Ok there.0) s there.2 in
-    leaf_known drivers c name minor s k (there.1 ∙ live.2)
+live_leaf_known drivers c name minor s k e = grind (arith, bound, leaf_known)
 
 -- the result of a look-up is known if each stream that it may return is
 pub answers_known : (drivers : List DriverSpec) (named : Result StreamId Fault)

@@ -1,6 +1,6 @@
 -- The value of tables, and their fields.
 use Rattle.smx_commands.specs.declared.tables.Tables.TheInside.{Inside}
-use Rattle.std.proofs.Common.{◌≡◌, ℕ, List, length, map, Ok, ap, refl, subst, sym, ◌∙◌}
+use Rattle.std.proofs.Common.{◌≡◌, ℕ, List, length, map, Ok, ap, subst, sym, ◌∙◌, arith}
 use Rattle.smx_types.specs.declared.driver.DriverSpec.{DriverSpec}
 use Rattle.smx_types.specs.declared.reply.Reply.{Reply}
 use Rattle.smx_model.specs.Configuration.{Configuration}
@@ -20,23 +20,17 @@ sound_inside t m e h = subst (λ (x : Machine). IsSound x.drivers x.configuratio
 -- if the value is sound, the table of streams has exactly the streams that exist
 pub tells_inside : (t : Inside) (m : Machine) → machine_of t ≡ m → TablesInvariant t
     → IsSound m.drivers m.configuration → TellsExisting t.drivers.items (configuration_of t.lists) t.lists.streams
-tells_inside t m e h s =
-    let sound = sound_inside t m e s in
-    tells_existing t.drivers.items (configuration_of t.lists) t.lists.streams sound.links sound.known.controlling
-    refl h.kept.held (swept_is_linked t.drivers.items (configuration_of t.lists) t.lists.streams refl h.kept.held
-    sound.swept.links)
+tells_inside t m e h s = grind (arith, sound_inside, tells_existing, swept_is_linked)
 
 -- the same over the drivers and the configuration of the value
 pub tells_seen : (t : Inside) (m : Machine) → machine_of t ≡ m → TablesInvariant t
     → IsSound m.drivers m.configuration → TellsExisting m.drivers m.configuration t.lists.streams
-tells_seen t m e h s = subst (λ (x : Machine). TellsExisting x.drivers x.configuration t.lists.streams) e
-    (tells_inside t m e h s)
+tells_seen t m e h s = grind (arith, tells_inside t m e h s)
 
 -- an outcome accepted for the fields is accepted for the value
 pub accepted : (t : Inside) (m : Machine) (new : Configuration) (o : Machine → Outcome) (r : Reply) → machine_of t ≡ m
     → o (machine_of t) ≡ Ok (new, r) → (t.drivers.items ≡ m.drivers) × (o m ≡ Ok (new, r))
-accepted t m new o r e h =
-    (ap (λ (x : Machine). x.drivers) e, subst (λ (x : Machine). o x ≡ Ok (new, r)) e h)
+accepted t m new o r e h = grind arith
 
 -- the table of links is over the drivers
 pub table_over : (t : Inside) (m : Machine) → machine_of t ≡ m → TablesInvariant t
@@ -46,5 +40,4 @@ table_over t m e h = ap (λ (x : ℕ × List ℕ × List DriverSpec). x.0) h.siz
 -- the table of streams has the minors of the drivers
 pub streams_over : (t : Inside) (m : Machine) → machine_of t ≡ m → TablesInvariant t
     → t.lists.streams.minors ≡ map (λ d. d.minors) m.drivers
-streams_over t m e h = ap (λ (x : ℕ × List ℕ × List DriverSpec). x.1) h.sizes
-    ∙ ap (λ (x : Machine). map (λ (d : DriverSpec). d.minors) x.drivers) e
+streams_over t m e h = grind arith

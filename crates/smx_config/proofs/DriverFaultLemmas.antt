@@ -22,10 +22,7 @@ HasSameName ds i d = Any (λ e. e.name ≡ d.name) (take i ds)
 -- a driver of a valid list passes the check, and has a name of its own
 good : (ds : List DriverSpec) (i : ℕ) (d : DriverSpec) → slice_get ds i ≡ Some d → IsDriverList ds
     → (spec_check d ≡ Ok tt) × (HasSameName ds i d → ⊥)
-good ds i d here h =
-    let within = slice_get_within ds i d here in
-    let at : get_or ds i d ≡ d = same_Some _ _ (sym (slice_get-get_or ds i d within) ∙ here) in
-    (subst (λ e. spec_check e ≡ Ok tt) at (h.each i d within), λ same. taken_name ds i d within (sym at) same h)
+good ds i d here h = grind (arith, slice_get_within, same_Some, slice_get-get_or, h.each i d, taken_name)
 
 -- if the drivers before one are a valid list, each of them passes the check, and has a name of its own
 good_before : (ds : List DriverSpec) (i j : ℕ) (d e : DriverSpec) → slice_get ds i ≡ Some d → slice_get ds j ≡ Some e
@@ -65,8 +62,7 @@ one_number ds i j d e first bad other worse = elim (cases_Bool (ltb i j)) [
 
 -- the first wrong driver of a list, at one number, is only one driver
 one_driver : (ds : List DriverSpec) (i j : ℕ) (d e : DriverSpec) → IsFirstBad ds i d → IsFirstBad ds j e → i ≡ j → d ≡ e
-one_driver ds i j d e first other same =
-    same_Some _ _ (sym first.here ∙ ap (slice_get ds) same ∙ other.here)
+one_driver ds i j d e first other same = grind (arith, same_Some)
 
 -- a valid list has no such driver
 none_spoils : (ds : List DriverSpec) (i : ℕ) (d : DriverSpec) → IsFirstBad ds i d → Spoils ds i d → IsDriverList ds → ⊥
@@ -76,8 +72,7 @@ none_spoils ds i d first bad h = bad (good ds i d first.here h)
 one_check : (ds : List DriverSpec) (i j : ℕ) (d e : DriverSpec) → IsFirstBad ds i d → Spoils ds i d
     → IsFirstBad ds j e → Spoils ds j e → (i ≡ j) × (spec_check d ≡ spec_check e)
 one_check ds i j d e first bad other worse =
-    let number = one_number ds i j d e first bad other worse in
-    (number, ap spec_check (one_driver ds i j d e first other number))
+    grind (arith, one_number ds i j d e first bad other worse, one_driver ds i j d e first other)
 
 -- if a list is refused with two faults, they are the same
 pub one_fault : (ds : List DriverSpec) (f g : ConfigFault) → RefusesDrivers ds f → RefusesDrivers ds g → f ≡ g

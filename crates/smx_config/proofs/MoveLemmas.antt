@@ -1,11 +1,10 @@
 -- A move of a first message to its next place, and the marks after it.
-use Rattle.std.proofs.Common.{◌≡◌, List, Option, Some, sym, ap, ◌∙◌}
+use Rattle.std.proofs.Common.{◌≡◌, List, Some, arith}
 use Rattle.smx_types.specs.declared.driver.DriverSpec.{DriverSpec}
 use Rattle.smx_types.specs.declared.stream.Place.{Place}
 use Rattle.smx_model.specs.Configuration.{Configuration, same_place}
 use Rattle.smx_model.specs.KeptConfigurations.{IsSound}
-use Rattle.smx_model.specs.Queues.{first_message}
-use Rattle.smx_model.specs.Settling.{after_move, after_move_between, after_move_to, next_open_place}
+use Rattle.smx_model.specs.Settling.{after_move, after_move_between, next_open_place}
 use Rattle.smx_model.specs.RunMarks.{turned_by_move}
 use Rattle.smx_model.proofs.FeederLemmas.{moved_frees}
 use Rattle.smx_model.proofs.TurningLemmas.{turns_moved}
@@ -19,9 +18,7 @@ use Rattle.smx_config.proofs.WokenLemmas.{turned_is}
 pub moves_there : (m n : Machine) (p q : Place) → next_open_place m.drivers m.configuration p ≡ Some q
     → n ≡ record m { configuration = after_move_between m.drivers m.configuration p q }
     → n ≡ record m { configuration = after_move m.drivers m.configuration p }
-moves_there m n p q e is = is ∙ ap (λ (o : Option Place).
-    record m { configuration = after_move_to m.drivers m.configuration p o (first_message m.configuration.flow p) })
-    (sym e)
+moves_there m n p q e is = grind arith
 
 -- after a move it is enough to mark the place that the message left, the place that it reached, if that was empty, and
 -- the places that wait for the first of these, if that is no longer full

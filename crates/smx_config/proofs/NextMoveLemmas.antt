@@ -1,9 +1,9 @@
 -- The least number with a run mark, and the marks after its place turned out not to be movable.
-use Rattle.std.proofs.Common.{◌≡◌, ℕ, suc, ◌<◌, Bool, true, false, cond, List, length, set, Option, Some, None}
-use Rattle.std.proofs.Common.{refl, sym, ap, ◌∙◌, subst, inl, inr, arith}
+use Rattle.std.proofs.Common.{◌≡◌, ℕ, suc, ◌<◌, Bool, true, false, cond, List, length, set, Option, Some, None, refl}
+use Rattle.std.proofs.Common.{sym, ap, ◌∙◌, subst, inl, inr, arith}
 use Rattle.std.specs.Prelude.{◌≢◌, IfNone}
 use Rattle.std.specs.Option.{is_some}
-use Rattle.std.proofs.lemmas.Bool.{and_from, cases_Bool, cases_eq, false≢true, ne_eqb}
+use Rattle.std.proofs.lemmas.Bool.{cases_Bool, cases_eq, false≢true}
 use Rattle.std.proofs.lemmas.List.{get_or-set_other, get_or-set_same, length-set}
 use Rattle.std.proofs.lemmas.Option.{none-some, same_Some}
 use Rattle.smx_types.specs.declared.driver.DriverSpec.{DriverSpec}
@@ -13,8 +13,8 @@ use Rattle.smx_model.specs.Configuration.{Configuration, empty, place_before}
 use Rattle.smx_model.specs.KeptConfigurations.{IsSound}
 use Rattle.smx_model.specs.KnownStreams.{IsKnown}
 use Rattle.smx_model.specs.Queues.{first_message, is_full}
-use Rattle.smx_model.specs.RunMarks.{AreMarked, is_held_up, next_of, next_of_first}
-use Rattle.smx_model.specs.Settling.{◌>>=◌, IsSettled, is_movable, least_movable, next_open_place, next_place}
+use Rattle.smx_model.specs.RunMarks.{AreMarked, next_of, next_of_first}
+use Rattle.smx_model.specs.Settling.{◌>>=◌, IsSettled, is_movable, least_movable, next_open_place}
 use Rattle.smx_model.proofs.KnownPlaceLemmas.{held_known}
 use Rattle.smx_model.proofs.LeastMarkedLemmas.{marked_is_least, none_is_least}
 use Rattle.smx_queues.specs.Bits.{BitTable, has_bit, has_bit_but}
@@ -23,7 +23,7 @@ use Rattle.smx_queues.specs.Rings.{RingTable, at}
 use Rattle.smx_queues.proofs.PlacesOfLemmas.{before_lower, known_number}
 use Rattle.smx_config.specs.declared.marks.Marks.{Marks}
 use Rattle.smx_config.specs.declared.settling.Move.{Move}
-use Rattle.smx_config.specs.Marking.{AreFor, AreMarks, HasNoBit, IsAt, IsNotedFor}
+use Rattle.smx_config.specs.Marking.{AreFor, AreMarks, HasNoBit, IsAt}
 use Rattle.smx_config.specs.Moves.{IsLeastMove}
 use Rattle.smx_config.specs.Wakes.{everywhere}
 use Rattle.smx_config.proofs.PlaceNumberLemmas.{one_place}
@@ -32,8 +32,7 @@ use Rattle.smx_config.proofs.PlaceNumberLemmas.{one_place}
 pub none_left : (drivers : List DriverSpec) (c : Configuration) (r : Option Move) (P : Type 0) → IsSettled drivers c
     → IsLeastMove drivers c r → IfNone r P → P
 none_left drivers c None P s least none = none
-none_left drivers c (Some m) P s least none = let e = none_is_least drivers c s in
-    absurd (none-some least.moves.from (sym e ∙ least.least))
+none_left drivers c (Some m) P s least none = grind (arith, none_is_least drivers c s, none-some least.moves.from)
 
 -- ---- the place to which a first message may move on
 
@@ -44,17 +43,12 @@ if_open c o = o >>= (λ q. cond (is_full c q) None (Some q))
 -- a first message may move on to its next place, unless that is full
 open_of_next : (drivers : List DriverSpec) (c : Configuration) (p : Place)
     → next_open_place drivers c p ≡ if_open c (next_of_first drivers c p)
-open_of_next drivers c p = by (first_message c.flow p) where
-  by : (o : Option Message) → (o >>= (λ m. next_place drivers c p m.addr >>= (λ q. cond (is_full c q) None (Some q))))
-      ≡ if_open c (next_of drivers c p o)
-  by None = refl
-  by (Some m) = refl
+open_of_next drivers c p = grind arith
 
 -- the same, given the next place and whether it is full
 by_full : (drivers : List DriverSpec) (c : Configuration) (p q : Place) (full : Bool)
     → next_of_first drivers c p ≡ Some q → is_full c q ≡ full → next_open_place drivers c p ≡ cond full None (Some q)
-by_full drivers c p q full next is = open_of_next drivers c p
-    ∙ (ap (if_open c) next ∙ ap (λ (b : Bool). cond b None (Some q)) is)
+by_full drivers c p q full next is = grind (arith, open_of_next drivers c p, if_open c)
 
 -- a first message whose next place isn't full may move on to it
 pub moves_to : (drivers : List DriverSpec) (c : Configuration) (p q : Place) → next_of_first drivers c p ≡ Some q
@@ -69,14 +63,12 @@ movable_to drivers c p q e = ap (λ (o : Option Place). is_some o) e
 -- a place is not movable if its first message has no next place
 stays_nowhere : (drivers : List DriverSpec) (c : Configuration) (p : Place) → next_of_first drivers c p ≡ None
     → is_movable drivers c p ≡ false
-stays_nowhere drivers c p none =
-    ap (λ (o : Option Place). is_some o) (open_of_next drivers c p ∙ ap (if_open c) none)
+stays_nowhere drivers c p none = grind (arith, open_of_next drivers c p, if_open c)
 
 -- a place is not movable if the next place of its first message is full
 stays_behind : (drivers : List DriverSpec) (c : Configuration) (p q : Place) → next_of_first drivers c p ≡ Some q
     → is_full c q ≡ true → is_movable drivers c p ≡ false
-stays_behind drivers c p q next full =
-    ap (λ (o : Option Place). is_some o) (by_full drivers c p q true next full)
+stays_behind drivers c p q next full = grind (arith, by_full drivers c p q true next full)
 
 -- if the first message of a place has a next place, the place has a message
 pub next_has_message : (drivers : List DriverSpec) (c : Configuration) (p q : Place)
@@ -86,18 +78,11 @@ next_has_message drivers c p q e none = none-some q (sym (ap (next_of drivers c 
 -- a movable place is one that the drivers have
 movable_known : (drivers : List DriverSpec) (c : Configuration) (p : Place) → IsSound drivers c
     → is_movable drivers c p ≡ true → IsKnown drivers p.stream
-movable_known drivers c p sound moves = held_known drivers c p sound.known (λ none.
-    false≢true (sym (stays_nowhere drivers c p (ap (next_of drivers c p) none)) ∙ moves))
+movable_known drivers c p sound moves = grind (arith, held_known drivers c p sound.known, stays_nowhere drivers c p)
 
 -- each place that is not movable waits, if all places are wanted
 all_wait : (drivers : List DriverSpec) (c : Configuration) → AreMarked drivers c (is_movable drivers c) everywhere
-all_wait drivers c p stays = by (next_of_first drivers c p) refl where
-  by : (o : Option Place) → next_of_first drivers c p ≡ o → is_held_up c everywhere o ≡ true
-  by None e = refl
-  by (Some q) e = elim (cases_Bool (is_full c q)) [
-    | inl t ↦ and_from _ _ t refl
-    | inr f ↦ absurd (false≢true (sym stays ∙ movable_to drivers c p q (moves_to drivers c p q e f)))
-  ]
+all_wait drivers c p stays = grind arith
 
 -- ---- what the marks say
 
@@ -112,20 +97,12 @@ unmarked_stays drivers c m i p h there clear = by (next_of_first drivers c p) re
 -- a movable place has a run mark
 pub movable_marked : (drivers : List DriverSpec) (c : Configuration) (m : Marks) (i : ℕ) (p : Place)
     → AreMarks drivers c m → IsAt drivers i p → is_movable drivers c p ≡ true → has_bit m.run i ≡ true
-movable_marked drivers c m i p h there moves = elim (cases_Bool (has_bit m.run i)) [
-  | inl t ↦ t
-  | inr f ↦ absurd (false≢true (sym (unmarked_stays drivers c m i p h there f) ∙ moves))
-]
+movable_marked drivers c m i p h there moves = grind (arith, unmarked_stays drivers c m i p h there)
 
 -- if there is no run mark, the configuration is settled
 pub none_marked : (drivers : List DriverSpec) (c : Configuration) (m : Marks) → IsSound drivers c → AreMarks drivers c m
     → HasNoBit m.run → IsSettled drivers c
-none_marked drivers c m sound h none p = elim (cases_Bool (is_movable drivers c p)) [
-  | inl t ↦
-      let k = known_number drivers p (movable_known drivers c p sound t) in
-      unmarked_stays drivers c m k.0 p h k.1 (none k.0)
-  | inr f ↦ f
-]
+none_marked drivers c m sound h none p = grind (arith, known_number, movable_known, unmarked_stays)
 
 -- if the place of the least number with a run mark is movable, it is the least movable place
 pub least_is : (drivers : List DriverSpec) (c : Configuration) (m : Marks) (n : ℕ) (p : Place) → IsSound drivers c
@@ -156,10 +133,7 @@ if_none (Some n) P none h = absurd (false≢true (sym none))
 -- if the run mark of one number is cleared, each other number without a run mark had none before
 still_run : (old new : BitTable) (n k : ℕ) → ((m : ℕ) → has_bit new m ≡ has_bit_but old n m) → n ≢ k
     → has_bit new k ≡ false → has_bit old k ≡ false
-still_run old new n k gone other clear = elim (cases_Bool (has_bit old k)) [
-  | inl t ↦ absurd (false≢true (sym clear ∙ (gone k ∙ rw t (rw (ne_eqb n k other) refl))))
-  | inr f ↦ f
-]
+still_run old new n k gone other clear = grind (arith, gone k)
 
 -- the marks with other run marks
 abbrev pub with_run : Marks → BitTable → Marks
@@ -254,11 +228,4 @@ held_up drivers c n j p q m run wanted h here to_at below next full k = record {
 -- the empty configuration needs no marks, if no place waits
 pub marks_at_first : (drivers : List DriverSpec) (m : Marks) → AreFor (length (places_of drivers)) m
     → ((n : ℕ) → n < length (places_of drivers) → at m.waits.owners n ≡ 0) → AreMarks drivers empty m
-marks_at_first drivers m over none = record {
-  over = over;
-  held_up = λ i p q there clear e. absurd (none-some q e);
-  listed = λ i j noted. absurd (no_waiter i j noted);
-} where
-  no_waiter : (i j : ℕ) → IsNotedFor m i j → ⊥
-  no_waiter i j noted = let zero_there = none i (omega (arith, noted.0, over.waits))
-      in omega (arith, zero_there, noted.1)
+marks_at_first drivers m over none = grind (arith, held_up, none-some)

@@ -1,6 +1,6 @@
 -- Places and their numbers.
-use Rattle.std.proofs.Common.{◌≡◌, ℕ, zero, suc, ◌<◌, true, List, [], ◌∷◌, length, Option, None, Some}
-use Rattle.std.proofs.Common.{refl, sym, ap, ◌∙◌, subst, arith}
+use Rattle.std.proofs.Common.{◌≡◌, ℕ, zero, suc, ◌<◌, true, List, [], ◌∷◌, length, Option, None, Some, refl, sym, subst}
+use Rattle.std.proofs.Common.{arith}
 use Rattle.std.specs.Prelude.{IsSome, slice_get}
 use Rattle.std.proofs.lemmas.Option.{same_Some, slice_get_within}
 use Rattle.smx_types.specs.declared.driver.DriverSpec.{DriverSpec}
@@ -29,8 +29,7 @@ place_of_number drivers n lt = place_in (places_of drivers) n lt
 -- one number has only one place
 pub one_place : (drivers : List DriverSpec) (m n : ℕ) (p q : Place) → IsAt drivers m p → IsAt drivers n q
     → m ≡ n → p ≡ q
-one_place drivers m n p q at there same =
-    same_Some p q (sym at ∙ (ap (slice_get (places_of drivers)) same ∙ there))
+one_place drivers m n p q at there same = grind (arith, same_Some)
 
 -- places that are the same have the same number
 pub one_number : (drivers : List DriverSpec) (m n : ℕ) (p q : Place) → IsAt drivers m p → IsAt drivers n q
@@ -41,12 +40,4 @@ one_number drivers m n p q at there same =
 -- a place for which no number was found has no number
 pub none_found : (drivers : List DriverSpec) (p : Place) (r : Option ℕ) → r ≡ None
     → (IsKnown drivers p.stream → IsSome r) → (n : ℕ) → IsAt drivers n p → ⊥
-none_found drivers p r is known n at = nothing r is (known (number_known drivers n p at)) where
-  nothing : (o : Option ℕ) → o ≡ None → IsSome o → ⊥
-  nothing None e some = absurd cc
-  nothing (Some m) e some = absurd cc
-
--- a place that has no number differs from each place that has one
-pub is_another : (drivers : List DriverSpec) (n : ℕ) (p q : Place) → ((m : ℕ) → IsAt drivers m p → ⊥) → IsAt drivers n q
-    → same_place p q ≡ true → ⊥
-is_another drivers n p q none there same = none n (subst (IsAt drivers n) (sym (place_is p q same)) there)
+none_found drivers p r is known n at = grind (arith, known (number_known drivers n p at), number_known drivers n p at)

@@ -1,26 +1,25 @@
 -- Places that are marked, one after another.
-use Rattle.std.proofs.Common.{◌≡◌, ℕ, ◌<◌, Bool, true, false, ◌&&◌, eqb, List, [], ◌∷◌}
-use Rattle.std.proofs.Common.{None, refl, sym, ap, ◌∙◌, subst, arith, inl, inr}
+use Rattle.std.proofs.Common.{◌≡◌, ℕ, ◌<◌, Bool, true, false, ◌&&◌, eqb, List, [], ◌∷◌, None, refl, sym, ap, ◌∙◌, subst}
+use Rattle.std.proofs.Common.{arith, inl, inr}
 use Rattle.std.specs.Prelude.{nat_lt}
 use Rattle.std.specs.List.{All, AllByRecursion, list_any}
-use Rattle.std.proofs.lemmas.Bool.{and_parts, cases_Bool, eq-eqb, eqb-true, false≢true, lt-ltb, or_left, or_right}
+use Rattle.std.proofs.lemmas.Bool.{and_parts, cases_Bool, eqb-true, false≢true, lt-ltb}
 use Rattle.std.proofs.lemmas.List.Elements.{recursion_from_All}
 use Rattle.smx_types.specs.declared.link.Link.{Link}
 use Rattle.smx_types.specs.declared.stream.Place.{Place}
 use Rattle.smx_types.specs.declared.driver.DriverSpec.{DriverSpec}
 use Rattle.smx_types.specs.declared.stream.Side.{Side}
-use Rattle.smx_types.specs.declared.stream.Side.TheVariants as side
 use Rattle.smx_types.specs.declared.stream.StreamId.{StreamId}
 use Rattle.smx_model.specs.Configuration.{Configuration, QueuedMessage, same_place, same_side, same_stream}
 use Rattle.smx_model.specs.DriverList.{minors_of}
 use Rattle.smx_model.specs.Paths.{reaches}
 use Rattle.smx_model.specs.Queues.{first_message}
-use Rattle.smx_model.specs.RunMarks.{asks_up, has_addr, is_below_driver}
+use Rattle.smx_model.specs.RunMarks.{asks_up, is_below_driver}
 use Rattle.smx_links.specs.Masks.{IsWithin}
 use Rattle.smx_queues.specs.Bits.{BitTable, has_bit}
 use Rattle.smx_config.specs.Marking.{IsAt, IsMarkedWhere, asks_at, asks_between}
 use Rattle.smx_queues.proofs.PlacesOfLemmas.{number_known}
-use Rattle.smx_config.proofs.PlaceNumberLemmas.{is_another, one_number}
+use Rattle.smx_config.proofs.PlaceNumberLemmas.{one_number}
 
 -- if no place with a message passes the test, nothing has to be marked
 pub none_marked : (drivers : List DriverSpec) (flow : List QueuedMessage) (test : Place → Bool) (m : BitTable)
@@ -37,15 +36,6 @@ one_marked drivers flow place n old new there here kept same = record {
   marked = λ i p at some t.
       subst (λ (x : ℕ). has_bit new x ≡ true) (one_number drivers n i place p there at t) here;
   count = same;
-}
-
--- a place that the drivers don't have needs no mark
-pub none_there : (drivers : List DriverSpec) (flow : List QueuedMessage) (place : Place) (m : BitTable)
-    → ((n : ℕ) → IsAt drivers n place → ⊥) → IsMarkedWhere drivers flow (same_place place) m m
-none_there drivers flow place m none = record {
-  kept = λ i h. h;
-  marked = λ i p there some t. absurd (is_another drivers i place p none there t);
-  count = refl;
 }
 
 -- ---- one side of a driver's streams, one minor after another
@@ -75,27 +65,14 @@ all_minors drivers c driver s addr n old new many m = record {
 -- a read side that is asked for belongs to a stream below the driver
 asked_below : (c : Configuration) (driver addr : ℕ) (p : Place) → asks_up c driver addr p ≡ true
     → is_below_driver c driver p.stream ≡ true
-asked_below c driver addr p t =
-    let below = and_parts (same_side p.side side.Read && is_below_driver c driver p.stream)
-    (has_addr addr (first_message c.flow p)) t in
-    (and_parts (same_side p.side side.Read) (is_below_driver c driver p.stream) below.0).1
+asked_below c driver addr p t = grind arith
 
 -- a link between two drivers is a path from the upper driver to the lower one
 below_reaches : (links : List Link) (s : StreamId) (driver lower : ℕ) → s.driver ≡ lower
     → list_any (λ l. same_stream l.lower s && eqb l.ctl.driver driver) links ≡ true
     → reaches links driver lower ≡ true
 below_reaches [] s driver lower is h = absurd cc
-below_reaches (l ∷ links) s driver lower is h =
-    elim (cases_Bool (same_stream l.lower s && eqb l.ctl.driver driver)) [
-      | inl t ↦
-          let both = and_parts (same_stream l.lower s) (eqb l.ctl.driver driver) t in
-          let same = and_parts (eqb l.lower.driver s.driver) (eqb l.lower.minor s.minor) both.0 in
-          let upper : eqb driver l.ctl.driver ≡ true =
-          eq-eqb driver l.ctl.driver (sym (eqb-true l.ctl.driver driver both.1)) in
-          or_right (reaches links driver lower) _
-          (rw (upper, eq-eqb l.lower.driver lower (eqb-true l.lower.driver s.driver same.0 ∙ is)) refl)
-      | inr f ↦ or_left (reaches links driver lower) _ (below_reaches links s driver lower is (rw f at h))
-    ]
+below_reaches (l ∷ links) s driver lower is h = grind (arith, below_reaches links s driver lower is)
 
 -- if no path leads from the one driver to the other, none of the places between them has to be marked
 pub none_between : (drivers : List DriverSpec) (c : Configuration) (driver addr lower : ℕ) (m : BitTable)

@@ -1,5 +1,5 @@
 -- Moves, one after another.
-use Rattle.std.proofs.Common.{◌≡◌, ℕ, zero, suc, ◌-◌, ◌<◌, List, Some, refl, sym, ap, ◌∙◌, arith}
+use Rattle.std.proofs.Common.{◌≡◌, ℕ, zero, suc, ◌-◌, ◌<◌, List, Some, refl, arith}
 use Rattle.smx_types.specs.declared.driver.DriverSpec.{DriverSpec}
 use Rattle.smx_types.specs.declared.stream.Place.{Place}
 use Rattle.smx_model.specs.Configuration.{Configuration}
@@ -12,9 +12,7 @@ pub settled_one : (drivers : List DriverSpec) (n : ℕ) (c d : Configuration) (p
     → least_movable drivers c ≡ Some p → d ≡ after_move drivers c p
     → after_settling_within drivers (n - 1) d ≡ after_settling_within drivers n c
 settled_one drivers zero c d p some e m = absurd (omega arith)
-settled_one drivers (suc n) c d p some e m = let k : suc n - 1 ≡ n = omega arith in
-    ap (λ (j : ℕ). after_settling_within drivers j d) k
-    ∙ (ap (after_settling_within drivers n) m ∙ sym (settling_moves drivers n c p e))
+settled_one drivers (suc n) c d p some e m = grind (arith, settling_moves drivers n c p e)
 
 -- after the last round
 pub within_zero : (drivers : List DriverSpec) (n : ℕ) (c d : Configuration) → n ≡ 0

@@ -1,25 +1,19 @@
 -- Places from which no message moves on: the read side of a stream that is not linked below, and the write side of a
 -- leaf driver's stream. So if a message was read or transmitted, the messages after it still don't move on.
-use Rattle.std.proofs.Common.{◌≡◌, ℕ, Bool, true, false, List, [], ◌∷◌, find, Option, None, Some}
-use Rattle.std.proofs.Common.{Ok, refl, sym, ◌∙◌, subst, inl, inr}
+use Rattle.std.proofs.Common.{◌≡◌, ℕ, Bool, true, false, List, [], ◌∷◌, find, None, Some, Ok, refl, arith}
 use Rattle.std.specs.List.{list_any}
-use Rattle.std.proofs.lemmas.Bool.{cases_Bool, false≢true}
 use Rattle.smx_types.specs.declared.command.Command.TheVariants as command
 use Rattle.smx_types.specs.declared.driver.DriverSpec.{DriverSpec}
 use Rattle.smx_types.specs.declared.link.Link.{Link}
 use Rattle.smx_types.specs.declared.message.Message.{Message}
-use Rattle.smx_types.specs.declared.reply.Fault.TheVariants.{HungUp}
 use Rattle.smx_types.specs.declared.reply.Reply.{Reply}
 use Rattle.smx_types.specs.declared.stream.Place.{Place}
 use Rattle.smx_types.specs.declared.stream.Side.TheVariants as side
 use Rattle.smx_types.specs.declared.stream.StreamId.{StreamId}
 use Rattle.smx_model.specs.Commands.{outcome}
-use Rattle.smx_model.specs.Configuration.{Configuration, same_place, same_stream, read_side, write_side}
+use Rattle.smx_model.specs.Configuration.{Configuration, same_place, read_side, write_side}
 use Rattle.smx_model.specs.DriverList.{is_mux}
-use Rattle.smx_model.specs.Hangups.{is_hung}
-use Rattle.smx_model.specs.Lookups.{free_stream, leaf_stream, live_leaf}
-use Rattle.smx_model.specs.Outcomes.{◌>>=◌, refuse}
-use Rattle.smx_model.specs.Queues.{first_message}
+use Rattle.smx_model.specs.Lookups.{free_stream, live_leaf}
 use Rattle.smx_model.specs.RunMarks.{next_of, next_of_first}
 use Rattle.smx_model.specs.Standing.{is_below}
 use Rattle.smx_model.specs.TurnedPlaces.{of_stream}
@@ -32,34 +26,24 @@ use Rattle.smx_queues.proofs.PlaceLemmas.{place_is}
 -- the driver of a live device's stream is not a multiplexing driver
 live_is : (drivers : List DriverSpec) (c : Configuration) (name : List ℕ) (minor : ℕ) (s : StreamId)
     → live_leaf drivers c name minor ≡ Ok s → is_mux drivers s.driver ≡ false
-live_is drivers c name minor s e =
-    let found = bound (leaf_stream drivers c name minor) (λ x. refuse HungUp (is_hung c.hungs x) >>= (λ h. Ok x)) s e in
-    let live = bound (refuse HungUp (is_hung c.hungs found.0)) (λ h. Ok found.0) s found.2 in
-    (leaf_says drivers c name minor s (found.1 ∙ live.2)).1
+live_is drivers c name minor s e = grind (arith, bound, leaf_says)
 
 -- ---- places from which no message moves on
 
 -- if no link passes a test, a search with this test finds no link
 none_found : (test : Link → Bool) (links : List Link) → list_any test links ≡ false → find test links ≡ None
 none_found test [] h = refl
-none_found test (l ∷ ls) h = elim (cases_Bool (test l)) [
-  | inl t ↦ absurd (false≢true (sym (rw t at h)))
-  | inr f ↦ rw f (none_found test ls (rw f at h))
-]
+none_found test (l ∷ ls) h = grind (arith, none_found test ls)
 
 -- if no message has a next place from here, neither has the first message
 nowhere_next : (drivers : List DriverSpec) (c : Configuration) (p : Place)
     → ((m : Message) → next_of drivers c p (Some m) ≡ None) → next_of_first drivers c p ≡ None
-nowhere_next drivers c p none = by (first_message c.flow p) where
-  by : (o : Option Message) → next_of drivers c p o ≡ None
-  by None = refl
-  by (Some m) = none m
+nowhere_next drivers c p none = grind arith
 
 -- no message goes up from a stream that is not below a link
 read_side_stays : (drivers : List DriverSpec) (c : Configuration) (p : Place) → p.side ≡ side.Read
     → is_below c.links p.stream ≡ false → next_of_first drivers c p ≡ None
-read_side_stays drivers c p at free = nowhere_next drivers c p
-    (λ m. rw (at, none_found (λ l. same_stream l.lower p.stream) c.links free) refl)
+read_side_stays drivers c p at free = grind (arith, nowhere_next drivers c p, none_found)
 
 -- no message goes down from a leaf driver's stream
 write_side_stays : (drivers : List DriverSpec) (c : Configuration) (s : StreamId) → is_mux drivers s.driver ≡ false
@@ -69,27 +53,18 @@ write_side_stays drivers c s leaf = nowhere_next drivers c (write_side s) (λ m.
 -- if the first message of a place has no next place, the same is true of a place that is the same
 stays_at : (drivers : List DriverSpec) (c : Configuration) (q p : Place) → same_place q p ≡ true
     → next_of_first drivers c q ≡ None → next_of_first drivers c p ≡ None
-stays_at drivers c q p same none =
-    subst (λ (x : Place). next_of_first drivers c x ≡ None) (place_is q p same) none
+stays_at drivers c q p same none = grind (arith, place_is q p same)
 
 -- after a read, no message moves on from the place that was read
 pub read_stays : (drivers : List DriverSpec) (c : Configuration) (process fd : ℕ) (x : Configuration × Reply)
     (p : Place) → outcome drivers c process (command.Read fd) ≡ Ok x
     → of_stream (free_stream c process fd) (λ s. same_place (read_side s)) p ≡ true
     → next_of_first drivers x.0 p ≡ None
-read_stays drivers c process fd x p e t =
-    let found = bound (free_stream c process fd) _ x e in
-    let links = (read_keeps drivers c found.0 x found.2).links in
-    stays_at drivers x.0 (read_side found.0) p (rw found.1 at t)
-    (read_side_stays drivers x.0 (read_side found.0) refl
-    (subst (λ (ls : List Link). is_below ls found.0 ≡ false) (sym links) (free_says c process fd found.0 found.1).1))
+read_stays drivers c process fd x p e t = grind (arith, bound, read_keeps, stays_at, read_side_stays, free_says)
 
 -- after a transmit, no message moves on from the place whose message was taken
 pub transmit_stays : (drivers : List DriverSpec) (c : Configuration) (process : ℕ) (name : List ℕ) (minor : ℕ)
     (x : Configuration × Reply) (p : Place) → outcome drivers c process (command.Transmit name minor) ≡ Ok x
     → of_stream (live_leaf drivers c name minor) (λ s. same_place (write_side s)) p ≡ true
     → next_of_first drivers x.0 p ≡ None
-transmit_stays drivers c process name minor x p e t =
-    let found = bound (live_leaf drivers c name minor) _ x e in
-    stays_at drivers x.0 (write_side found.0) p (rw found.1 at t)
-    (write_side_stays drivers x.0 found.0 (live_is drivers c name minor found.0 found.1))
+transmit_stays drivers c process name minor x p e t = grind (arith, bound, stays_at, write_side_stays, live_is)

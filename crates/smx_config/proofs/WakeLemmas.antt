@@ -1,6 +1,6 @@
 -- The places that wait for a place that is no longer full, and the marks that a change keeps.
-use Rattle.std.proofs.Common.{◌≡◌, ℕ, suc, ◌<◌, Bool, true, false, not, List, length, set, Some}
-use Rattle.std.proofs.Common.{sym, ap, ◌∙◌, subst, arith, inl, inr}
+use Rattle.std.proofs.Common.{◌≡◌, ℕ, suc, ◌<◌, Bool, true, false, not, List, length, set, Some, sym, ap, ◌∙◌, subst}
+use Rattle.std.proofs.Common.{arith, inl, inr}
 use Rattle.std.specs.Prelude.{◌≢◌, ◌⊎◌}
 use Rattle.std.proofs.lemmas.Bool.{and_from, cases_Bool, cases_eq, false≢true, ne_eqb}
 use Rattle.std.proofs.lemmas.List.{get_or-set_other, get_or-set_same, length-set}
@@ -20,7 +20,7 @@ use Rattle.smx_config.specs.Moves.{IsFullAt}
 use Rattle.smx_config.specs.Wakes.{everywhere}
 use Rattle.smx_config.specs.declared.marks.Marks.{Marks}
 use Rattle.smx_config.proofs.NextMoveLemmas.{next_has_message, with_run}
-use Rattle.smx_config.proofs.PlaceNumberLemmas.{is_another, one_number}
+use Rattle.smx_config.proofs.PlaceNumberLemmas.{one_number}
 
 -- a test that is both true and false proves anything
 never : {A : Type 0} (b : Bool) → b ≡ true → b ≡ false → A
@@ -102,22 +102,7 @@ released_one drivers c n p old mid wanted here h gone same = record {
 -- a place that is full or not wanted needs no release
 pub not_released : (drivers : List DriverSpec) (c : Configuration) (n : ℕ) (p : Place) (m : Marks) → IsAt drivers n p
     → IsListed m → (is_full c p ≡ true) ⊎ (has_bit m.wanted n ≡ false) → IsReleased drivers c (same_place p) m m
-not_released drivers c n p m here listed h = record {
-  kept = all_kept m listed;
-  gone = λ i j q there noted f. elim h [
-    | inl full ↦ subst (λ (x : Place). is_full c x ≡ true) (place_is p q f) full
-    | inr none ↦ never (has_bit m.wanted j) (listed i j noted)
-        (subst (λ (x : ℕ). has_bit m.wanted x ≡ false) (one_number drivers n j p q here there f) none)
-  ];
-}
-
--- a place that the drivers don't have needs no release
-pub not_there : (drivers : List DriverSpec) (c : Configuration) (p : Place) (m : Marks) → IsListed m
-    → ((n : ℕ) → IsAt drivers n p → ⊥) → IsReleased drivers c (same_place p) m m
-not_there drivers c p m listed none = record {
-  kept = all_kept m listed;
-  gone = λ i j q there noted f. absurd (is_another drivers j p q none there f);
-}
+not_released drivers c n p m here listed h = grind (arith, all_kept m listed, place_is p, never, one_number drivers n)
 
 -- ---- one place, and then another
 
@@ -182,10 +167,7 @@ woken drivers c turned freed old mid run a b = record {
 went_there : (drivers : List DriverSpec) (old new : Configuration) (turned : Place → Bool) (p q : Place)
     → TurnsOnly drivers old new turned → turned p ≡ false → next_of_first drivers new p ≡ Some q
     → next_of_first drivers old p ≡ Some q
-went_there drivers old new turned p q only f e = elim (only p f) [
-  | inl same ↦ sym same ∙ e
-  | inr none ↦ absurd (none-some q (sym none ∙ e))
-]
+went_there drivers old new turned p q only f e = grind (arith, only p f, none-some q)
 
 -- a change turns only places of the first group; it frees only places of the second, which are all in the third
 pub record IsAmong (drivers : List DriverSpec) (old new : Configuration)

@@ -1,33 +1,25 @@
 -- Commands and moves that leave the next places of messages as they are, and the hops after them.
-use Rattle.std.proofs.Common.{◌≡◌, ℕ, ◌<◌, Bool, true, false, ◌&&◌, ◌||◌, eqb, not, List, length, get_or, Option, None}
-use Rattle.std.proofs.Common.{Some, Ok, refl, sym, ap, ◌∙◌, subst, arith}
-use Rattle.std.specs.Prelude.{IfSome, IsSome, nat_le, nat_lt}
-use Rattle.std.specs.Option.{is_some, ok_or}
+use Rattle.std.proofs.Common.{◌≡◌, ℕ, ◌<◌, Bool, true, List, length, get_or, Option, None, Some, Ok, sym, ap, ◌∙◌}
+use Rattle.std.proofs.Common.{subst, arith}
+use Rattle.std.specs.Prelude.{IfSome, IsSome}
 use Rattle.std.proofs.lemmas.Bool.{false≢true}
 use Rattle.smx_types.specs.declared.command.Command.{Command}
 use Rattle.smx_types.specs.declared.command.Command.TheVariants as command
 use Rattle.smx_types.specs.declared.driver.DriverSpec.{DriverSpec}
-use Rattle.smx_types.specs.declared.limits.TheConstants.{NUMBER_END}
 use Rattle.smx_types.specs.declared.message.Message.{Message}
-use Rattle.smx_types.specs.declared.reply.Fault.TheVariants.{BadSize, Empty, Full}
 use Rattle.smx_types.specs.declared.reply.Reply.{Reply}
 use Rattle.smx_types.specs.declared.stream.Place.{Place}
-use Rattle.smx_types.specs.declared.stream.Side.{Side}
-use Rattle.smx_types.specs.declared.stream.Side.TheVariants as side
 use Rattle.smx_types.specs.declared.stream.StreamId.{StreamId}
 use Rattle.smx_model.specs.Commands.{done_outcome, outcome, read_outcome, receive_outcome, send_outcome}
-use Rattle.smx_model.specs.Configuration.{Configuration, read_side, write_side}
-use Rattle.smx_model.specs.DriverList.{max_of}
-use Rattle.smx_model.specs.Hangups.{is_hung}
-use Rattle.smx_model.specs.Lookups.{free_stream, live_leaf, live_stream}
-use Rattle.smx_model.specs.Outcomes.{Outcome, refuse}
-use Rattle.smx_model.specs.Queues.{first_message, is_full}
+use Rattle.smx_model.specs.Configuration.{Configuration}
+use Rattle.smx_model.specs.Lookups.{live_stream}
+use Rattle.smx_model.specs.Queues.{first_message}
 use Rattle.smx_model.specs.Removal.{without_queues_at}
 use Rattle.smx_model.specs.RunMarks.{next_of}
-use Rattle.smx_model.specs.Settling.{after_move, after_move_to, next_open_place, next_place}
+use Rattle.smx_model.specs.Settling.{after_move, next_place}
 use Rattle.smx_model.specs.Swept.{IsSwept}
 use Rattle.smx_model.proofs.IdleSweepLemmas.{swept_idle}
-use Rattle.smx_model.proofs.WaitingLemmas.{next_by, next_is}
+use Rattle.smx_model.proofs.WaitingLemmas.{next_is}
 use Rattle.smx_queues.specs.PlaceLists.{places_of}
 use Rattle.smx_commands.proofs.AcceptedLemmas.{accepted, bound}
 use Rattle.smx_config.specs.declared.hops.Hop.{Hop}
@@ -42,80 +34,44 @@ use Rattle.smx_config.proofs.PlaceNumberLemmas.{at_number}
 -- sending a message to a place
 pub send_keeps : (drivers : List DriverSpec) (c : Configuration) (p : Place) (addr : ℕ) (bytes : List ℕ)
     (x : Configuration × Reply) → send_outcome drivers c p addr bytes ≡ Ok x → KeepsWays c x.0
-send_keeps drivers c p addr bytes x e =
-    let size = bound
-    (refuse BadSize ((eqb (length bytes) 0) || nat_lt (max_of drivers p.stream.driver) (length bytes))) _ x e in
-    let room = bound (refuse Full (is_full c p || nat_le NUMBER_END c.next_serial)) _ x size.2 in
-    subst (λ (y : Configuration × Reply). KeepsWays c y.0) (accepted _ x room.2)
-    (record { links = refl; routes = refl; binds = refl; hungs = refl })
+send_keeps drivers c p addr bytes x e = grind (arith, bound, accepted)
 
 -- taking a message from its place
 pub receive_keeps : (drivers : List DriverSpec) (c : Configuration) (p : Place) (x : Configuration × Reply)
     → receive_outcome drivers c p ≡ Ok x → KeepsWays c x.0
-receive_keeps drivers c p x e =
-    let found = bound (ok_or (first_message c.flow p) Empty) _ x e in
-    subst (λ (y : Configuration × Reply). KeepsWays c y.0) (accepted _ x found.2)
-    (record { links = refl; routes = refl; binds = refl; hungs = refl })
+receive_keeps drivers c p x e = grind (arith, bound, accepted)
 
 -- reading at a stream
 pub read_keeps : (drivers : List DriverSpec) (c : Configuration) (s : StreamId) (x : Configuration × Reply)
     → read_outcome drivers c s ≡ Ok x → KeepsWays c x.0
-read_keeps drivers c s x e = by (is_hung c.hungs s && not (is_some (first_message c.flow (read_side s)))) refl where
-  by : (b : Bool) → (is_hung c.hungs s && not (is_some (first_message c.flow (read_side s)))) ≡ b → KeepsWays c x.0
-  by true t = let k : ◌≡◌ {A = Outcome} (Ok (c, _)) (Ok x) = rw t at e in
-      subst (λ (y : Configuration × Reply). KeepsWays c y.0) (accepted _ x k)
-      (record { links = refl; routes = refl; binds = refl; hungs = refl })
-  by false f = let k : receive_outcome drivers c (read_side s) ≡ Ok x = rw f at e in
-      receive_keeps drivers c (read_side s) x k
+read_keeps drivers c s x e = grind arith
 
 -- dropping messages, if there is nothing to sweep
 pub drop_keeps : (drivers : List DriverSpec) (c : Configuration) (goes : Place → Bool) (x : Configuration × Reply)
     → IsSwept drivers c → done_outcome drivers c (without_queues_at c goes) ≡ Ok x → KeepsWays c x.0
-drop_keeps drivers c goes x h e =
-    let is = ap (λ (y : Configuration × Reply). y.0) (sym (accepted _ x e)) in
-    let idle = swept_idle drivers c h in
-    record {
-      links = ap (λ (d : Configuration). d.links) is ∙ ap (λ (d : Configuration). d.links) idle;
-      routes = ap (λ (d : Configuration). d.routes) is ∙ ap (λ (d : Configuration). d.routes) idle;
-      binds = ap (λ (d : Configuration). d.binds) is ∙ ap (λ (d : Configuration). d.binds) idle;
-      hungs = ap (λ (d : Configuration). d.hungs) is ∙ ap (λ (d : Configuration). d.hungs) idle;
-    }
+drop_keeps drivers c goes x h e = grind (arith, accepted _ x e, swept_idle drivers c h)
 
 -- a command that only adds or removes messages
 pub ways_kept : (drivers : List DriverSpec) (c d : Configuration) (process : ℕ) (k : Command) (r : Reply)
     → keeps_ways k ≡ true → IsSwept drivers c → outcome drivers c process k ≡ Ok (d, r) → KeepsWays c d
-ways_kept drivers c d process (command.Write fd addr bytes) r t h e =
-    let s = bound (live_stream c process fd) _ (d, r) e in
-    send_keeps drivers c (write_side s.0) addr bytes (d, r) s.2
-ways_kept drivers c d process (command.Read fd) r t h e =
-    let s = bound (free_stream c process fd) _ (d, r) e in read_keeps drivers c s.0 (d, r) s.2
+ways_kept drivers c d process (command.Write fd addr bytes) r t h e = grind (arith, bound, send_keeps)
+ways_kept drivers c d process (command.Read fd) r t h e = grind (arith, bound, read_keeps)
 ways_kept drivers c d process (command.Flush fd w) r t h e =
     let s = bound (live_stream c process fd) _ (d, r) e in drop_keeps drivers c _ (d, r) h s.2
-ways_kept drivers c d process (command.Inject name minor addr bytes) r t h e =
-    let s = bound (live_leaf drivers c name minor) _ (d, r) e in
-    send_keeps drivers c (read_side s.0) addr bytes (d, r) s.2
-ways_kept drivers c d process (command.Transmit name minor) r t h e =
-    let s = bound (live_leaf drivers c name minor) _ (d, r) e in receive_keeps drivers c (write_side s.0) (d, r) s.2
+ways_kept drivers c d process (command.Inject name minor addr bytes) r t h e = grind (arith, bound, send_keeps)
+ways_kept drivers c d process (command.Transmit name minor) r t h e = grind (arith, bound, receive_keeps)
 ways_kept drivers c d process k r t h e = absurd (false≢true t)
 
 -- moving a message
 pub move_keeps : (drivers : List DriverSpec) (c : Configuration) (p : Place) → KeepsWays c (after_move drivers c p)
-move_keeps drivers c p = by (next_open_place drivers c p) (first_message c.flow p) where
-  by : (o : Option Place) (m : Option Message) → KeepsWays c (after_move_to drivers c p o m)
-  by (Some q) (Some m) = record { links = refl; routes = refl; binds = refl; hungs = refl }
-  by (Some q) None = record { links = refl; routes = refl; binds = refl; hungs = refl }
-  by None m = record { links = refl; routes = refl; binds = refl; hungs = refl }
+move_keeps drivers c p = grind arith
 
 -- ---- hops
 
 -- such a change keeps the next place of each message
 pub same_way : (drivers : List DriverSpec) (c d : Configuration) (p : Place) (addr : ℕ) → KeepsWays c d
     → next_place drivers d p addr ≡ next_place drivers c p addr
-same_way drivers c d p addr k =
-    next_is drivers d p addr ∙ (by p.side ∙ sym (next_is drivers c p addr)) where
-      by : (s : Side) → next_by drivers d p.stream addr s ≡ next_by drivers c p.stream addr s
-      by side.Write = rw (k.links, k.routes, k.hungs) refl
-      by side.Read = rw (k.links, k.binds) refl
+same_way drivers c d p addr k = grind (arith, next_is drivers d p addr, next_is drivers c p addr)
 
 -- such a change keeps the hops right
 pub hops_kept : (drivers : List DriverSpec) (c d : Configuration) (h : Hops) → KeepsWays c d → AreHops drivers c h
@@ -156,8 +112,7 @@ way_to drivers c p q addr (Some n) next some found = record { place = q; there =
 pub way_of_first : (drivers : List DriverSpec) (c : Configuration) (p : Place) (m : Message) (r : Option ℕ)
     → first_message c.flow p ≡ Some m → IsWay drivers c p m.addr r → IsNextOf drivers c p r
 way_of_first drivers c p m None first way = ap (next_of drivers c p) first ∙ way
-way_of_first drivers c p m (Some n) first way =
-    record { place = way.place; there = way.there; next = ap (next_of drivers c p) first ∙ way.next }
+way_of_first drivers c p m (Some n) first way = grind arith
 
 -- a place to which messages go next has a number
 pub next_number : (drivers : List DriverSpec) (c : Configuration) (p : Place) (r : Option ℕ)

@@ -1,37 +1,34 @@
 -- The places that a command turns and frees are among those that it may wake.
-use Rattle.std.proofs.Common.{◌≡◌, ℕ, Bool, true, false, ◌&&◌, ◌||◌, not, eqb, List, [], filter, Option, Some}
-use Rattle.std.proofs.Common.{None, Result, Ok, Err, refl, sym, ap, ◌∙◌, subst, inl, inr}
-use Rattle.std.specs.Prelude.{◌⊎◌, IfOk, if◌then◌else◌}
+use Rattle.std.proofs.Common.{◌≡◌, ℕ, Bool, true, false, ◌&&◌, ◌||◌, not, eqb, List, [], filter, Some, None, Result, Ok}
+use Rattle.std.proofs.Common.{Err, refl, sym, subst, inl, inr, arith}
+use Rattle.std.specs.Prelude.{◌⊎◌, IfOk}
 use Rattle.std.specs.List.{list_any}
 use Rattle.std.specs.Option.{is_some}
 use Rattle.std.specs.Result.{is_ok}
-use Rattle.std.proofs.lemmas.Bool.{and_parts, cases_Bool, false≢true, not-true}
+use Rattle.std.proofs.lemmas.Bool.{cases_Bool, false≢true}
 use Rattle.smx_types.specs.declared.command.Command.{Command}
 use Rattle.smx_types.specs.declared.command.Command.TheVariants as command
 use Rattle.smx_types.specs.declared.driver.DriverSpec.{DriverSpec}
 use Rattle.smx_types.specs.declared.link.Link.{Link}
-use Rattle.smx_types.specs.declared.message.Message.{Message}
 use Rattle.smx_types.specs.declared.reply.Fault.{Fault}
 use Rattle.smx_types.specs.declared.reply.Fault.TheVariants.{AddressInUse, NoLink}
 use Rattle.smx_types.specs.declared.reply.Reply.{Reply}
 use Rattle.smx_types.specs.declared.reply.Reply.TheVariants as reply
 use Rattle.smx_types.specs.declared.stream.Place.{Place}
-use Rattle.smx_types.specs.declared.stream.Side.{Side}
 use Rattle.smx_types.specs.declared.stream.Side.TheVariants as side
 use Rattle.smx_types.specs.declared.stream.StreamId.{StreamId}
-use Rattle.smx_model.specs.Commands.{after_outcome, done_outcome, outcome, step}
+use Rattle.smx_model.specs.Commands.{done_outcome, outcome, step}
 use Rattle.smx_model.specs.Configuration.{Configuration, QueuedMessage, bind_before, route_before, same_place}
-use Rattle.smx_model.specs.Configuration.{same_side, same_stream, read_side, write_side}
+use Rattle.smx_model.specs.Configuration.{same_side, same_stream}
 use Rattle.smx_model.specs.FreedPlaces.{FreesOnly, HaveFullPlacesMessages, freed_by}
-use Rattle.smx_model.specs.Lookups.{free_stream, live_leaf, live_stream, mux_stream, stream_of}
+use Rattle.smx_model.specs.Lookups.{mux_stream}
 use Rattle.smx_model.specs.Ordered.{with_inserted}
-use Rattle.smx_model.specs.Outcomes.{Outcome, refuse}
+use Rattle.smx_model.specs.Outcomes.{refuse}
 use Rattle.smx_model.specs.Queues.{after_leaving, first_message}
 use Rattle.smx_model.specs.Removal.{after_sweep}
 use Rattle.smx_model.specs.RunMarks.{TurnsOnly, asks_down, asks_up, either, has_addr, is_first_at, next_of_first}
-use Rattle.smx_model.specs.RunMarks.{nowhere}
+use Rattle.smx_model.specs.RunMarks.{nowhere, turned_by_move}
 use Rattle.smx_model.specs.Settling.{after_settling, next_open_place}
-use Rattle.smx_model.specs.RunMarks.{is_first_there, turned_by_move}
 use Rattle.smx_model.specs.Swept.{IsSwept}
 use Rattle.smx_model.specs.TurnedPlaces.{of_stream, turned_by}
 use Rattle.smx_config.specs.declared.marks.Marks.{Marks}
@@ -41,15 +38,12 @@ use Rattle.smx_commands.specs.Machine.{Machine}
 use Rattle.smx_commands.specs.Refinement.{Refines, answer_of}
 use Rattle.smx_config.specs.Wakes.{arrives, drops_none, freed_under, is_either_side, on_stream, turned_under, wakes_of}
 use Rattle.smx_config.specs.declared.wakes.Wakes.{Wakes}
-use Rattle.smx_config.specs.declared.wakes.Wakes.TheVariants as wakes
 use Rattle.smx_model.specs.KeptConfigurations.{IsSound}
 use Rattle.smx_model.proofs.IdleSweepLemmas.{swept_idle}
 use Rattle.smx_model.proofs.KeptLemmas.{outcome_sound}
 use Rattle.smx_model.proofs.FreedPlaceLemmas.{few_freed}
 use Rattle.smx_model.proofs.TurningCommandLemmas.{outcomes_turn}
 use Rattle.smx_model.proofs.UndroppedLemmas.{undropped_if}
-use Rattle.smx_model.proofs.SweptLemmas.{stream_self}
-use Rattle.smx_model.proofs.TurningLemmas.{same_stream_is}
 use Rattle.smx_commands.proofs.AcceptedLemmas.{accepted, bound}
 use Rattle.smx_config.proofs.StayingLemmas.{read_stays, transmit_stays}
 use Rattle.smx_config.proofs.WakeLemmas.{marks_after}
@@ -64,12 +58,7 @@ KeepsBoth c x = (x.0.links ≡ c.links) × (x.0.flow ≡ c.flow)
 done_keeps_both : (drivers : List DriverSpec) (c new : Configuration) (x : Configuration × Reply) → IsSwept drivers c
     → (after_sweep drivers new).links ≡ (after_sweep drivers c).links
     → (after_sweep drivers new).flow ≡ (after_sweep drivers c).flow → done_outcome drivers c new ≡ Ok x → KeepsBoth c x
-done_keeps_both drivers c new x h links flow e =
-    let is = ap (λ (y : Configuration × Reply). y.0) (sym (accepted _ x e)) in
-    let idle = swept_idle drivers c h in (
-      ap (λ (d : Configuration). d.links) is ∙ links ∙ ap (λ (d : Configuration). d.links) idle,
-      ap (λ (d : Configuration). d.flow) is ∙ flow ∙ ap (λ (d : Configuration). d.flow) idle,
-    )
+done_keeps_both drivers c new x h links flow e = grind (arith, accepted _ x e, swept_idle drivers c h)
 
 -- a bind that is accepted keeps the links and the messages
 bind_keeps_both : (drivers : List DriverSpec) (c : Configuration) (process fd addr : ℕ) (x : Configuration × Reply)
@@ -110,11 +99,7 @@ turned_on (Err e) f g d p h t = absurd (false≢true t)
 
 -- an arrival that gives a place its first message turns it
 arrived : (c d : Configuration) (q p : Place) → is_first_at c q p ≡ true → turned_under d (arrives c q) p ≡ true
-arrived c d q p h = by (is_some (first_message c.flow q)) (and_parts (same_place q p) _ h) where
-  by : (b : Bool) → (same_place q p ≡ true) × (not b ≡ true)
-      → turned_under d (if b then wakes.Nothing else wakes.Turns q) p ≡ true
-  by true k = absurd (false≢true k.1)
-  by false k = k.0
+arrived c d q p h = grind arith
 
 -- the place may be turned, or its first message has no next place
 abbrev IsTurnedOrStays : List DriverSpec → Configuration → Wakes → Place → Type 0
@@ -124,10 +109,8 @@ IsTurnedOrStays drivers d w p = (turned_under d w p ≡ true) ⊎ (next_of_first
 turns : (drivers : List DriverSpec) (c : Configuration) (process : ℕ) (k : Command) (x : Configuration × Reply)
     → IsSwept drivers c → outcome drivers c process k ≡ Ok x → (p : Place) → turned_by drivers c process k p ≡ true
     → IsTurnedOrStays drivers x.0 (wakes_of drivers c process k) p
-turns drivers c process (command.Link fd arg) x h e p t =
-    inl (turned_on (stream_of c process arg) _ _ x.0 p (λ s u. u) t)
-turns drivers c process (command.Plink fd arg) x h e p t =
-    inl (turned_on (stream_of c process arg) _ _ x.0 p (λ s u. u) t)
+turns drivers c process (command.Link fd arg) x h e p t = grind (arith, turned_on)
+turns drivers c process (command.Plink fd arg) x h e p t = grind (arith, turned_on)
 turns drivers c process (command.Bind fd addr) x h e p t =
     inl (turned_on (mux_stream drivers c process fd) _ _ x.0 p (λ s u. still s u) t) where
       still : (s : StreamId) → asks_up c s.driver addr p ≡ true → asks_up x.0 s.driver addr p ≡ true
@@ -143,13 +126,10 @@ turns drivers c process (command.Route fd addr id) x h e p t =
           ((same_side p.side side.Write && eqb p.stream.driver s.driver)
           && has_addr addr (first_message messages p)) ≡ true)
           (sym (route_keeps_both drivers c process fd addr id x h e).1) u
-turns drivers c process (command.Write fd addr bytes) x h e p t =
-    inl (turned_on (live_stream c process fd) _ _ x.0 p (λ s u. arrived c x.0 (write_side s) p u) t)
+turns drivers c process (command.Write fd addr bytes) x h e p t = grind (arith, turned_on, arrived)
 turns drivers c process (command.Read fd) x h e p t = inr (read_stays drivers c process fd x p e t)
-turns drivers c process (command.Inject name minor addr bytes) x h e p t =
-    inl (turned_on (live_leaf drivers c name minor) _ _ x.0 p (λ s u. arrived c x.0 (read_side s) p u) t)
-turns drivers c process (command.Transmit name minor) x h e p t =
-    inr (transmit_stays drivers c process name minor x p e t)
+turns drivers c process (command.Inject name minor addr bytes) x h e p t = grind (arith, turned_on, arrived)
+turns drivers c process (command.Transmit name minor) x h e p t = grind (arith, transmit_stays)
 turns drivers c process k x h e p t = absurd (false≢true t)
 
 -- an accepted command turns only places that `wakes_of` says may be turned
@@ -157,13 +137,7 @@ pub turns_few : (drivers : List DriverSpec) (c : Configuration) (process : ℕ) 
     → IsSwept drivers c → outcome drivers c process k ≡ Ok x
     → TurnsOnly drivers c x.0 (turned_by drivers c process k)
     → TurnsOnly drivers c x.0 (turned_under x.0 (wakes_of drivers c process k))
-turns_few drivers c process k x h e only p f = elim (cases_Bool (turned_by drivers c process k p)) [
-  | inl t ↦ elim (turns drivers c process k x h e p t) [
-    | inl turned ↦ absurd (false≢true (sym f ∙ turned))
-    | inr stays ↦ inr stays
-  ]
-  | inr n ↦ only p n
-]
+turns_few drivers c process k x h e only p f = grind (arith, turns drivers c process k x h e p, only p)
 
 -- ---- the freed places
 
@@ -176,13 +150,7 @@ freed_on x (Err e) f g p h t = absurd (false≢true t)
 
 -- each place of a stream is on one of its sides
 is_on_a_side : (s : StreamId) (p : Place) → same_stream p.stream s ≡ true → is_either_side s p ≡ true
-is_on_a_side s p h = by p.side refl where
-  is : p.stream ≡ s
-  is = same_stream_is p.stream s h
-
-  by : (on : Side) → p.side ≡ on → is_either_side s p ≡ true
-  by side.Read e = rw (is, e, stream_self s) refl
-  by side.Write e = rw (is, e, stream_self s) refl
+is_on_a_side s p h = grind arith
 
 -- if a command may free a place, and its reply may name dropped messages, `wakes_of` says that it may be freed
 frees : (drivers : List DriverSpec) (c new : Configuration) (process : ℕ) (k : Command) (x : Reply) (p : Place)
@@ -192,12 +160,9 @@ frees drivers c new process (command.Close fd) x p some t = rw some refl
 frees drivers c new process command.CloseAll x p some t = rw some refl
 frees drivers c new process (command.Unlink fd w) x p some t = rw some refl
 frees drivers c new process (command.Punlink fd w) x p some t = rw some refl
-frees drivers c new process (command.Read fd) x p some t =
-    freed_on x (free_stream c process fd) _ _ p (λ s u. u) t
-frees drivers c new process (command.Transmit name minor) x p some t =
-    freed_on x (live_leaf drivers c name minor) _ _ p (λ s u. u) t
-frees drivers c new process (command.Flush fd w) x p some t = freed_on x (live_stream c process fd) _ _ p
-    (λ s u. rw some (is_on_a_side s p (and_parts (same_stream p.stream s) _ u).0)) t
+frees drivers c new process (command.Read fd) x p some t = grind (arith, freed_on)
+frees drivers c new process (command.Transmit name minor) x p some t = grind (arith, freed_on)
+frees drivers c new process (command.Flush fd w) x p some t = grind (arith, freed_on, is_on_a_side)
 frees drivers c new process k x p some t = absurd (false≢true t)
 
 -- a reply that passes `drops_none` is `Done` without serials
@@ -237,22 +202,14 @@ pub turned_ends : (drivers : List DriverSpec) (c : Configuration) (from to p : P
     → first_message (after_leaving drivers c from).flow to ≡ first_message c.flow to
     → turned_by_move drivers c from p ≡ true
     → (same_place from p ≡ true) ⊎ ((same_place to p ≡ true) × (is_some (first_message c.flow to) ≡ false))
-turned_ends drivers c from to p e stays t = by (same_place from p) refl
-    (subst (λ (o : Option Place). (same_place from p || is_first_there drivers c from o p) ≡ true) e t) where
-      by : (b : Bool) → same_place from p ≡ b → (b || is_first_there drivers c from (Some to) p) ≡ true
-          → (b ≡ true) ⊎ ((same_place to p ≡ true) × (is_some (first_message c.flow to) ≡ false))
-      by true k h = inl refl
-      by false k h = let parts = and_parts (same_place to p) _ h in
-          inr (parts.0, not-true _ (subst (λ (o : Option Message). not (is_some o) ≡ true) stays parts.1))
+turned_ends drivers c from to p e stays t = grind arith
 
 -- the places that a move turns, given the place that the message reaches
 pub turned_is : (drivers : List DriverSpec) (c new : Configuration) (from to : Place)
     → next_open_place drivers c from ≡ Some to
     → TurnsOnly drivers c new (either (same_place from) (is_first_at (after_leaving drivers c from) to))
     → TurnsOnly drivers c new (turned_by_move drivers c from)
-turned_is drivers c new from to e h = subst
-    (λ (o : Option Place). TurnsOnly drivers c new (either (same_place from) (is_first_there drivers c from o)))
-    (sym e) h
+turned_is drivers c new from to e h = grind arith
 
 -- ---- what holds of an accepted outcome
 
@@ -295,27 +252,15 @@ pub woken_if : (old new : Machine) (process : ℕ) (k : Command) (answer : Resul
     → IsWoken new.drivers new.configuration (turned_under new.configuration w) (freed_under r w) m n
     → AreMarks new.drivers new.configuration n
 woken_if old new process k (Ok u) r w m n is refines tells sound filled marks woken =
-    subst (λ (ds : List DriverSpec). AreMarks ds new.configuration n) (sym refines.0)
-    (of_accepted (λ (y : Configuration × Reply).
-    IsWoken old.drivers y.0 (turned_under y.0 (wakes_of old.drivers old.configuration process k))
-    (freed_under y.1 (wakes_of old.drivers old.configuration process k)) m n → AreMarks old.drivers y.0 n)
-    (outcome old.drivers old.configuration process k) (new.configuration, r) refines.1
-    (enough old.drivers old.configuration process k m n sound filled marks)
-    (subst (λ (x : Wakes). IsWoken old.drivers new.configuration (turned_under new.configuration x) (freed_under r x) m
-    n) tells (subst (λ (ds : List DriverSpec).
-    IsWoken ds new.configuration (turned_under new.configuration w) (freed_under r w) m n) refines.0 woken)))
-woken_if old new process k (Err e) r w m n is refines tells sound filled marks woken =
-    absurd (false≢true is)
+    grind (arith, of_accepted, enough old.drivers old.configuration process k m n sound filled marks)
+woken_if old new process k (Err e) r w m n is refines tells sound filled marks woken = grind arith
 
 -- after a command that was performed, the configuration is sound
 pub sound_if : (old new : Machine) (process : ℕ) (k : Command) (answer : Result (Unit {0}) StepError) (r : Reply)
     → is_ok answer ≡ true → Refines old new process k (answer_of answer r) → IsSound old.drivers old.configuration
     → IsSound new.drivers new.configuration
 sound_if old new process k (Ok u) r is refines sound =
-    subst (λ (ds : List DriverSpec). IsSound ds new.configuration) (sym refines.0)
-    (of_accepted (λ (x : Configuration × Reply). IsSound old.drivers x.0)
-    (outcome old.drivers old.configuration process k) (new.configuration, r) refines.1
-    (outcome_sound old.drivers old.configuration process k sound))
+    grind (arith, of_accepted, outcome_sound old.drivers old.configuration process k sound)
 sound_if old new process k (Err e) r is refines sound = absurd (false≢true is)
 
 -- after a command that was performed, and the settling after it, the configuration is that of the step
@@ -323,14 +268,7 @@ pub stepped : (old mid new : Machine) (process : ℕ) (k : Command) (answer : Re
     → is_ok answer ≡ true → Refines old mid process k (answer_of answer r)
     → new ≡ record mid { configuration = after_settling mid.drivers mid.configuration }
     → new ≡ record old { configuration = (step old.drivers old.configuration process k).0 }
-stepped old mid new process k (Ok u) r is refines settled =
-    settled ∙ ap moved refines.0
-    ∙ ap (λ (o : Outcome). with (after_outcome old.drivers old.configuration o).0) (sym refines.1) where
-      with : Configuration → Machine
-      with c = record { drivers = old.drivers; configuration = c }
-
-      moved : List DriverSpec → Machine
-      moved ds = record { drivers = ds; configuration = after_settling ds mid.configuration }
+stepped old mid new process k (Ok u) r is refines settled = grind arith
 stepped old mid new process k (Err e) r is refines settled = absurd (false≢true is)
 
 -- if the reply is a fault, the configuration after settling is the one before the command
@@ -340,10 +278,4 @@ pub fault_keeps : (old mid new : Machine) (process : ℕ) (k : Command) (result 
     → ((step old.drivers old.configuration process k).1 ≡ reply.Fault f
     → (step old.drivers old.configuration process k).0 ≡ old.configuration)
     → r ≡ reply.Fault f → new ≡ old
-fault_keeps old mid new process k result r f is refines settled law fault =
-    let here = subst (λ (x : Result Reply StepError). Refines old mid process k x) is refines in
-    let left : after_settling old.drivers mid.configuration ≡ old.configuration = (rw here.1 at law) fault in
-    let with : Configuration → Machine = λ c. record { drivers = old.drivers; configuration = c } in
-    settled ∙ (ap moved here.0 ∙ ap with left) where
-      moved : List DriverSpec → Machine
-      moved ds = record { drivers = ds; configuration = after_settling ds mid.configuration }
+fault_keeps old mid new process k result r f is refines settled law fault = grind arith

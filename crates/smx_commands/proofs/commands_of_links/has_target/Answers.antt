@@ -1,4 +1,4 @@
-use Rattle.std.proofs.Common.{◌∙◌}
+use Rattle.std.proofs.Common.{◌∙◌, rules}
 use Rattle.smx_commands.specs.UnlinkTargets.{may_unlink}
 use Rattle.smx_tables.proofs.AboveLemmas.{some_with_id, none_with_id}
 use Rattle.smx_commands.proofs.commands_of_links.has_target.Goals as goal
@@ -8,5 +8,4 @@ returns-in-Some c = c.may_unlink.ensures ∙ some_with_id (may_unlink c.args.kin
     c.args.links.now.links c.in-Some.link.now c.get.ensures.sound.ids.rise c.in-Some.ensures.value
 
 pub returns-in-None : goal.returns-in-None
-returns-in-None c = none_with_id (may_unlink c.args.kind c.args.stream) c.args.id c.args.links.now.links
-    c.get.ensures.sound.ids.rise c.in-None.ensures.value
+returns-in-None c = search (rules, none_with_id, c.get.ensures.sound.ids.rise, c.in-None.ensures.value)

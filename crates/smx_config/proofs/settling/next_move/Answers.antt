@@ -24,11 +24,7 @@ returns-in-Some-if_open-clause-least c =
     }
 
 pub returns-clause-least : goal.returns-clause-least
-returns-clause-least c =
-    let now = c.args.tables.now.configuration in
-    none_is_least c.args.tables.now.drivers now
-    (none_marked c.args.tables.now.drivers now c.loop-from.marks c.requires.sound c.loop-from.invariant.marks
-    c.in_default.ensures.none)
+returns-clause-least c = grind (arith, none_is_least c.args.tables.now.drivers, none_marked c.args.tables.now.drivers)
 
 pub returns-in-Some-if_open-clause-marks : goal.returns-in-Some-if_open-clause-marks
 returns-in-Some-if_open-clause-marks c = subst

@@ -1,8 +1,6 @@
-use Rattle.std.proofs.Common.{◌≡◌, ◌∙◌, arith, ap, refl, subst, sym}
-use Rattle.smx_model.specs.Settling.{IsSettled, after_settling}
+use Rattle.std.proofs.Common.{◌∙◌, arith, ap, refl}
 use Rattle.smx_model.proofs.KeptLemmas.{moved_sound, settled_kept}
 use Rattle.smx_commands.specs.Machine.{Machine}
-use Rattle.smx_config.specs.Marking.{HasNoBit}
 use Rattle.smx_config.proofs.SettleLemmas.{settled_one, settled_to, within_zero}
 use Rattle.smx_config.proofs.NextMoveLemmas.{none_left}
 use Rattle.smx_config.proofs.WayLemmas.{hops_kept, move_keeps}
@@ -24,14 +22,4 @@ loop-left-preserved c =
     }
 
 pub returns-clause-none : goal.returns-clause-none
-returns-clause-none c =
-    let last = c.loop-left.tables in
-    let old = c.args.tables.now in
-    let at_end : last ≡ record old { configuration = after_settling old.drivers old.configuration } =
-    settled_to last old _ c.loop-left.invariant.drivers
-    (within_zero last.drivers c.loop-left.left last.configuration _ (omega arith) c.loop-left.invariant.comes_to) in
-    none_left last.drivers last.configuration c.next_move-none.result
-    (HasNoBit c.next_move-none.new.marks.run)
-    (subst (λ (m : Machine). IsSettled m.drivers m.configuration) (sym at_end)
-    (settled_kept old.drivers old.configuration c.requires.sound).settled)
-    c.next_move-none.ensures.least c.next_move-none.ensures.none
+returns-clause-none c = grind (arith, settled_to, within_zero, none_left, settled_kept)

@@ -1,5 +1,6 @@
+use Rattle.std.proofs.Common.{arith}
 use Rattle.smx_config.proofs.PlaceNumberLemmas.{none_found}
-use Rattle.smx_config.proofs.RunMarkLemmas.{none_there, one_marked}
+use Rattle.smx_config.proofs.RunMarkLemmas.{one_marked}
 use Rattle.smx_config.proofs.waking.mark_place.Goals as goal
 
 pub returns-in-Some : goal.returns-in-Some
@@ -7,6 +8,4 @@ returns-in-Some c = one_marked c.args.tables.now.drivers c.args.tables.now.confi
     c.args.run.now c.set.new.self c.in-Some.ensures.found c.set.ensures.here c.set.ensures.kept c.set.ensures.count
 
 pub returns-in_default : goal.returns-in_default
-returns-in_default c =
-    none_there c.args.tables.now.drivers c.args.tables.now.configuration.flow c.args.place c.args.run.now
-    (none_found c.args.tables.now.drivers c.args.place c.number.result c.in_default.is c.number.ensures.known)
+returns-in_default c = grind (arith, none_found)

@@ -1,4 +1,4 @@
-use Rattle.std.proofs.Common.{◌∙◌, sym, inl, inr}
+use Rattle.std.proofs.Common.{◌∙◌, sym, arith}
 use Rattle.smx_config.proofs.WakeLemmas.{not_released}
 use Rattle.smx_config.proofs.waking.release_if_open.Goals as goal
 use Rattle.smx_config.proofs.waking.release_if_open.Goals.{else-not-is_full_at-via-then-not-is_full_at+else-is_set}
@@ -10,11 +10,10 @@ returns-then-is_set c = λ p at. c.release.ensures.released c.args.tables.now.dr
     (sym (c.is_full_at.ensures p at) ∙ c.if-not-is_full_at.true)
 
 pub returns-else-not-is_full_at : goal.returns-else-not-is_full_at
-returns-else-not-is_full_at c = elim c.else-not-is_full_at.branch [
-  | else-not-is_full_at-via-then-not-is_full_at+else-is_set w ↦ λ p at.
-      not_released c.args.tables.now.drivers c.args.tables.now.configuration c.args.n p c.args.marks.now at
-      c.requires.listed (inr (sym w.is_set.ensures ∙ w.if-is_set.false))
-  | else-not-is_full_at-via-else-not-is_full_at w ↦ λ p at.
-      not_released c.args.tables.now.drivers c.args.tables.now.configuration c.args.n p c.args.marks.now at
-      c.requires.listed (inl (sym (c.is_full_at.ensures p at) ∙ w.if-not-is_full_at.false))
-]
+returns-else-not-is_full_at c =
+    grind (
+      arith,
+      else-not-is_full_at-via-then-not-is_full_at+else-is_set,
+      not_released,
+      else-not-is_full_at-via-else-not-is_full_at,
+    )

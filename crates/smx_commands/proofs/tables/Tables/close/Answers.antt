@@ -1,19 +1,14 @@
 use Rattle.std.proofs.Common.{[], List, refl, sym, ap, ◌∙◌}
 use Rattle.smx_types.specs.declared.stream.StreamId.{StreamId}
-use Rattle.smx_streams.specs.StreamTables.{exists as is_there, stream_at}
+use Rattle.smx_streams.specs.StreamTables.{exists as is_there}
 use Rattle.smx_tables.specs.ModelOfLists.{configuration_of}
 use Rattle.smx_tables.proofs.ExistingLemmas.{tells_existing}
 use Rattle.smx_tables.proofs.HungLemmas.{all_pass}
 use Rattle.smx_tables.proofs.TouchLemmas.{linked_still, swept_still, touched_beside, touched_by}
 use Rattle.smx_commands.specs.Closing.{closing}
-use Rattle.smx_commands.proofs.AcceptedLemmas.{fd_at}
 use Rattle.smx_commands.proofs.ClosingLemmas.{all_stay, closed_stays, closes_shared}
 use Rattle.smx_commands.proofs.TablesLemmas.{accepted, sound_inside, tells_inside}
 use Rattle.smx_commands.proofs.tables.Tables.close.Goals as goal
-
-pub close_last-requires-clause-there : goal.close_last-requires-clause-there
-close_last-requires-clause-there c = fd_at (stream_at c.args.self.now.configuration.fds c.args.process c.args.fd)
-    c.in_ok-stream.stream (sym c.stream_of.ensures ∙ c.in_ok-stream.was)
 
 pub returns-then-is_last : goal.returns-then-is_last
 returns-then-is_last c = rw (sym c.stream_of.ensures ∙ c.in_ok-stream.was) c.close_last.ensures

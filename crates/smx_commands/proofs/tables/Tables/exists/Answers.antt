@@ -1,7 +1,6 @@
-use Rattle.std.proofs.Common.{◌∙◌}
+use Rattle.std.proofs.Common.{arith}
 use Rattle.smx_commands.proofs.TablesLemmas.{tells_seen}
 use Rattle.smx_commands.proofs.tables.Tables.exists.Goals as goal
 
 pub returns : goal.returns
-returns c = c.exists.ensures.answer
-    ∙ tells_seen c.self.inside c.args.self.now c.self.view_is c.self.invariant c.requires c.args.stream
+returns c = grind (arith, tells_seen)

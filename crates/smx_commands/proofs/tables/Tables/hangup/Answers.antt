@@ -1,15 +1,11 @@
-use Rattle.std.proofs.Common.{refl, sym, ap, ◌∙◌}
+use Rattle.std.proofs.Common.{refl, sym, ap, ◌∙◌, arith}
 use Rattle.smx_commands.specs.Machine.{Machine}
-use Rattle.smx_commands.proofs.AcceptedLemmas.{leaf_says}
 use Rattle.smx_commands.proofs.DoneLemmas.{hangup_does}
 use Rattle.smx_commands.proofs.TablesLemmas.{tells_seen}
 use Rattle.smx_commands.proofs.tables.Tables.hangup.Goals as goal
 
 pub hang-requires : goal.hang-requires
-hang-requires c =
-    tells_seen c.self.inside c.args.self.now c.self.view_is c.self.invariant c.requires c.in_ok-stream.stream
-    ∙ (leaf_says c.args.self.now.drivers c.args.self.now.configuration c.args.name.now c.args.minor
-    c.in_ok-stream.stream (sym c.leaf_stream.ensures ∙ c.in_ok-stream.was)).0
+hang-requires c = grind (arith, tells_seen)
 
 pub returns-clause-refines : goal.returns-clause-refines
 returns-clause-refines c = λ process. (

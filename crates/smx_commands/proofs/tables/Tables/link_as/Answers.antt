@@ -17,15 +17,4 @@ hold-requires-clause-there c = fd_is_there c.self.inside.lists.streams c.args.pr
     (rw (← c.self.view_is) at (sym c.stream_of-2.ensures ∙ c.in_ok-lower.was))
 
 pub invariant_of-self-2 : goal.invariant_of-self-2
-invariant_of-self-2 c =
-    let lists = c.self.inside.lists in
-    record {
-      can = c.self.invariant.can;
-      sizes = rw (c.try_link.ensures.drivers, c.hold.ensures.rest.minors) c.self.invariant.sizes;
-      kept = record {
-        held = held_by_one_more lists.links c.try_link.new.self c.in_ok-upper.upper c.in_ok-lower.lower c.args.kind
-            lists.streams c.hold.new.self
-            (not_below_yet lists.links c.in_ok-upper.upper c.in_ok-lower.lower c.in_ok-id.id c.in_ok-id.ensures.answer)
-            c.in_ok-id.ensures.ok c.self.invariant.kept.held c.hold.ensures.rest;
-      };
-    }
+invariant_of-self-2 c = grind (arith, held_by_one_more, not_below_yet)

@@ -1,28 +1,8 @@
-use Rattle.std.proofs.Common.{◌≡◌, true, rules, sym, ◌∙◌}
+use Rattle.std.proofs.Common.{◌≡◌, true, rules}
 use Rattle.smx_model.proofs.DropLemmas.{step_drops}
 use Rattle.smx_commands.proofs.DoneLemmas.{punlink_is, unlink_is}
 use Rattle.smx_commands.proofs.ReplyLemmas.{carries_nothing, nothing_fits}
 use Rattle.smx_commands.proofs.tables.Tables.room_for_reply.Goals as goal
-
-pub returns-in_ok-stream-in-Read-clause-makes : goal.returns-in_ok-stream-in-Read-clause-makes
-returns-in_ok-stream-in-Read-clause-makes c =
-    rw (c.in-Read.is, sym c.free_stream.ensures ∙ c.in_ok-stream-in-Read.was)
-    c.room_for_read.ensures.makes
-
-pub returns-in_ok-stream-in-Read-clause-in_place : goal.returns-in_ok-stream-in-Read-clause-in_place
-returns-in_ok-stream-in-Read-clause-in_place c =
-    rw (c.in-Read.is, sym c.free_stream.ensures ∙ c.in_ok-stream-in-Read.was)
-    (λ _. c.room_for_read.ensures.in_place)
-
-pub returns-in_ok-stream-in-Transmit-clause-makes : goal.returns-in_ok-stream-in-Transmit-clause-makes
-returns-in_ok-stream-in-Transmit-clause-makes c =
-    rw (c.in-Transmit.is, sym c.live_leaf.ensures ∙ c.in_ok-stream-in-Transmit.was)
-    c.room_for_first.ensures.makes
-
-pub returns-in_ok-stream-in-Transmit-clause-in_place : goal.returns-in_ok-stream-in-Transmit-clause-in_place
-returns-in_ok-stream-in-Transmit-clause-in_place c =
-    rw (c.in-Transmit.is, sym c.live_leaf.ensures ∙ c.in_ok-stream-in-Transmit.was)
-    (λ _. c.room_for_first.ensures.in_place)
 
 pub returns-in-OpenClone-clause-makes : goal.returns-in-OpenClone-clause-makes
 returns-in-OpenClone-clause-makes c =

@@ -17,13 +17,10 @@ use Rattle.smx_commands.proofs.TablesLemmas.{accepted, sound_inside, tells_insid
 use Rattle.smx_commands.proofs.tables.Tables.unlink_as.Goals as goal
 
 pub targets-requires-clause-rise : goal.targets-requires-clause-rise
-targets-requires-clause-rise c =
-    (sound_inside c.self.inside c.args.self.now c.self.view_is c.requires).ids
+targets-requires-clause-rise c = grind (arith, sound_inside c.self.inside c.args.self.now c.self.view_is c.requires)
 
 pub reserve_for_sweep-requires : goal.reserve_for_sweep-requires
-reserve_for_sweep-requires c =
-    let goes = is_target c.args.which c.args.kind c.in_ok-stream.stream in
-    omega (arith, few_ids goes c.self.inside.lists.links.links _ c.in_ok-gone.ensures)
+reserve_for_sweep-requires c = grind (arith, few_ids)
 
 pub sweep_and_reply-requires-clause-known : goal.sweep_and_reply-requires-clause-known
 sweep_and_reply-requires-clause-known c =
