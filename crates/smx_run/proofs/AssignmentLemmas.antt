@@ -18,8 +18,7 @@ use Rattle.smx_run.specs.ProgramOrder.{Calls, calls_of, numbered}
 -- two lists whose images agree still agree with one more item at the end of each
 pub one_more : {A B C : Type 0} (f : A → C) (g : B → C) (xs more : List A) (ys : List B) (x : A) (y : B)
     → map f xs ≡ map g ys → f x ≡ g y → more ≡ xs ++ x ∷ [] → map f more ≡ map g (ys ++ y ∷ [])
-one_more f g xs more ys x y before same added =
-    rw (added) (map-append f xs (x ∷ []) ∙ rw (before, same) (sym (map-append g ys (y ∷ []))))
+one_more f g xs more ys x y before same added = grind (arith, map-append f xs (x ∷ []), map-append g ys (y ∷ []))
 
 -- the image of a list with one more item at the end
 pub pushed : {A B : Type 0} (f : A → B) (xs more : List A) (x : A) (ys : List B) (y : B) → more ≡ xs ++ x ∷ []
@@ -87,10 +86,7 @@ pub next_seat : (n : ℕ) (all seats : List Seated) (s : Seated) (programs later
     → all ≡ s ∷ seats → programs ≡ commands ∷ later
     → map (λ (s : Seated). s.known.process) all ≡ range_with_len n (length programs)
     → (s.known.process ≡ n) × (map (λ (s : Seated). s.known.process) seats ≡ range_with_len (n + 1) (length later))
-next_seat n all seats s programs later commands first next h =
-    let now : map (λ (s : Seated). s.known.process) (s ∷ seats)
-    ≡ range_with_len n (length (commands ∷ later)) = rw (first, next) at h in
-    (cc, cc)
+next_seat n all seats s programs later commands first next h = grind arith
 
 -- what was assigned and what is still to be assigned, before a process and after it
 pub assign_next : (workers n m p k : ℕ) (old new goal : List Calls) (commands : List Command)
@@ -123,12 +119,7 @@ all_assigned workers n assignments all k (commands ∷ programs) h none = absurd
 pub none_left : (n : ℕ) (seats : List Seated) (programs : List (List Command))
     → map (λ (s : Seated). s.known.process) seats ≡ range_with_len n (length programs) → length seats ≡ 0
     → length programs ≡ 0
-none_left n seats programs h none = omega (
-  arith,
-  ap (length {A = ℕ}) h,
-  length-map seats (λ (s : Seated). s.known.process),
-  length-range_with_len n (length programs),
-)
+none_left n seats programs h none = grind (arith, length-map, length-range_with_len)
 
 -- ---- collected by number
 
@@ -136,19 +127,13 @@ none_left n seats programs h none = omega (
 pub first_and_rest : {A B : Type 0} (f : A → B) (xs rest : List A) (x : A) → x ≡ get_or xs 0 x → rest ≡ drop 1 xs
     → length rest + 1 ≡ length xs → map f xs ≡ f x ∷ map f rest
 first_and_rest f [] rest x first after many = absurd (omega arith)
-first_and_rest f (y ∷ xs) rest x first after many =
-    let same : x ≡ y = first in
-    let others : rest ≡ xs = after in
-    rw (same, others) refl
+first_and_rest f (y ∷ xs) rest x first after many = grind arith
 
 -- the first item of one assignment is taken
 pub take_from : {H : Type 0} (f : H → List Calls) (assignments : List H) (at : ℕ) (d new : H) (one : Calls)
     → at < length assignments → d ≡ get_or assignments at d → f d ≡ one ∷ f new
     → get_or (map f assignments) at [] ≡ one ∷ get_or (map f (set assignments at new)) at []
-take_from f assignments at d new one within is first =
-    let now : get_or (map f (set assignments at new)) at [] ≡ f new = rw (map-set f assignments at new)
-    (get_or-set_same (map f assignments) at (f new) [] (omega (arith, length-map assignments f))) in
-    get_or-map f assignments at d [] within ∙ ap f (sym is) ∙ rw now first
+take_from f assignments at d new one within is first = grind (arith, map-set, get_or-set_same, length-map, get_or-map)
 
 -- a fact of all items of a list holds of its first item, and of the others
 pub take_off : {A : Type 0} (P : A → Type 0) (all rest : List A) (x : A) → all ≡ x ∷ rest → All P all → P x × All P rest
@@ -159,33 +144,25 @@ take_off P all rest x is holds = let each : All P (x ∷ rest) = subst (All P) i
 pub first_then_rest : {A : Type 0} (xs rest : List A) (x : A) → x ≡ get_or xs 0 x → rest ≡ drop 1 xs
     → length rest + 1 ≡ length xs → xs ≡ x ∷ rest
 first_then_rest [] rest x first after many = absurd (omega arith)
-first_then_rest (y ∷ xs) rest x first after many =
-    let same : x ≡ y = first in
-    let others : rest ≡ xs = after in
-    rw (same, others) refl
+first_then_rest (y ∷ xs) rest x first after many = grind arith
 
 -- the other assignments are unchanged
 pub keep_others : {H : Type 0} (f : H → List Calls) (assignments : List H) (at : ℕ) (new : H) (k : ℕ) → k ≢ at
     → get_or (map f (set assignments at new)) k [] ≡ get_or (map f assignments) k []
-keep_others f assignments at new k other =
-    rw (map-set f assignments at new) (get_or-set_other (map f assignments) at k (f new) [] other)
+keep_others f assignments at new k other = grind (arith, map-set, get_or-set_other)
 
 -- the next process is first in the assignment of its worker
 pub next_in_assignment : (workers p : ℕ) (programs later : List (List Command)) (commands : List Command)
     → programs ≡ commands ∷ later
     → assignment_of workers (numbered p programs) (p % workers)
     ≡ (p, calls_of p commands) ∷ assignment_of workers (numbered (p + 1) later) (p % workers)
-next_in_assignment workers p programs later commands next =
-    let own : (p % workers == p % workers) ≡ true = grind (arith, nat_tests) in
-    rw (next, own) refl
+next_in_assignment workers p programs later commands next = grind (arith, nat_tests)
 
 -- it is in no other assignment
 pub next_not_in : (workers p k : ℕ) (programs later : List (List Command)) (commands : List Command)
     → programs ≡ commands ∷ later → k ≢ p % workers
     → assignment_of workers (numbered p programs) k ≡ assignment_of workers (numbered (p + 1) later) k
-next_not_in workers p k programs later commands next other =
-    let not_own : (p % workers == k) ≡ false = grind (arith, nat_tests) in
-    rw (next, not_own) refl
+next_not_in workers p k programs later commands next other = grind (arith, nat_tests)
 
 -- the assignments after the next process is taken from them
 pub take_next : (workers p m : ℕ) (programs later : List (List Command)) (commands : List Command)
@@ -196,18 +173,7 @@ pub take_next : (workers p m : ℕ) (programs later : List (List Command)) (comm
     → (one ≡ (p, calls_of p commands))
     × ((k : ℕ) → k < workers → get_or new k [] ≡ assignment_of workers (numbered m later) k)
 take_next workers p m programs later commands old new one next more before within first others =
-    let was : one ∷ get_or new (p % workers) []
-    ≡ (p, calls_of p commands) ∷ assignment_of workers (numbered (p + 1) later) (p % workers) =
-    sym first ∙ before (p % workers) within ∙ next_in_assignment workers p programs later commands next in (
-      cc,
-      (λ k below. rw more (elim (cases_Bool (p % workers == k)) [
-        | inl t ↦ let here : p % workers ≡ k = grind (arith, nat_tests) in
-            let now : get_or new (p % workers) [] ≡ assignment_of workers (numbered (p + 1) later) (p % workers) = cc in
-            rw here at now
-        | inr f ↦ let other : k ≢ p % workers = grind (arith, nat_tests) in
-            others k other ∙ before k below ∙ next_not_in workers p k programs later commands next other
-      ])),
-    )
+    grind (arith, before (p % workers) within, next_in_assignment, nat_tests, next_not_in)
 
 -- what was called and what is still to be collected, before a process and after it
 pub collect_next : (p m : ℕ) (old new goal : List Calls) (one : Calls) (programs later : List (List Command))
@@ -223,5 +189,4 @@ collect_next p m old new goal one programs later commands before now is more nex
 pub assignment_count : (workers : ℕ) (all : List Calls) (assignments : List (List Calls))
     → assignments ≡ assignments_of workers all
     → length assignments ≡ workers
-assignment_count workers all assignments is =
-    ap (length {A = List Calls}) is ∙ length-map-range_with_len (assignment_of workers all) 0 workers
+assignment_count workers all assignments is = grind (arith, length-map-range_with_len)

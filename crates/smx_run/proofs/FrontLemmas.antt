@@ -19,28 +19,20 @@ whole = opened ∷ exited ∷ copied ∷ []
 
 -- a beginning consists of the first entries, as many as it has
 as_long : (before history : List Entry) → IsBeginningOf before history → before ≡ take (length before) history
-as_long before history begins =
-    sym (take-append_seam before begins.0) ∙ ap (λ (es : List Entry). take (length before) es) begins.1
+as_long before history begins = grind (arith, take-append_seam before begins.0)
 
 -- a beginning has no more entries than the history
 no_longer : (before history : List Entry) → IsBeginningOf before history → length before ≤ length history
-no_longer before history begins =
-    let sum : length before + length begins.0 ≡ length history = sym (length-append before begins.0)
-    ∙ ap (λ (es : List Entry). length es) begins.1 in omega arith
+no_longer before history begins = grind (arith, length-append before begins.0)
 
 -- the beginning of which a front with `entries` entries is the front
 is_of : (process entries : ℕ) (program : List Command) (front : Front) → front.entries ≡ entries
     → (h : IsFrontAfter drivers whole process program front) → h.before ≡ take entries whole
-is_of process entries program front same h =
-    let long : length h.before ≡ entries = sym h.numbers.entries ∙ same in
-    as_long h.before whole h.begins ∙ ap (λ (n : ℕ). take n whole) long
+is_of process entries program front same h = grind (arith, as_long, whole)
 
 -- two entries are too early for the program of process 0, whose second command is the third entry
 pub too_early : (front : Front) → front.entries ≡ 2 → IsFrontAfter drivers whole 0 (OpenClone ip ∷ Dup 0 ∷ []) front → ⊥
-too_early front same h =
-    let e : OpenClone ip ∷ [] ≡ OpenClone ip ∷ Dup 0
-    ∷ [] = ap (λ (es : List Entry). commands_of 0 es) (sym (is_of 0 2 _ front same h)) ∙ h.holds in
-    absurd cc
+too_early front same h = grind (arith, is_of 0 2 _ front same h)
 
 -- four entries are past the end of a history of three
 pub past_the_end : (process : ℕ) (program : List Command) (front : Front) → front.entries ≡ 4
@@ -53,10 +45,7 @@ past_the_end process program front same h =
 -- a front of three entries has no link, since there is no link after them
 pub with_a_link : (process : ℕ) (program : List Command) (front : Front) → front.entries ≡ 3 → front.links ≡ 1
     → IsFrontAfter drivers whole process program front → ⊥
-with_a_link process program front same link h =
-    let e : 0 ≡ 1 = ap (λ (es : List Entry). length (after drivers es).links)
-    (sym (is_of process 3 program front same h)) ∙ (sym h.numbers.links ∙ link) in
-    absurd (omega (arith, e))
+with_a_link process program front same link h = grind (arith, is_of process 3 program front same h)
 
 -- two drivers have the same name
 pub one_name : IsDriverList (mux ip 4 ∷ mux ip 4 ∷ []) → ⊥

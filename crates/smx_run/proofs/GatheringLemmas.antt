@@ -25,20 +25,18 @@ pub one_more_met : (transcripts : List (List Entry)) (es more : List Entry) (e :
     → ((own : List Entry) → IsMet transcript own m → IsMet transcript (own ++ e ∷ []) r)
     → (p : ℕ) → p < MAX_PROCESSES → IsMet (get_or transcripts p []) (entries_of p more) (get_or (set met n r) p None)
 one_more_met transcripts es more e n met m r transcript counted number within added its was before here p below =
-    rw added (elim (cases_eq e.process p) [
-      | inl is ↦
-          let same : n ≡ p = number ∙ is in
-          let at : get_or (set met n r) n None ≡ r = get_or-set_same met n r None (omega arith) in
-          let now : IsMet (get_or transcripts n []) (entries_of n (es ++ e ∷ [])) (get_or (set met n r) n None) =
-          rw (at, entries_append n es (e ∷ []), entries_mine n e (sym number), ← its)
-          (here (entries_of n es) (rw (its, was) (before n within))) in
-          subst (λ (q : ℕ). IsMet (get_or transcripts q []) (entries_of q (es ++ e ∷ [])) (get_or (set met n r) q None))
-          same now
-      | inr differs ↦
-          let other : p ≢ n = λ same. differs (sym number ∙ sym same) in
-          rw (entries_append p es (e ∷ []), entries_other p e differs, append-nil (entries_of p es))
-          (rw (get_or-set_other met n p r None other) (before p below))
-    ])
+    grind (
+      arith,
+      get_or-set_same,
+      entries_append,
+      entries_mine,
+      here (entries_of n es) (rw (its, was) (before n within)),
+      before n within,
+      entries_other,
+      append-nil,
+      get_or-set_other,
+      before p below,
+    )
 
 -- entries that are not part of the transcript are not the transcript
 pub not_whole : (transcript own : List Entry) → IsMet transcript own None → own ≢ transcript
@@ -57,10 +55,7 @@ no_entries p (e ∷ es) past all =
 pub all_borne_out : (history : List Entry) (transcripts : List (List Entry)) → length transcripts ≤ MAX_PROCESSES
     → All (λ (e : Entry). e.process < MAX_PROCESSES) history
     → ((p : ℕ) → p < MAX_PROCESSES → IsBorneOut history transcripts p) → (p : ℕ) → IsBorneOut history transcripts p
-all_borne_out history transcripts few within each p = elim (cases_lt p MAX_PROCESSES) [
-  | inl below ↦ each p below
-  | inr past ↦ no_entries p history past within ∙ sym (get_or_past transcripts p [] (omega arith))
-]
+all_borne_out history transcripts few within each p = grind (arith, each p, no_entries, get_or_past)
 
 -- the process with this number is the lowest strange one
 pub named : (history : List Entry) (transcripts : List (List Entry)) (n : ℕ) (r : Option ℕ) → IfSome r (λ p. p ≡ n)

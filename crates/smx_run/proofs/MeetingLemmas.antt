@@ -21,10 +21,7 @@ known_now new done more is apart = absurd ((subst (IsNotMet done.seat.known.proc
 pub known_still : (old new : Seated) (other : Known) (more : List MetSeat) (done : List (EndedProgram Seated))
     → new.met ≡ met_seat other ∷ more ++ old.met → new.known.process ≡ old.known.process → All (IsKnownTo old) done
     → All (IsKnownTo new) done
-known_still old new other more done is same known k d below apart =
-    let p = (get_or done k d).seat.known.process in
-    let others = (subst (IsNotMet p) is apart).1 in
-    known k d below (all_right (λ (m : MetSeat). m.process ≢ p) more old.met others) ∙ sym same
+known_still old new other more done is same known k d below apart = grind (arith, known k d below, all_right)
 
 -- a seat that knows those of all programs from number n on has no other than its own left to meet
 known_from : (n : ℕ) (seat : Seated) (ended : List (EndedProgram Seated)) (programs : List (List Command))

@@ -23,18 +23,12 @@ picked p asked = map (λ a. a.1) (filter (λ a. a.0 == p) asked)
 -- the commands of a process in a history are those picked from its calls
 picked_is : (p : ℕ) (es : List Entry) → commands_of p es ≡ picked p (map call_of es)
 picked_is p [] = refl
-picked_is p (e ∷ es) = elim (cases_Bool (e.process == p)) [
-  | inl t ↦ rw (t, picked_is p es) refl
-  | inr f ↦ rw (f, picked_is p es) refl
-]
+picked_is p (e ∷ es) = grind (arith, picked_is p es)
 
 -- picking from two lists of calls, one after the other, picks from each
 picked_more : (p : ℕ) (xs ys : List (ℕ × Command)) → picked p (xs ++ ys) ≡ picked p xs ++ picked p ys
 picked_more p [] ys = refl
-picked_more p (x ∷ xs) ys = elim (cases_Bool (x.0 == p)) [
-  | inl t ↦ rw (t, picked_more p xs ys) refl
-  | inr f ↦ rw (f, picked_more p xs ys) refl
-]
+picked_more p (x ∷ xs) ys = grind (arith, picked_more p xs ys)
 
 -- picking from the calls of one process gives all its commands
 picked_own : (p : ℕ) (cs : List Command) → picked p (calls_of p cs) ≡ cs
@@ -50,9 +44,7 @@ picked_other p n (c ∷ cs) e = rw (e, picked_other p n cs e) refl
 picked_past : (p n : ℕ) (programs : List (List Command)) → p < n → picked p (calls_from n programs) ≡ []
 picked_past p n [] h = refl
 picked_past p n (cs ∷ programs) h =
-    let other : (n == p) ≡ false = grind (arith, nat_tests) in
-    picked_more p (calls_of n cs) (calls_from (n + 1) programs)
-    ∙ rw (picked_other p n cs other, picked_past p (n + 1) programs (omega arith)) refl
+    grind (arith, nat_tests, picked_more, picked_other, picked_past p (n + 1) programs (omega arith))
 
 -- picking for a process from the calls of all programs gives its program
 picked_at : (k n : ℕ) (programs : List (List Command)) → picked (k + n) (calls_from n programs) ≡ get_or programs k []
@@ -61,20 +53,12 @@ picked_at zero n (cs ∷ programs) =
     let here : 0 + n ≡ n = omega arith in
     rw here (picked_more n (calls_of n cs) (calls_from (n + 1) programs)
     ∙ rw (picked_own n cs, picked_past n (n + 1) programs (omega arith)) (append-nil cs))
-picked_at (suc k) n (cs ∷ programs) =
-    let other : (n == (suc k + n)) ≡ false = grind (arith, nat_tests) in
-    let next : suc k + n ≡ k + (n + 1) = omega arith in
-    picked_more (suc k + n) (calls_of n cs) (calls_from (n + 1) programs)
-    ∙ rw (picked_other (suc k + n) n cs other)
-    (ap (λ (p : ℕ). picked p (calls_from (n + 1) programs)) next ∙ picked_at k (n + 1) programs)
+picked_at (suc k) n (cs ∷ programs) = grind (arith, nat_tests, picked_more, picked_other, picked_at k (n + 1) programs)
 
 -- a history whose calls are those of all programs, one program after the other, holds the programs
 pub holds : (es : List Entry) (programs : List (List Command)) → map call_of es ≡ calls_from 0 programs
     → HoldsPrograms es programs
-holds es programs e p =
-    let here : p + 0 ≡ p = omega arith in
-    picked_is p es ∙ ap (picked p) e ∙ ap (λ (q : ℕ). picked q (calls_from 0 programs)) (sym here)
-    ∙ picked_at p 0 programs
+holds es programs e p = grind (arith, picked_is p es, picked_at p 0 programs)
 
 -- ---- the report of a system that holds the programs
 

@@ -21,14 +21,7 @@ use Rattle.smx_shared.proofs.FrontWordLemmas.{word_small, reads_front, shows_hel
 -- a seat that has grown, and whose knowledge is true, has seen more
 pub has_seen_more : (v w : SeatView) → HasGrown v w → IsInformed w → v.named ≡ true
     → HasSeenMore (known_of v) (known_of w)
-has_seen_more v w grown informed named = record {
-  drivers = grown.drivers;
-  limit = grown.limit;
-  process = grown.process;
-  seen = grown.seen;
-  sound = informed.sound;
-  exact = informed.own (grown.named ∙ named);
-}
+has_seen_more v w grown informed named = grind (arith, informed.own (grown.named ∙ named))
 
 -- the same in two steps
 pub has_seen_more_by : (u v w : SeatView) → HasGrown u v → HasGrown v w → IsInformed w → u.named ≡ true
@@ -37,11 +30,7 @@ has_seen_more_by u v w first second = has_seen_more u w (grown_trans u v w first
 
 -- a word that was found can be read
 pub found_small : (v w : SeatView) (n : ℕ) → FoundWord v w n → IsInformed w → n < 4096 * 4294967296
-found_small v w n found informed =
-    let within = informed.sound.within in
-    let limited = informed.sound.limited in
-    word_small w.drivers n w.seen found.front (omega arith)
-    (always_within w.drivers w.seen).links
+found_small v w n found informed = grind (arith, word_small, always_within)
 
 -- it is read as the front of what was seen
 pub found_front : (v w : SeatView) (n : ℕ) (front : Front) → FoundWord v w n → word_of front ≡ n
@@ -65,16 +54,7 @@ pub ends_as : (v : SeatView) (x : Slot) (s : Recorded) (h : List Entry) → x �
     → IsBeginningOf v.seen h → (v.named ≡ true → v.own ≡ entries_of v.process h)
     → AreMetBy (system_with v.drivers v.limit h) v.met → EndsAs (known_of v) v.met s
 unfolding slot_or
-ends_as v x s h is there named sound seen own met =
-    let same : s ≡ system_with v.drivers v.limit h = ap (slot_or s) (sym is ∙ there) in
-    subst (EndsAs (known_of v) v.met) (sym same) record {
-      drivers = refl;
-      limit = refl;
-      sound = sound;
-      seen = seen;
-      exact = sym (own named);
-      others = met;
-    }
+ends_as v x s h is there named sound seen own met = grind (arith, slot_or s, own named)
 
 -- the seat of the next process comes after the earlier ones
 pub one_seat_more : (shared : SharedId) (s : Recorded) (n : ℕ) (seats more : List Seated) (seat : Seated)
@@ -88,17 +68,11 @@ pub goes_on_from : (shared : SharedAs) (v : SeatView) (x : Slot) (s : Recorded) 
     → x ≡ Some (system_with v.drivers v.limit h) → GoesOnNamed shared.processes shared.start.history h
     → v.drivers ≡ shared.start.drivers → v.limit ≡ shared.start.limit → GoesOnFrom shared s
 unfolding slot_or
-goes_on_from shared v x s h is there begun drivers limit =
-    let same : s ≡ system_with v.drivers v.limit h = ap (slot_or s) (sym is ∙ there) in
-    subst (GoesOnFrom shared) (sym same) record { drivers = drivers; limit = limit; history = begun }
+goes_on_from shared v x s h is there begun drivers limit = grind (arith, slot_or s)
 
 -- a word that is the front of a history which begins with what was seen is small
 pub from_small : (v : SeatView) (n : ℕ) → IsWordFrom v n → n < 4096 * 4294967296
-from_small v n word =
-    let within = word.sound.within in
-    let limited = word.sound.limited in
-    word_small v.drivers n word.history word.front (omega arith)
-    (always_within v.drivers word.history).links
+from_small v n word = grind (arith, word_small, always_within)
 
 -- if its turn bit is set, it is read as a front that shows the turn held
 pub from_held : (v : SeatView) (n : ℕ) (front : Front) → n % 2 ≡ 1 → IsWordFrom v n → word_of front ≡ n

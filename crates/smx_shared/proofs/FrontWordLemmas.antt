@@ -13,8 +13,7 @@ use Rattle.smx_shared.specs.declared.front.Front.{Front}
 
 -- or with 0 changes nothing
 or_zero : (a : ℕ) → bit_or a 0 ≡ a
-or_zero a = let e : bit_or (a * 1) 0 ≡ a * 1 + 0 = or_shifted a 0 0 (omega arith) in
-    let one : a * 1 ≡ a = omega arith in ap (λ (k : ℕ). bit_or k 0) (sym one) ∙ (e ∙ (omega arith))
+or_zero a = grind (arith, or_shifted a 0 0 (omega arith))
 
 -- or with 1 sets the turn bit
 or_one : (n : ℕ) → bit_or n 1 ≡ n / 2 * 2 + 1
@@ -28,18 +27,15 @@ front_even drivers h = omega arith
 
 -- if the turn was free, it is taken
 pub or_free : (drivers : List DriverSpec) (h : List Entry) → bit_or (front_of drivers h) 1 ≡ front_of drivers h + 1
-or_free drivers h =
-    let n : ℕ = front_of drivers h in let e : n % 2 ≡ 0 = front_even drivers h in or_one n ∙ (omega arith)
+or_free drivers h = grind (arith, front_even drivers h, or_one)
 
 -- if the turn was held, the word is unchanged
 pub or_held : (drivers : List DriverSpec) (h : List Entry) → bit_or (front_of drivers h + 1) 1 ≡ front_of drivers h + 1
-or_held drivers h =
-    let n : ℕ = front_of drivers h in let e : n % 2 ≡ 0 = front_even drivers h in or_one (n + 1) ∙ (omega arith)
+or_held drivers h = grind (arith, front_even drivers h, or_one)
 
 -- a word that shows the turn held is odd
 pub held_odd : (drivers : List DriverSpec) (n : ℕ) (h : List Entry) → n ≡ front_of drivers h + 1 → n % 2 ≡ 1
-held_odd drivers n h e =
-    let k : ℕ = front_of drivers h in let f : k % 2 ≡ 0 = front_even drivers h in let is : n ≡ k + 1 = e in omega arith
+held_odd drivers n h e = grind (arith, front_even drivers h)
 
 -- a word that shows the turn free is even
 pub free_even : (drivers : List DriverSpec) (n : ℕ) (h : List Entry) → n ≡ front_of drivers h → n % 2 ≡ 0
@@ -48,10 +44,8 @@ free_even drivers n h e = ap (λ (k : ℕ). k % 2) e ∙ front_even drivers h
 -- a word is the front and its own turn bit
 pub front_and_bit : (drivers : List DriverSpec) (n : ℕ) (h : List Entry) (t : Turn) → n ≡ front_of drivers h + bit_of t
     → n ≡ front_of drivers h + n % 2
-front_and_bit drivers n h free e =
-    let k : ℕ = front_of drivers h in let f : k % 2 ≡ 0 = front_even drivers h in let is : n ≡ k + 0 = e in omega arith
-front_and_bit drivers n h (held j) e =
-    let k : ℕ = front_of drivers h in let f : k % 2 ≡ 0 = front_even drivers h in let is : n ≡ k + 1 = e in omega arith
+front_and_bit drivers n h free e = grind (arith, front_even drivers h)
+front_and_bit drivers n h (held j) e = grind (arith, front_even drivers h)
 
 -- a history within these limits of entries and links has a small word
 pub word_small : (drivers : List DriverSpec) (n : ℕ) (h : List Entry) → n ≡ front_of drivers h + n % 2
@@ -64,15 +58,7 @@ pub reads_front : (drivers : List DriverSpec) (n : ℕ) (h : List Entry) (front 
     → length (after drivers h).links ≤ 1024 → word_of front ≡ n → front.links < 2048
     → IsFrontOf front drivers h × (turn_bit front.held ≡ n % 2)
 unfolding front_of
-reads_front drivers n h front is links word few =
-    let bit : turn_bit front.held ≤ 1 = bit_small front.held in
-    let e : 4096 * front.entries + 2 * front.links + turn_bit front.held ≡ n = word in
-    let same : n ≡ 4096 * length h + 2 * length (after drivers h).links + n % 2 = is in
-    (record { entries = omega arith; links = omega arith }, omega arith)
-  where
-    bit_small : (b : Bool) → turn_bit b ≤ 1
-    bit_small true = omega arith
-    bit_small false = omega arith
+reads_front drivers n h front is links word few = grind arith
 
 -- a front whose turn bit is set shows it
 pub shows_held : (b : Bool) → turn_bit b ≡ 1 → b ≡ true

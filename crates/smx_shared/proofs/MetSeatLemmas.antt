@@ -19,27 +19,24 @@ use Rattle.smx_shared.proofs.SeatListLemmas.{at_end}
 
 -- processes of met seats that are below a name are below the next name
 pub met_named_more : (n : ℕ) (xs : List MetSeat) → AreMetBelow n xs → AreMetBelow (n + 1) xs
-met_named_more n xs below = all_weaker (λ (x : MetSeat). x.process < n) (λ (x : MetSeat). x.process < n + 1)
-    (λ (x : MetSeat) (lt : x.process < n). omega arith) xs below
+met_named_more n xs below = grind (arith, all_weaker)
 
 -- if the processes of all met seats are below a name, none of them has that name
 pub not_met_next : (n p : ℕ) (xs : List MetSeat) → p ≡ n → AreMetBelow n xs → IsNotMet p xs
-not_met_next n p xs is below = all_weaker (λ (x : MetSeat). x.process < n) (λ (x : MetSeat). x.process ≢ p)
-    (λ (x : MetSeat) (lt : x.process < n) (same : x.process ≡ p). absurd (omega arith)) xs below
+not_met_next n p xs is below = grind (arith, all_weaker)
 
 -- the entries of their processes are unchanged if another process adds one
 pub met_stays : (p : ℕ) (d : List DriverSpec) (l : ℕ) (h h' : List Entry) (xs : List MetSeat) → AddsFor p h h'
     → IsNotMet p xs → AreMetBy (system_with d l h) xs → AreMetBy (system_with d l h') xs
 met_stays p d l h h' [] a apart met = tt
-met_stays p d l h h' (x ∷ xs) a apart met = (
-  record {
-    drivers = met.0.drivers;
-    limit = met.0.limit;
-    seen = begins_trans x.seen h h' met.0.seen (adds_begins p h h' a);
-    exact = sym (others_stay p x.process h h' a apart.0) ∙ met.0.exact;
-  },
-  met_stays p d l h h' xs a apart.1 met.1,
-)
+met_stays p d l h h' (x ∷ xs) a apart met =
+    grind (
+      arith,
+      begins_trans x.seen h h' met.0.seen (adds_begins p h h' a),
+      adds_begins p h h' a,
+      others_stay p x.process h h' a apart.0,
+      met_stays p d l h h' xs a apart.1 met.1,
+    )
 
 -- ---- no named seat has a process of a met seat
 
@@ -66,11 +63,7 @@ met_apart_set views id w apart by_others of_others own i j u v at_i at_j named =
 -- if it keeps its name and has met no other
 pub met_apart_kept : (views : List SeatView) (id : ℕ) (v w : SeatView) → AreMetApart views → get_elem? views id ≡ some v
     → (IsNamed w → IsNamed v) → w.process ≡ v.process → w.met ≡ v.met → AreMetApart (set views id w)
-met_apart_kept views id v w apart at named process met = met_apart_set views id w apart
-    (λ j u other e is. subst (IsNotMet u.process) (sym met) (apart id j v u at e is))
-    (λ j u other e is. subst (λ (p : ℕ). IsNotMet p u.met) (sym process) (apart j id u v e at (named is)))
-    (λ is. subst (λ (z : ℕ × List MetSeat). IsNotMet z.0 z.1) (λ k. (sym process k, sym met k))
-    (apart id id v v at at (named is)))
+met_apart_kept views id v w apart at named process met = grind (arith, met_apart_set, apart id, apart id id v v at at)
 
 -- if a seat is new
 pub met_apart_end : (views : List SeatView) (w : SeatView) → AreMetApart views → w.named ≡ false → w.met ≡ []

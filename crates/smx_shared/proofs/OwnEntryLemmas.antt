@@ -8,6 +8,7 @@ use Rattle.smx_types.specs.declared.command.Entry.{Entry}
 use Rattle.smx_shared.specs.Seats.{entries_of, AreNamedBelow, GoesOnNamed, IsBeginningOf}
 use Rattle.smx_shared.specs.SeatViews.{AddsFor}
 use Rattle.smx_shared.proofs.EachLemmas.{all_append, all_weaker}
+use Rattle.smx_model.proofs.Common.{rules}
 
 -- ---- beginnings
 
@@ -36,11 +37,7 @@ entries_other p e is = ap (λ (b : Bool). cond b (e ∷ []) []) (ne_eqb e.proces
 -- a process that is not named yet has no entries among those of named processes
 pub entries_none : (n p : ℕ) (more : List Entry) → AreNamedBelow n more → n ≤ p → entries_of p more ≡ []
 entries_none n p [] below le = refl
-entries_none n p (e ∷ es) below le =
-    let lt : e.process < n = below.0 in
-    let ne : e.process ≢ p = λ is. absurd (omega arith) in
-    ap (λ (b : Bool). cond b (e ∷ entries_of p es) (entries_of p es)) (ne_eqb e.process p ne)
-    ∙ entries_none n p es below.1 le
+entries_none n p (e ∷ es) below le = grind (arith, entries_none n p es below.1 le)
 
 -- ---- histories that go on by named processes
 
@@ -70,20 +67,14 @@ goes_on_begins n xs ys p = (p.0, p.1)
 
 -- the entries of a process that is not named yet have been seen
 pub entries_early : (n p : ℕ) (xs h : List Entry) → GoesOnNamed n xs h → n ≤ p → entries_of p xs ≡ entries_of p h
-entries_early n p xs h l le =
-    sym (append-nil (entries_of p xs))
-    ∙ ap (λ (ys : List Entry). entries_of p xs ++ ys) (sym (entries_none n p l.0 l.2 le))
-    ∙ sym (entries_append p xs l.0)
-    ∙ ap (entries_of p) l.1
+entries_early n p xs h l le = search (rules, entries_none n p l.0 l.2 le, entries_append p xs l.0)
 
 -- ---- one entry of a process, or none
 
 -- if the process is named, the history goes on by entries of named processes
 pub adds_named : (p n : ℕ) (old new : List Entry) → AddsFor p old new → p < n → GoesOnNamed n old new
 adds_named p n old new (inl same) lt = ([], append-nil old ∙ sym same, tt)
-adds_named p n old new (inr one) lt =
-    let is : one.0.process ≡ p = one.1 in
-    (one.0 ∷ [], sym one.2, (omega arith, tt))
+adds_named p n old new (inr one) lt = grind arith
 
 -- the new history begins with the old one
 pub adds_begins : (p : ℕ) (old new : List Entry) → AddsFor p old new → IsBeginningOf old new
@@ -93,9 +84,4 @@ adds_begins p old new (inr one) = (one.0 ∷ [], sym one.2)
 -- the entries of another process are unchanged
 pub others_stay : (p q : ℕ) (old new : List Entry) → AddsFor p old new → q ≢ p → entries_of q old ≡ entries_of q new
 others_stay p q old new (inl same) apart = ap (entries_of q) (sym same)
-others_stay p q old new (inr one) apart =
-    sym (append-nil (entries_of q old))
-    ∙ ap (λ (ys : List Entry). entries_of q old ++ ys)
-    (sym (entries_other q one.0 (λ same. apart (sym same ∙ one.1))))
-    ∙ sym (entries_append q old (one.0 ∷ []))
-    ∙ ap (entries_of q) (sym one.2)
+others_stay p q old new (inr one) apart = search (rules, entries_other q one.0, entries_append q old (one.0 ∷ []))

@@ -32,8 +32,7 @@ apart_set views id w apart new i j u v at_i at_j named_u named_v same =
 -- if it keeps its name
 pub apart_kept : (views : List SeatView) (id : ℕ) (v w : SeatView) → AreNamedApart views → get_elem? views id ≡ some v
     → (IsNamed w → IsNamed v) → w.process ≡ v.process → AreNamedApart (set views id w)
-apart_kept views id v w apart at named same = apart_set views id w apart
-    (λ j u other there is_u is_w eq. other (apart j id u v there at is_u (named is_w) (eq ∙ same)))
+apart_kept views id v w apart at named same = grind (arith, apart_set views id w apart)
 
 -- a new seat is at the end
 pub at_end : (views : List SeatView) (w u : SeatView) (j : ℕ) → get_elem? (views ++ w ∷ []) j ≡ some u
@@ -41,10 +40,7 @@ pub at_end : (views : List SeatView) (w u : SeatView) (j : ℕ) → get_elem? (v
 at_end [] w u zero e = inr (refl, some-injective w u e)
 at_end [] w u (suc j) e = absurd (some-ne-none u (sym e))
 at_end (x ∷ xs) w u zero e = inl ((λ h. omega arith), e)
-at_end (x ∷ xs) w u (suc j) e = ⊎_elim
-    (λ (t : (j ≢ length xs) × (get_elem? xs j ≡ some u)). let n = t.0 in inl ((λ h. n (omega arith)), t.1))
-    (λ (t : (j ≡ length xs) × (w ≡ u)). inr (ap suc t.0, t.1))
-    (at_end xs w u j e)
+at_end (x ∷ xs) w u (suc j) e = grind (arith, at_end xs w u j e)
 
 -- it has no name
 pub apart_end : (views : List SeatView) (w : SeatView) → AreNamedApart views → w.named ≡ false
@@ -86,8 +82,7 @@ same_turn : (views : List SeatView) (id k : ℕ) (v w u : SeatView) → get_elem
     → get_elem? views k ≡ some u → u.turn ≡ true
     → (x : SeatView) × (get_elem? (set views id w) k ≡ some x) × (x.turn ≡ true)
 same_turn [] id k v w u at same e on = absurd (some-ne-none v (sym at))
-same_turn (x ∷ xs) zero zero v w u at same e on =
-    (w, refl, same ∙ ap (λ (z : SeatView). z.turn) (some-injective v u (sym at ∙ e)) ∙ on)
+same_turn (x ∷ xs) zero zero v w u at same e on = grind arith
 same_turn (x ∷ xs) zero (suc k) v w u at same e on = (u, e, on)
 same_turn (x ∷ xs) (suc i) zero v w u at same e on = (u, e, on)
 same_turn (x ∷ xs) (suc i) (suc k) v w u at same e on = same_turn xs i k v w u at same e on
@@ -104,5 +99,4 @@ held_same j k e = cc
 -- the changed seat has the turn now
 pub holder_now : (views : List SeatView) (id : ℕ) (v w : SeatView) → get_elem? views id ≡ some v → w.turn ≡ true
     → HasHolder (held id) (set views id w)
-holder_now views id v w at on j is =
-    (w, ap (get_elem? (set views id w)) (sym (held_same id j is)) ∙ here views id v w at, on)
+holder_now views id v w at on j is = grind (arith, held_same id j is, here views id v w at)

@@ -101,16 +101,7 @@ shows d l h t n m j v whole f sound = let c = f.same whole in record {
 seated : (d : List DriverSpec) (l : ℕ) (h : List Entry) (t t' : Turn) (names namer j : ℕ) (v : SeatView) (n : ℕ)
     (on : Bool) → Fits d l h t names namer j v → (on ≡ true → (t' ≡ held j) × IsNamed v)
     → Fits d l h t' names namer j (after_step v h n on v.own)
-seated d l h t t' names namer j v n on f turn = record {
-  same = f.same;
-  seen = begins_itself h;
-  met = f.met;
-  met_named = f.met_named;
-  turn = λ e. ((turn e).0, refl, (turn e).1);
-  later = λ _. goes_on_itself names h;
-  own = f.own;
-  right = f.right;
-}
+seated d l h t t' names namer j v n on f turn = grind (arith, begins_itself h, goes_on_itself names h)
 
 -- a load, by a seat without the turn
 pub looks : (d : List DriverSpec) (start : List Entry) (count l slots id : ℕ) (me : Mine) → me.0.spent ≡ false

@@ -21,28 +21,12 @@ use Rattle.smx_shared.proofs.FrontWordLemmas.{held_odd, free_even, front_and_bit
 
 -- seeing more is transitive
 pub grown_trans : (u v w : SeatView) → HasGrown u v → HasGrown v w → HasGrown u w
-grown_trans u v w p q = record {
-  drivers = q.drivers ∙ p.drivers;
-  limit = q.limit ∙ p.limit;
-  met = q.met ∙ p.met;
-  spent = q.spent ∙ p.spent;
-  named = q.named ∙ p.named;
-  process = q.process ∙ p.process;
-  seen = begins_trans u.seen v.seen w.seen p.seen q.seen;
-}
+grown_trans u v w p q = grind (arith, begins_trans u.seen v.seen w.seen p.seen q.seen)
 
 -- growing by a step that showed the seat a history
 grown_by : (v : SeatView) (h : List Entry) (n : ℕ) (on : Bool) (own : List Entry) → Shows v h
     → HasGrown v (after_step v h n on own)
-grown_by v h n on own s = record {
-  drivers = refl;
-  limit = refl;
-  met = refl;
-  spent = refl;
-  named = refl;
-  process = refl;
-  seen = s.grown;
-}
+grown_by v h n on own s = grind arith
 
 -- ---- a load
 

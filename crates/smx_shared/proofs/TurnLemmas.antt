@@ -15,17 +15,12 @@ use Rattle.smx_shared.proofs.FrontWordLemmas.{front_even, held_odd}
 -- the first word is the front of the one history, with what the turn adds
 word_is : (d : List DriverSpec) (l : ℕ) (start : List Entry) (count n : ℕ) (s : State Slot SeatView)
     (r : TurnRule d l start count s) → get_elem? s.words 0 ≡ some n → n ≡ front_of d r.history + bit_of r.turn
-word_is d l start count n s r word =
-    some-injective n (front_of d r.history + bit_of r.turn) (sym word ∙ ap (λ (ws : List ℕ). get_elem? ws 0) r.words)
+word_is d l start count n s r word = grind arith
 
 -- an odd word shows a turn that is held
 held_of : (t : Turn) (d : List DriverSpec) (h : List Entry) (n : ℕ) → n ≡ front_of d h + bit_of t → n % 2 ≡ 1
     → (j : ℕ) × (t ≡ held j)
-held_of free d h n is odd =
-    let k : ℕ = front_of d h in
-    let even : k % 2 ≡ 0 = front_even d h in
-    let same : n ≡ k + 0 = is in
-    absurd (omega (arith, even, same, odd))
+held_of free d h n is odd = grind (arith, front_even d h)
 held_of (held j) d h n is odd = (j, refl)
 
 -- an even word shows a turn that is free
@@ -38,14 +33,7 @@ pub home_at : (d : List DriverSpec) (l : ℕ) (start : List Entry) (count n : �
     → TurnRule d l start count s → get_elem? s.words 0 ≡ some n → n % 2 ≡ 0
     → (x : Recorded) × (s.homes ≡ some (Some x) ∷ []) × (n ≡ front_of x.drivers x.history) × IsSoundSystem x
 home_at d l start count n s r word even =
-    let is = word_is d l start count n s r word in
-    let t = free_of r.turn d r.history n is even in
-    let zero : front_of d r.history + 0 ≡ front_of d r.history = omega arith in (
-      system_with d l r.history,
-      r.home ∙ ap (λ (t : Turn). home_of (system_with d l r.history) t ∷ []) t,
-      is ∙ ap (λ (t : Turn). front_of d r.history + bit_of t) t ∙ zero,
-      r.sound,
-    )
+    grind (arith, word_is d l start count n s r word, free_of r.turn d r.history n)
 
 -- otherwise it is out
 pub out_at : (d : List DriverSpec) (l : ℕ) (start : List Entry) (count n : ℕ) (s : State Slot SeatView)
@@ -67,13 +55,10 @@ held_by d l start count n s r word odd =
 pub shown_by : (d : List DriverSpec) (l : ℕ) (start : List Entry) (count n j : ℕ) (v : SeatView)
     (s : State Slot SeatView) → TurnRule d l start count s → get_elem? s.words 0 ≡ some n → get_elem? s.views j ≡ some v
     → v.turn ≡ true → n % 2 ≡ 1
-shown_by d l start count n j v s r word at on =
-    let its : r.turn ≡ held j = ((r.each j v at).turn on).0 in
-    held_odd d n r.history (word_is d l start count n s r word ∙ ap (λ (t : Turn). front_of d r.history + bit_of t) its)
+shown_by d l start count n j v s r word at on = grind (arith, r.each j v at, held_odd, word_is)
 
 -- no two seats have the turn
 pub one_holder : (d : List DriverSpec) (l : ℕ) (start : List Entry) (count i j : ℕ) (v w : SeatView)
     (s : State Slot SeatView) → TurnRule d l start count s → get_elem? s.views i ≡ some v → get_elem? s.views j ≡ some w
     → v.turn ≡ true → w.turn ≡ true → i ≡ j
-one_holder d l start count i j v w s r at there on too =
-    held_same i j (sym ((r.each i v at).turn on).0 ∙ ((r.each j w there).turn too).0)
+one_holder d l start count i j v w s r at there on too = grind (arith, held_same, r.each i v at, r.each j w there)

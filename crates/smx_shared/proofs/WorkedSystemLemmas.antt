@@ -10,11 +10,7 @@ use Rattle.smx_shared.specs.WorkedSystems.{with_first, of_one_name}
 
 -- the one driver is valid
 one_driver : IsDriverList (mux ip 4 ∷ [])
-one_driver = record {
-  few = omega arith;
-  each = λ k d within. let first : k ≡ 0 = omega arith in rw first refl;
-  names = λ i j d within before. absurd (omega arith);
-}
+one_driver = grind arith
 
 -- a system with one entry meets the conditions of a sound system
 pub with_one : ((s : Recorded) → IsDriverList s.drivers → s.limit ≤ MAX_COMMANDS → length s.history ≤ s.limit
