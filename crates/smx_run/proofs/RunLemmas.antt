@@ -84,23 +84,12 @@ pub record StillKnows (old new : Known) : Type 0 where
 
 -- a process that has seen more, and has made nothing, still knows as much as before
 pub still_more : (a b c : Known) → StillKnows a b → HasSeenMore b c → c.own ≡ b.own → StillKnows a c
-still_more a b c s more own = record {
-  drivers = more.drivers ∙ s.drivers;
-  limit = more.limit ∙ s.limit;
-  process = more.process ∙ s.process;
-  own = own ∙ s.own;
-  seen = begins_trans a.seen b.seen c.seen s.seen more.seen;
-}
+still_more a b c s more own = grind (arith, begins_trans a.seen b.seen c.seen s.seen more.seen)
 
 -- the final system agrees with the seat that has met all others
 pub bears_out_first : (a b : Known) (met : List MetSeat) (s : Recorded) → StillKnows a b → EndsAs b met s
     → IsMetBy s (met_seat a)
-bears_out_first a b met s still ends = record {
-  drivers = sym (ends.drivers ∙ still.drivers);
-  limit = sym (ends.limit ∙ still.limit);
-  seen = begins_trans a.seen b.seen s.history still.seen ends.seen;
-  exact = ap (λ (p : ℕ). entries_of p s.history) (sym still.process) ∙ ends.exact ∙ still.own;
-}
+bears_out_first a b met s still ends = grind (arith, begins_trans a.seen b.seen s.history still.seen ends.seen)
 
 -- it agrees with the seats that this seat met, the newest and the earlier ones
 pub bears_out_next : (s : Recorded) (old new others : List MetSeat) (k : Known) → new ≡ met_seat k ∷ others ++ old
