@@ -1,6 +1,5 @@
 -- The answer of a replay to an input that was read completely, and the laws of replays over bytes.
-use Rattle.std.proofs.Common.{◌≡◌, ℕ, List, length, Option, Some, None, Vec, Result, Ok, Err, refl, sym, ap, subst}
-use Rattle.std.proofs.Common.{◌∙◌}
+use Rattle.std.proofs.Common.{◌≡◌, ℕ, List, length, Option, Some, None, Vec, Result, Ok, Err, refl, sym, ap, subst, ◌∙◌}
 use Rattle.std.specs.Prelude.{IsErrAnd}
 use Rattle.std.specs.Global.{Global}
 use Rattle.smx_types.specs.declared.driver.DriverSpec.{DriverSpec}
@@ -103,14 +102,8 @@ gives told first at bytes input same t part read is enough text written =
 -- a refusal that is not of the number of entries
 not_of_entries : (at : Option ℕ) (t : Transcript) (fault : RunFault) → (IsPastEnd at t → ⊥)
     → RefusesAlone t.drivers fault → RefusesPart at t fault
-not_of_entries at t run.NoMemory enough h = (enough, h)
-not_of_entries at t run.NoThread enough h = (enough, h)
-not_of_entries at t (run.Strange p) enough h = (enough, h)
-not_of_entries at t (run.ConfigFault f) enough h = (enough, h)
-not_of_entries at t run.HistoryFull enough h = (enough, h)
-not_of_entries at t run.Held enough h = (enough, h)
 not_of_entries at t (run.FewEntries count) enough h = absurd h
-not_of_entries at t (run.LongPage count) enough h = (enough, h)
+not_of_entries at t fault enough h = (enough, h)
 
 -- more entries are asked for than there are
 pub few_refused : (at : Option ℕ) (bytes input : List ℕ) → bytes ≡ input → (t : Transcript)

@@ -21,9 +21,7 @@ use Rattle.smx_filters.proofs.FilterLemmas.{alone_of}
 may_refuse : (t : Transcript) (f : PageFault) → RefusesPage t f → RefusesSteps t (run_fault_of_page f)
 may_refuse t (page.TooLong count) h = h
 may_refuse t (page.Refused config.NoMemory) h = (h.0, alone_of t.drivers config.NoMemory h.1)
-may_refuse t (page.Refused config.TooMany) h = (h.0, alone_of t.drivers config.TooMany h.1)
-may_refuse t (page.Refused (config.BadSpec i f)) h = (h.0, alone_of t.drivers (config.BadSpec i f) h.1)
-may_refuse t (page.Refused (config.SameName i)) h = (h.0, alone_of t.drivers (config.SameName i) h.1)
+may_refuse t (page.Refused f) h = (h.0, alone_of t.drivers f h.1)
 
 module _ (bytes input : List ℕ) (same : bytes ≡ input) (t : Transcript)
     (read : ReadsAny transcript_grammar bytes (Ok t)) where
