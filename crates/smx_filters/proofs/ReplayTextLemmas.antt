@@ -105,20 +105,6 @@ not_of_entries : (at : Option ℕ) (t : Transcript) (fault : RunFault) → (IsPa
 not_of_entries at t (run.FewEntries count) enough h = absurd h
 not_of_entries at t fault enough h = (enough, h)
 
--- more entries are asked for than there are
-pub few_refused : (at : Option ℕ) (bytes input : List ℕ) → bytes ≡ input → (t : Transcript)
-    → ReadsAny transcript_grammar bytes (Ok t)
-    → (f : RunFault) (answer : Result (Vec ℕ Global) MainFault) → IsErrAnd answer (λ e. e ≡ Refused f)
-    → f ≡ run.FewEntries (length t.entries) → IsPastEnd at t → Answers (replaying at) input (items_of answer)
-few_refused at bytes input same t read f (Ok v) is few past = absurd is
-few_refused at bytes input same t read f (Err e) is few past =
-    subst (λ (x : MainFault). Answers (replaying at) input (Err x)) (sym (is ∙ ap Refused few)) (
-      read.0,
-      t,
-      subst (λ (bs : List ℕ). Spells (transcript_grammar read.0) bs t) same read.1,
-      (refl, past),
-    )
-
 -- the drivers are refused, or memory ran out
 pub replay_refused : (at : Option ℕ) (bytes input : List ℕ) → bytes ≡ input → (t part : Transcript)
     → ReadsAny transcript_grammar bytes (Ok t) → part ≡ asked_part at t → (IsPastEnd at t → ⊥)
