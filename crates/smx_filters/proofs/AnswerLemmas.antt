@@ -1,6 +1,5 @@
 -- An input has one answer, and what a run writes spells one report.
-use Rattle.std.proofs.Common.{◌≡◌, ◌≢◌, ℕ, ◌++◌, ◌≤◌, Bool, true, false, List, length, map}
-use Rattle.std.proofs.Common.{Option, Result, Ok, Err}
+use Rattle.std.proofs.Common.{◌≡◌, ◌≢◌, ℕ, ◌++◌, ◌≤◌, Bool, true, false, List, length, map, Option, Result, Ok, Err}
 use Rattle.std.proofs.Common.{refl, sym, ap, subst, ◌∙◌, arith, inl, inr}
 use Rattle.smx_types.specs.ProgramLists.{ProgramLists}
 use Rattle.smx_types.specs.declared.command.Entry.{Entry}
@@ -123,14 +122,9 @@ module _ {V K T : Type 0} (filter : Filter V K T) (reading : HasOneReading filte
 pub only_memory_refuses : HaveOneFault → (drivers : List DriverSpec) → IsDriverList drivers → (r : RunFault)
     → RefusesAlone drivers r → r ≡ run.NoMemory
 only_memory_refuses determined drivers had run.NoMemory h = refl
-only_memory_refuses determined drivers had run.NoThread h = absurd h
-only_memory_refuses determined drivers had (run.Strange p) h = absurd h
 only_memory_refuses determined drivers had (run.ConfigFault f) h =
     absurd (h.1 (determined drivers f config.NoMemory h.0 had))
-only_memory_refuses determined drivers had run.HistoryFull h = absurd h
-only_memory_refuses determined drivers had run.Held h = absurd h
-only_memory_refuses determined drivers had (run.FewEntries count) h = absurd h
-only_memory_refuses determined drivers had (run.LongPage count) h = absurd h
+only_memory_refuses determined drivers had r h = absurd h
 
 -- other drivers are refused for only one fault
 refused_alone : (drivers : List DriverSpec) (r s : RunFault) → RefusesAlone drivers r
@@ -138,60 +132,24 @@ refused_alone : (drivers : List DriverSpec) (r s : RunFault) → RefusesAlone dr
 refused_alone drivers (run.ConfigFault f) (run.ConfigFault g) h k known known_too =
     ap run.ConfigFault (one_refusal drivers f g h.0 k.0)
 refused_alone drivers run.NoMemory s h k known known_too = absurd (known refl)
-refused_alone drivers run.NoThread s h k known known_too = absurd h
-refused_alone drivers (run.Strange p) s h k known known_too = absurd h
-refused_alone drivers run.HistoryFull s h k known known_too = absurd h
-refused_alone drivers run.Held s h k known known_too = absurd h
-refused_alone drivers (run.FewEntries count) s h k known known_too = absurd h
-refused_alone drivers (run.LongPage count) s h k known known_too = absurd h
 refused_alone drivers (run.ConfigFault f) run.NoMemory h k known known_too = absurd (known_too refl)
-refused_alone drivers (run.ConfigFault f) run.NoThread h k known known_too = absurd k
-refused_alone drivers (run.ConfigFault f) (run.Strange p) h k known known_too = absurd k
-refused_alone drivers (run.ConfigFault f) run.HistoryFull h k known known_too = absurd k
-refused_alone drivers (run.ConfigFault f) run.Held h k known known_too = absurd k
-refused_alone drivers (run.ConfigFault f) (run.FewEntries count) h k known known_too = absurd k
-refused_alone drivers (run.ConfigFault f) (run.LongPage count) h k known known_too = absurd k
+refused_alone drivers (run.ConfigFault f) s h k known known_too = absurd k
+refused_alone drivers r s h k known known_too = absurd h
 
 -- valid drivers of a transcript with enough entries are refused only for lack of memory
 only_memory_of_part : (at : Option ℕ) (t : Transcript) → IsDriverList t.drivers → (IsPastEnd at t → ⊥) → (r : RunFault)
     → RefusesPart at t r → r ≡ run.NoMemory
-only_memory_of_part at t valid enough run.NoMemory h = refl
-only_memory_of_part at t valid enough run.NoThread h = absurd h.1
-only_memory_of_part at t valid enough (run.Strange p) h = absurd h.1
-only_memory_of_part at t valid enough (run.ConfigFault f) h =
-    only_memory_refuses one_refusal t.drivers valid (run.ConfigFault f) h.1
-only_memory_of_part at t valid enough run.HistoryFull h = absurd h.1
-only_memory_of_part at t valid enough run.Held h = absurd h.1
 only_memory_of_part at t valid enough (run.FewEntries count) h = absurd (enough h.1)
-only_memory_of_part at t valid enough (run.LongPage count) h = absurd h.1
+only_memory_of_part at t valid enough r h = only_memory_refuses one_refusal t.drivers valid r h.1
 
 -- a replay refuses for only one fault
 part_refused : (at : Option ℕ) (t : Transcript) (r s : RunFault) → RefusesPart at t r → RefusesPart at t s
     → r ≢ run.NoMemory → s ≢ run.NoMemory → r ≡ s
 part_refused at t (run.FewEntries m) (run.FewEntries n) h k known known_too =
     ap run.FewEntries (h.0 ∙ sym k.0)
-part_refused at t (run.FewEntries m) run.NoMemory h k known known_too = absurd (known_too refl)
-part_refused at t (run.FewEntries m) run.NoThread h k known known_too = absurd k.1
-part_refused at t (run.FewEntries m) (run.Strange p) h k known known_too = absurd k.1
-part_refused at t (run.FewEntries m) (run.ConfigFault f) h k known known_too = absurd (k.0 h.1)
-part_refused at t (run.FewEntries m) run.HistoryFull h k known known_too = absurd k.1
-part_refused at t (run.FewEntries m) run.Held h k known known_too = absurd k.1
-part_refused at t (run.FewEntries m) (run.LongPage n) h k known known_too = absurd k.1
-part_refused at t run.NoMemory s h k known known_too = absurd (known refl)
-part_refused at t run.NoThread s h k known known_too = absurd h.1
-part_refused at t (run.Strange p) s h k known known_too = absurd h.1
-part_refused at t run.HistoryFull s h k known known_too = absurd h.1
-part_refused at t run.Held s h k known known_too = absurd h.1
-part_refused at t (run.LongPage n) s h k known known_too = absurd h.1
-part_refused at t (run.ConfigFault f) (run.FewEntries n) h k known known_too = absurd (h.0 k.1)
-part_refused at t (run.ConfigFault f) run.NoMemory h k known known_too = absurd (known_too refl)
-part_refused at t (run.ConfigFault f) run.NoThread h k known known_too = absurd k.1
-part_refused at t (run.ConfigFault f) (run.Strange p) h k known known_too = absurd k.1
-part_refused at t (run.ConfigFault f) run.HistoryFull h k known known_too = absurd k.1
-part_refused at t (run.ConfigFault f) run.Held h k known known_too = absurd k.1
-part_refused at t (run.ConfigFault f) (run.LongPage n) h k known known_too = absurd k.1
-part_refused at t (run.ConfigFault f) (run.ConfigFault g) h k known known_too =
-    refused_alone t.drivers (run.ConfigFault f) (run.ConfigFault g) h.1 k.1 known known_too
+part_refused at t (run.FewEntries m) s h k known known_too = absurd (k.0 h.1)
+part_refused at t r (run.FewEntries n) h k known known_too = absurd (h.0 k.1)
+part_refused at t r s h k known known_too = refused_alone t.drivers r s h.1 k.1 known known_too
 
 -- ---- the filters
 

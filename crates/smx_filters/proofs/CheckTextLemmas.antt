@@ -1,29 +1,16 @@
--- The answer of a check, with or without an explanation, to a transcript that was read.
-use Rattle.std.proofs.Common.{◌≡◌, ℕ, List, Result, Ok, Err, sym, subst, ◌∙◌}
-use Rattle.std.specs.Prelude.{IfErr, IfOk, IsErrAnd, String, Vec, string_bytes}
+-- The answer of a check to a transcript that was read.
+use Rattle.std.proofs.Common.{◌≡◌, ℕ, List, Result, Ok, Err, sym, subst}
+use Rattle.std.specs.Prelude.{IfErr, IfOk, IsErrAnd, String, string_bytes}
 use Rattle.std.specs.Global.{Global}
-use Rattle.smx_types.specs.declared.driver.DriverSpec.{DriverSpec}
 use Rattle.smx_types.specs.declared.transcript.Transcript.{Transcript}
 use Rattle.smx_text.specs.Grammar.{ReadsAny, Spells}
 use Rattle.smx_text.specs.TranscriptText.{transcript_grammar}
 use Rattle.smx_text.specs.declared.text_fault.TextFault.{TextFault}
-use Rattle.smx_config.specs.DriverFaults.{RefusesDrivers}
-use Rattle.smx_config.specs.declared.config_fault.ConfigFault.{ConfigFault}
 use Rattle.smx_config.specs.declared.verdict.Verdict.{Verdict}
-use Rattle.smx_run.specs.RunFaults.{run_fault_of}
 use Rattle.smx_filters.specs.CheckText.{IsJudged, IsRefusedCheck, checking, judged_of}
-use Rattle.smx_filters.specs.ExplainText.{explained_of, explaining}
 use Rattle.smx_filters.specs.Filters.{Answers, IsFaultOf}
 use Rattle.smx_filters.specs.declared.main_fault.MainFault.{MainFault}
-use Rattle.smx_filters.specs.declared.main_fault.MainFault.TheVariants.{Refused, Text}
-use Rattle.smx_filters.proofs.FilterLemmas.{alone_of}
-
--- a transcript is not judged if its drivers are not valid
-pub not_judged : (drivers : List DriverSpec) (f : ConfigFault) (answer : Result (Verdict × String Global) MainFault)
-    → IsErrAnd answer (λ e. e ≡ Refused (run_fault_of f)) → RefusesDrivers drivers f
-    → IfErr answer (IsRefusedCheck drivers)
-not_judged drivers f (Ok judged) is refused = absurd is
-not_judged drivers f (Err e) is refused = (run_fault_of f, is, alone_of drivers f refused)
+use Rattle.smx_filters.specs.declared.main_fault.MainFault.TheVariants.{Text}
 
 -- the malformed text is that of the input
 pub text_not_judged : (bytes input : List ℕ) → bytes ≡ input → (f : TextFault)
@@ -44,12 +31,3 @@ judged_answers bytes input same t read (Ok j) judged refused =
 judged_answers bytes input same t read (Err e) judged refused =
     let spells = subst (λ (bs : List ℕ). Spells (transcript_grammar read.0) bs t) same read.1 in
     subst (λ (x : MainFault). Answers checking input (Err x)) (sym refused.1) (read.0, t, spells, refused.2)
-
--- a transcript that is not judged is not explained
-pub not_explained : (input : List ℕ) (t : Transcript) → ReadsAny transcript_grammar input (Ok t) → (e : MainFault)
-    (answer : Result (Verdict × Vec ℕ Global) MainFault) → IsErrAnd answer (λ x. x ≡ e) → IsRefusedCheck t.drivers e
-    → Answers explaining input (explained_of answer)
-not_explained input t read e (Ok explained) is refused = absurd is
-not_explained input t read e (Err x) is refused =
-    subst (λ (y : MainFault). Answers explaining input (Err y)) (sym (is ∙ refused.1))
-    (read.0, t, read.1, refused.2)

@@ -12,7 +12,7 @@ use Rattle.smx_filters.specs.CheckText.{checking}
 use Rattle.smx_filters.specs.ExplainText.{IsKept, KeepsText, is_in_text, judging}
 use Rattle.smx_filters.specs.Filters.{Filter, GivesFor}
 use Rattle.smx_filters.specs.declared.main_fault.MainFault.{MainFault}
-use Rattle.smx_filters.specs.declared.main_fault.MainFault.TheVariants.{Refused, Text, TooLong, ReadFailed, WriteFailed}
+use Rattle.smx_filters.specs.declared.main_fault.MainFault.TheVariants.{Refused, Text}
 use Rattle.smx_filters.specs.declared.refusal.Refusal.{Refusal}
 
 -- the explanation of a legal transcript is empty
@@ -56,13 +56,4 @@ keeps_all f input left before after ended flushed reads writes refusal h shown =
         | inl read ↦ read.0.1
         | inr (none, unread) ↦ absurd (cc none)
       ]
-      was_read (Refused run.NoMemory) is so = absurd cc
-      was_read (Refused run.NoThread) is so = absurd cc
-      was_read (Refused (run.Strange process)) is so = absurd cc
-      was_read (Refused run.HistoryFull) is so = absurd cc
-      was_read (Refused run.Held) is so = absurd cc
-      was_read (Refused (run.FewEntries count)) is so = absurd cc
-      was_read (Refused (run.LongPage count)) is so = absurd cc
-      was_read TooLong is so = absurd cc
-      was_read ReadFailed is so = absurd cc
-      was_read WriteFailed is so = absurd cc
+      was_read fault is so = absurd cc

@@ -1,14 +1,9 @@
--- The explanation of a transcript, and the texts that are kept.
-use Rattle.std.proofs.Common.{◌≡◌, ℕ, ◌++◌, Bool, true, false, List, Option, None, Result, Ok, Err, Vec, refl, sym, ap}
-use Rattle.std.proofs.Common.{subst, ◌∙◌}
+-- The texts that are kept.
+use Rattle.std.proofs.Common.{◌≡◌, ℕ, Bool, true, false, List, Option, None, Result, Ok, Err, Vec, sym, ap, subst, ◌∙◌}
 use Rattle.std.specs.Global.{Global}
 use Rattle.std.specs.Io.KnownBytes.{Appends}
 use Rattle.std.specs.Prelude.{IsErrAnd}
-use Rattle.smx_types.specs.declared.transcript.Transcript.{Transcript}
-use Rattle.smx_config.specs.declared.verdict.Verdict.{Verdict}
-use Rattle.smx_explain.specs.Explanations.{IsExplanation}
-use Rattle.smx_filters.specs.CheckText.{IsJudged}
-use Rattle.smx_filters.specs.ExplainText.{IsExplained, IsKept, KeepsText, is_in_text}
+use Rattle.smx_filters.specs.ExplainText.{IsKept, KeepsText, is_in_text}
 use Rattle.smx_filters.specs.Filters.{Answers, Filter, GivesFor}
 use Rattle.smx_filters.specs.Input.{IsInput}
 use Rattle.smx_filters.specs.Output.{AppendsBeginning}
@@ -17,20 +12,6 @@ use Rattle.smx_filters.specs.declared.main_fault.MainFault.TheVariants.{WriteFai
 use Rattle.smx_filters.specs.declared.refusal.Refusal.{Refusal}
 use Rattle.smx_filters.proofs.FilterLemmas.{are_read, at_answer}
 use Rattle.smx_filters.proofs.WritingFilterLemmas.{written_out}
-
--- ---- a verdict
-
--- the verdict of a check, and its line with an explanation below it
-pub is_explained : (t : Transcript) (verdict : Verdict) (line told output : List ℕ) → IsJudged t verdict line
-    → IsExplanation t told → output ≡ line ++ told → IsExplained t verdict output
-is_explained t verdict line told output judged explained written = record {
-  judged = record { valid_drivers = judged.valid_drivers; judged = judged.judged; written = refl };
-  explanation = told;
-  explained = explained;
-  written = written ∙ ap (λ (front : List ℕ). front ++ told) judged.written;
-}
-
--- ---- a text that is kept
 
 module _ {V K T : Type 0} (f : Filter V K T) (had left : Option (List ℕ)) (ended : Bool) (failures : ℕ)
     (held : Option (List ℕ)) (flushed : Bool) (written : ℕ) (v : Vec ℕ Global) (read : List ℕ)

@@ -66,18 +66,14 @@ module _ {V K T : Type 0} (filter : Filter V K T) (had left : Option (List ℕ))
       (λ g is. let same : f ≡ g = cc in
       subst (λ (x : RunFault). RefusesFor filter read x) same
       (subst (λ (bytes : List ℕ). RefusesFor filter bytes f) h.answered a))
-  at_answer TooLong a = absurd a
-  at_answer ReadFailed a = absurd a
-  at_answer WriteFailed a = absurd a
+  at_answer e a = absurd a
 
   -- these bytes are all that the result says to be read
   pub are_read : (e : MainFault) (a : Answers filter v.items (Err e)) → v.items ≡ (at_answer e a).read
   unfolding at_answer said
   are_read (Text f) a = h.answered
   are_read (Refused f) a = h.answered
-  are_read TooLong a = absurd a
-  are_read ReadFailed a = absurd a
-  are_read WriteFailed a = absurd a
+  are_read e a = absurd a
 
   -- a `?` passes the fault on unchanged
   pub passed_on : (e : MainFault) (answer : Result T MainFault) → IsErrAnd answer (λ f. f ≡ e)
@@ -91,6 +87,4 @@ module _ {V K T : Type 0} (filter : Filter V K T) (had left : Option (List ℕ))
 pub alone_of : (drivers : List DriverSpec) (f : ConfigFault) → RefusesDrivers drivers f
     → RefusesAlone drivers (run_fault_of f)
 alone_of drivers config.NoMemory refused = refused
-alone_of drivers config.TooMany refused = (refused, λ is. cc)
-alone_of drivers (config.BadSpec i why) refused = (refused, λ is. cc)
-alone_of drivers (config.SameName i) refused = (refused, λ is. cc)
+alone_of drivers f refused = (refused, λ is. cc)

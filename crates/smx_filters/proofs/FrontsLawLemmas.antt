@@ -23,8 +23,7 @@ as_many : (drivers : List DriverSpec) (history : List Entry) (n : ℕ) (programs
 as_many drivers history n [] [] h = refl
 as_many drivers history n (program ∷ programs) (front ∷ fronts) h =
     ap suc (as_many drivers history (n + 1) programs fronts h.1)
-as_many drivers history n [] (front ∷ fronts) h = absurd h
-as_many drivers history n (program ∷ programs) [] h = absurd h
+as_many drivers history n programs fronts h = absurd h
 
 -- a front is not past the end
 not_past : (drivers : List DriverSpec) (history : List Entry) (n : ℕ) (program : List Command) (front : Front)
@@ -43,8 +42,7 @@ none_past drivers history n [] [] h = All-nil (λ (f : Front). f.entries ≤ len
 none_past drivers history n (program ∷ programs) (front ∷ fronts) h =
     All-cons (λ (f : Front). f.entries ≤ length history) front fronts (not_past drivers history n program front h.0)
     (none_past drivers history (n + 1) programs fronts h.1)
-none_past drivers history n [] (front ∷ fronts) h = absurd h
-none_past drivers history n (program ∷ programs) [] h = absurd h
+none_past drivers history n programs fronts h = absurd h
 
 -- the fronts text that a run writes
 pub of_one_report : (workers : ℕ) (programs : ProgramLists) (output : List ℕ)

@@ -5,7 +5,7 @@ use Rattle.std.proofs.lemmas.Bool.{cases_Bool}
 use Rattle.std.proofs.lemmas.Bool.Decides.{nat_tests}
 use Rattle.std.proofs.lemmas.List.{drop_at, nil_from_length}
 use Rattle.smx_filters.specs.Filters.{Filter, FiltersText}
-use Rattle.smx_filters.specs.InMemory.{EndsInMemory, IsCutShort}
+use Rattle.smx_filters.specs.InMemory.{EndsInMemory, IsCutShort, IsToldInMemory}
 use Rattle.smx_filters.specs.declared.main_fault.MainFault.{MainFault}
 use Rattle.smx_filters.specs.declared.main_fault.MainFault.TheVariants.{Refused, Text, TooLong, ReadFailed, WriteFailed}
 use Rattle.smx_filters.specs.declared.input.TheConstants.{MAX_INPUT}
@@ -64,7 +64,7 @@ module _ {V K T : Type 0} (f : Filter V K T) (input left output : List ℕ) (end
   ends (Err WriteFailed) h = absurd (omega (arith, h.write_failed.0 refl))
 
   -- the reader fails
-  pub unread : (answer : Result T MainFault)
+  unread : (answer : Result T MainFault)
       → FiltersText f (Some input) (Some left) ended 1 (Some []) (Some output) flushed 0 answer
       → (answer ≡ Err ReadFailed) × (output ≡ [])
   unread (Ok a) h = let told : Ok a ≡ Err ReadFailed = h.read_failed.1 refl in absurd cc
@@ -72,29 +72,30 @@ module _ {V K T : Type 0} (f : Filter V K T) (input left output : List ℕ) (end
       let told : Err e ≡ Err ReadFailed = h.read_failed.1 refl in
       (told, h.unwritten (λ is. cc))
 
-  -- if the writer fails, the end of the input was seen
-  pub seen_whole : (answer : Result T MainFault)
-      → FiltersText f (Some input) (Some left) ended 0 (Some []) (Some output) flushed 1 answer
-      → ended ≡ true
-  seen_whole (Ok a) h = let told : Ok a ≡ Err WriteFailed = h.write_failed.1 refl in absurd cc
-  seen_whole (Err e) h =
-      let told : Err e ≡ Err WriteFailed = h.write_failed.1 refl in
-      let is : e ≡ WriteFailed = cc in (h.cut_short is).0.0
-
   -- the writer fails
-  pub cut_short : (answer : Result T MainFault)
+  cut_short : (answer : Result T MainFault)
       → FiltersText f (Some input) (Some left) ended 0 (Some []) (Some output) flushed 1 answer
-      → IsCutShort f input output answer
+      → (ended ≡ true) × IsCutShort f input output answer
   cut_short (Ok a) h = let told : Ok a ≡ Err WriteFailed = h.write_failed.1 refl in absurd cc
   cut_short (Err e) h =
       let told : Err e ≡ Err WriteFailed = h.write_failed.1 refl in
       let is : e ≡ WriteFailed = cc in
-      let (whole, given, bytes, gives, beginning) = h.cut_short is in
-      record {
-        failed = told;
-        given = given;
-        whole = bytes;
-        gives = rw whole.1 gives;
-        count = beginning.0;
-        beginning = beginning.1;
-      }
+      let (whole, given, bytes, gives, beginning) = h.cut_short is in (
+        whole.0,
+        record {
+          failed = told;
+          given = given;
+          whole = bytes;
+          gives = rw whole.1 gives;
+          count = beginning.0;
+          beginning = beginning.1;
+        },
+      )
+
+-- what `FiltersText` means for an input in memory
+pub in_memory : {V K T : Type 0} (f : Filter V K T) → IsToldInMemory f
+in_memory f = record {
+  ends = λ input left output. ends f input left output;
+  unread = λ input left output. unread f input left output;
+  cut_short = λ input left output. cut_short f input left output;
+}

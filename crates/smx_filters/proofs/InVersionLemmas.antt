@@ -1,9 +1,7 @@
 -- A report of programs is allowed in their version, and its text is a transcript.
-use Rattle.std.proofs.Common.{◌≡◌, ℕ, ◌≤◌, Bool, true, false, ◌||◌, List, length, map, refl, sym, ap, subst}
-use Rattle.std.proofs.Common.{◌∙◌, rules}
+use Rattle.std.proofs.Common.{◌≡◌, ℕ, ◌≤◌, Bool, true, false, ◌||◌, List, length, map, refl, sym, ap, subst, ◌∙◌, rules}
 use Rattle.smx_types.specs.ProgramLists.{ProgramLists, AreWithinLimits}
-use Rattle.smx_types.specs.Versions.{are_more_drivers, least_of_transcript, most_drivers}
-use Rattle.smx_types.specs.Versions.{version_2_where}
+use Rattle.smx_types.specs.Versions.{are_more_drivers, least_of_transcript, most_drivers, version_2_where}
 use Rattle.smx_types.specs.declared.command.Entry.{Entry}
 use Rattle.smx_types.specs.declared.driver.DriverSpec.{DriverSpec}
 use Rattle.smx_types.specs.declared.limits.TheConstants.{MAX_COMMANDS, MAX_DRIVERS}

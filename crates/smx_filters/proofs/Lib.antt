@@ -7,13 +7,9 @@ pub mod FrontsTextLemmas
 pub mod InVersionLemmas
 pub mod ReadingLemmas
 pub mod ReplayTextLemmas
-pub mod TraceTextLemmas
-pub mod RunTextLemmas
 pub mod WritingFilterLemmas
-pub mod DrawTextLemmas
 pub mod ExplainTextLemmas
 pub mod OneProcessLemmas
 pub mod AnswerLemmas
 pub mod FrontsLawLemmas
 pub mod ExplainLawLemmas
-pub mod StepsTextLemmas

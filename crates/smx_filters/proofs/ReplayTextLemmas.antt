@@ -1,6 +1,5 @@
 -- The answer of a replay to an input that was read completely, and the laws of replays over bytes.
-use Rattle.std.proofs.Common.{◌≡◌, ℕ, List, length, Option, Some, None, Vec, Result, Ok, Err, refl, sym, ap, subst}
-use Rattle.std.proofs.Common.{◌∙◌}
+use Rattle.std.proofs.Common.{◌≡◌, ℕ, List, length, Option, Some, None, Vec, Result, Ok, Err, refl, sym, ap, subst, ◌∙◌}
 use Rattle.std.specs.Prelude.{IsErrAnd}
 use Rattle.std.specs.Global.{Global}
 use Rattle.smx_types.specs.declared.driver.DriverSpec.{DriverSpec}
@@ -103,28 +102,8 @@ gives told first at bytes input same t part read is enough text written =
 -- a refusal that is not of the number of entries
 not_of_entries : (at : Option ℕ) (t : Transcript) (fault : RunFault) → (IsPastEnd at t → ⊥)
     → RefusesAlone t.drivers fault → RefusesPart at t fault
-not_of_entries at t run.NoMemory enough h = (enough, h)
-not_of_entries at t run.NoThread enough h = (enough, h)
-not_of_entries at t (run.Strange p) enough h = (enough, h)
-not_of_entries at t (run.ConfigFault f) enough h = (enough, h)
-not_of_entries at t run.HistoryFull enough h = (enough, h)
-not_of_entries at t run.Held enough h = (enough, h)
 not_of_entries at t (run.FewEntries count) enough h = absurd h
-not_of_entries at t (run.LongPage count) enough h = (enough, h)
-
--- more entries are asked for than there are
-pub few_refused : (at : Option ℕ) (bytes input : List ℕ) → bytes ≡ input → (t : Transcript)
-    → ReadsAny transcript_grammar bytes (Ok t)
-    → (f : RunFault) (answer : Result (Vec ℕ Global) MainFault) → IsErrAnd answer (λ e. e ≡ Refused f)
-    → f ≡ run.FewEntries (length t.entries) → IsPastEnd at t → Answers (replaying at) input (items_of answer)
-few_refused at bytes input same t read f (Ok v) is few past = absurd is
-few_refused at bytes input same t read f (Err e) is few past =
-    subst (λ (x : MainFault). Answers (replaying at) input (Err x)) (sym (is ∙ ap Refused few)) (
-      read.0,
-      t,
-      subst (λ (bs : List ℕ). Spells (transcript_grammar read.0) bs t) same read.1,
-      (refl, past),
-    )
+not_of_entries at t fault enough h = (enough, h)
 
 -- the drivers are refused, or memory ran out
 pub replay_refused : (at : Option ℕ) (bytes input : List ℕ) → bytes ≡ input → (t part : Transcript)

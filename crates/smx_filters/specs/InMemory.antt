@@ -1,8 +1,8 @@
 -- The results of a filter for an input in memory, and if the reader or the writer fails.
-use Rattle.std.specs.Prelude.{◌≡◌, ℕ, ◌+◌, ◌<◌, ◌≤◌, ◌⊎◌, Bool, true, false, List, [], length, take, drop, Result, Ok}
-use Rattle.std.specs.Prelude.{Err}
+use Rattle.std.specs.Prelude.{◌≡◌, ℕ, ◌+◌, ◌<◌, ◌≤◌, ◌⊎◌, Bool, true, false, List, [], length, take, drop, Some, Result}
+use Rattle.std.specs.Prelude.{Ok, Err}
 use Rattle.smx_run.specs.declared.run_fault.RunFault.TheVariants as run
-use Rattle.smx_filters.specs.Filters.{Filter, GivesFor, RefusesFor, IsFaultOf}
+use Rattle.smx_filters.specs.Filters.{Filter, FiltersText, GivesFor, RefusesFor, IsFaultOf}
 use Rattle.smx_filters.specs.declared.main_fault.MainFault.{MainFault}
 use Rattle.smx_filters.specs.declared.main_fault.MainFault.TheVariants.{Refused, Text, TooLong, ReadFailed, WriteFailed}
 use Rattle.smx_filters.specs.declared.input.TheConstants.{MAX_INPUT}
@@ -31,3 +31,18 @@ module _ {V K T : Type 0} (f : Filter V K T) where
     pub gives : GivesFor f input given whole
     pub count : ℕ
     pub beginning : output ≡ take count whole
+
+  -- what `FiltersText` means for an input in memory
+  pub record IsToldInMemory : Type 0 where
+    -- if neither the reader nor the writer fails
+    pub ends : (input left output : List ℕ) (ended flushed : Bool) (answer : Result T MainFault)
+        → FiltersText f (Some input) (Some left) ended 0 (Some []) (Some output) flushed 0 answer
+        → EndsInMemory input left ended output flushed answer
+    -- if the reader fails
+    pub unread : (input left output : List ℕ) (ended flushed : Bool) (answer : Result T MainFault)
+        → FiltersText f (Some input) (Some left) ended 1 (Some []) (Some output) flushed 0 answer
+        → (answer ≡ Err ReadFailed) × (output ≡ [])
+    -- if the writer fails: the end of the input was seen
+    pub cut_short : (input left output : List ℕ) (ended flushed : Bool) (answer : Result T MainFault)
+        → FiltersText f (Some input) (Some left) ended 0 (Some []) (Some output) flushed 1 answer
+        → (ended ≡ true) × IsCutShort input output answer

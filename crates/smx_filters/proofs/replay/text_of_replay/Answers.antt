@@ -2,21 +2,8 @@ use Rattle.std.proofs.Common.{refl}
 use Rattle.smx_model.proofs.QuietHistoryLemmas.{quiet_replies, quiet_streams}
 use Rattle.smx_trace.proofs.PrefixLemmas.{first_allowed}
 use Rattle.smx_trace.proofs.QuietLemmas.{can_be_expressed}
-use Rattle.smx_filters.proofs.ReplayTextLemmas.{few_refused, gives, replay_refused}
-use Rattle.smx_filters.proofs.WritingFilterLemmas.{text_refused}
+use Rattle.smx_filters.proofs.ReplayTextLemmas.{gives, replay_refused}
 use Rattle.smx_filters.proofs.replay.text_of_replay.Goals as goal
-use Rattle.smx_filters.specs.ReplayText.{replaying}
-
-pub returns-in_err-transcript : goal.returns-in_err-transcript
-returns-in_err-transcript c =
-    text_refused (replaying c.args.at) _ _ refl c.in_err-transcript.field-0.0 _
-    c.from_residual.ensures.1 c.in_err-transcript.ensures
-
-pub returns-in_err-part : goal.returns-in_err-part
-returns-in_err-part c =
-    few_refused c.args.at _ _ refl c.in_ok-transcript.transcript c.in_ok-transcript.ensures
-    c.in_err-part.field-0.0 _
-    c.from_residual-in_err-part.ensures.1 c.in_err-part.ensures.few c.in_err-part.ensures.past
 
 pub returns-in_err-text : goal.returns-in_err-text
 returns-in_err-text c =
