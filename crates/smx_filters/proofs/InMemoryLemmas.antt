@@ -5,7 +5,7 @@ use Rattle.std.proofs.lemmas.Bool.{cases_Bool}
 use Rattle.std.proofs.lemmas.Bool.Decides.{nat_tests}
 use Rattle.std.proofs.lemmas.List.{drop_at, nil_from_length}
 use Rattle.smx_filters.specs.Filters.{Filter, FiltersText}
-use Rattle.smx_filters.specs.InMemory.{EndsInMemory, IsCutShort, IsToldInMemory}
+use Rattle.smx_filters.specs.InMemory.{EndsInMemory, IsCutShort, FiltersInMemory}
 use Rattle.smx_filters.specs.declared.main_fault.MainFault.{MainFault}
 use Rattle.smx_filters.specs.declared.main_fault.MainFault.TheVariants.{Refused, Text, TooLong, ReadFailed, WriteFailed}
 use Rattle.smx_filters.specs.declared.input.TheConstants.{MAX_INPUT}
@@ -93,7 +93,7 @@ module _ {V K T : Type 0} (f : Filter V K T) (input left output : List ℕ) (end
       )
 
 -- what `FiltersText` means for an input in memory
-pub in_memory : {V K T : Type 0} (f : Filter V K T) → IsToldInMemory f
+pub in_memory : {V K T : Type 0} (f : Filter V K T) → FiltersInMemory f
 in_memory f = record {
   ends = λ input left output. ends f input left output;
   unread = λ input left output. unread f input left output;

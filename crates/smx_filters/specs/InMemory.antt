@@ -33,7 +33,7 @@ module _ {V K T : Type 0} (f : Filter V K T) where
     pub beginning : output ≡ take count whole
 
   -- what `FiltersText` means for an input in memory
-  pub record IsToldInMemory : Type 0 where
+  pub record FiltersInMemory : Type 0 where
     -- if neither the reader nor the writer fails
     pub ends : (input left output : List ℕ) (ended flushed : Bool) (answer : Result T MainFault)
         → FiltersText f (Some input) (Some left) ended 0 (Some []) (Some output) flushed 0 answer

@@ -9,7 +9,7 @@ ghost use Rattle.smx_run.specs.declared.run_fault.RunFault.TheVariants.{LongPage
 ghost use Rattle.smx_steps.specs.Pages.{IsOver};
 ghost use Rattle.smx_filters.specs.CheckText.{checking};
 ghost use Rattle.smx_filters.specs.DrawText.{drawing};
-ghost use Rattle.smx_filters.specs.InMemory.{IsToldInMemory};
+ghost use Rattle.smx_filters.specs.InMemory.{FiltersInMemory};
 ghost use Rattle.smx_filters.specs.ReplayText.{replaying};
 ghost use Rattle.smx_filters.specs.RunText.{IsWrittenFor, running};
 ghost use Rattle.smx_filters.specs.StepsText.{RefusesSteps, stepping};
@@ -20,12 +20,12 @@ ghost use Rattle.smx_filters.specs.TraceText.{tracing};
 /// writer fails has seen the end of the input, and has written a beginning of an output that is allowed. On success, the
 /// result of a check is the verdict, and that of every other filter only says that it is done.
 pub fn filters_end_in_memory()
-    ensures runs { (fronts : Bool) (workers : ℕ) → IsToldInMemory (running fronts workers) }
-    ensures checks { IsToldInMemory checking }
-    ensures replays { (at : Option ℕ) → IsToldInMemory (replaying at) }
-    ensures traces { (each : Bool) → IsToldInMemory (tracing each) }
-    ensures drawings { (form : Form) → IsToldInMemory (drawing form) }
-    ensures pages { IsToldInMemory stepping }
+    ensures runs { (fronts : Bool) (workers : ℕ) → FiltersInMemory (running fronts workers) }
+    ensures checks { FiltersInMemory checking }
+    ensures replays { (at : Option ℕ) → FiltersInMemory (replaying at) }
+    ensures traces { (each : Bool) → FiltersInMemory (tracing each) }
+    ensures drawings { (form : Form) → FiltersInMemory (drawing form) }
+    ensures pages { FiltersInMemory stepping }
 {}
 
 /// One worker writes only one transcript for given programs.
