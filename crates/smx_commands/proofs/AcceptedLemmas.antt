@@ -1,15 +1,11 @@
 -- Consequences of an accepted result.
-use Rattle.std.proofs.Common.{◌≡◌, ℕ, Bool, true, false, not, List, Option, Some, None, Result, Ok, refl, ap, arith}
+use Rattle.smx_commands.proofs.Common.{◌≡◌, ℕ, Bool, true, false, not, List, Option, Some, None, Result, refl, ap}
+use Rattle.smx_commands.proofs.Common.{arith, DriverSpec, Fault, StreamId, Configuration, is_mux, leaf_stream, refuse}
+use Rattle.smx_commands.proofs.Common.{exists, is_below}
+use Rattle.std.proofs.Common.{Ok}
 use Rattle.std.specs.Option.{ok_or}
-use Rattle.smx_types.specs.declared.driver.DriverSpec.{DriverSpec}
-use Rattle.smx_types.specs.declared.reply.Fault.{Fault}
 use Rattle.smx_types.specs.declared.reply.Fault.TheVariants.{BadDescriptor}
-use Rattle.smx_types.specs.declared.stream.StreamId.{StreamId}
-use Rattle.smx_model.specs.Configuration.{Configuration}
-use Rattle.smx_model.specs.DriverList.{is_mux}
-use Rattle.smx_model.specs.Lookups.{free_stream, leaf_stream, stream_of}
-use Rattle.smx_model.specs.Outcomes.{refuse}
-use Rattle.smx_model.specs.Standing.{exists, is_below}
+use Rattle.smx_model.specs.Lookups.{free_stream, stream_of}
 -- if a result is accepted, so is the look-up before it
 pub use Rattle.smx_model.proofs.LookupLemmas.{looked_up as bound}
 

@@ -1,31 +1,24 @@
 -- The streams that a close of descriptors touches, and its outcome.
-use Rattle.std.proofs.Common.{◌≡◌, ℕ, ◌+◌, ◌<◌, true, false, not, List, [], ◌∷◌, ◌++◌, filter, Some, None, Ok, refl, ap}
-use Rattle.std.proofs.Common.{◌∙◌, arith, rules}
-use Rattle.std.specs.List.{list_any}
-use Rattle.smx_types.specs.declared.driver.DriverSpec.{DriverSpec}
+use Rattle.smx_commands.proofs.Common.{◌≡◌, ℕ, ◌<◌, true, false, not, List, [], ◌∷◌, filter, Some, None, refl, ap}
+use Rattle.smx_commands.proofs.Common.{◌∙◌, arith, rules, list_any, DriverSpec, Reply, Descriptor, StreamId}
+use Rattle.smx_commands.proofs.Common.{Configuration, same_stream, after_sweep, serials_that_left, TellsExisting}
+use Rattle.smx_commands.proofs.Common.{configuration_of, Inside, Machine, TablesInvariant, machine_of, sweep_of_left}
+use Rattle.smx_commands.proofs.Common.{touched_beside, touched_by}
+use Rattle.std.proofs.Common.{◌+◌, ◌++◌, Ok}
 use Rattle.smx_types.specs.declared.limits.TheConstants.{MAX_DESCRIPTORS}
-use Rattle.smx_types.specs.declared.reply.Reply.{Reply}
 use Rattle.smx_types.specs.declared.reply.Reply.TheVariants.{Done}
-use Rattle.smx_types.specs.declared.stream.Descriptor.{Descriptor}
-use Rattle.smx_types.specs.declared.stream.StreamId.{StreamId}
-use Rattle.smx_model.specs.Configuration.{Configuration, is_fd, same_stream}
+use Rattle.smx_model.specs.Configuration.{is_fd}
 use Rattle.smx_model.specs.Hangups.{is_hung}
-use Rattle.smx_model.specs.Removal.{after_sweep, serials_that_left}
 use Rattle.smx_model.specs.Swept.{IsSwept}
 use Rattle.smx_model.proofs.DropLemmas.{done_idle}
 use Rattle.smx_model.proofs.TestLemmas.{any_push}
-use Rattle.smx_streams.specs.StreamTables.{StreamTable, HasOneLess, is_last, stream_at, without_fd, exists as is_there}
-use Rattle.smx_tables.specs.ExistingStreams.{TellsExisting}
-use Rattle.smx_tables.specs.ModelOfLists.{configuration_of}
+use Rattle.smx_streams.specs.StreamTables.{StreamTable, HasOneLess, is_last, stream_at, without_fd}
+use Rattle.smx_streams.specs.StreamTables.{exists as is_there}
 use Rattle.smx_tables.specs.TouchedStreams.{IsTouched, is_there_or_touched}
-use Rattle.smx_commands.specs.declared.tables.Tables.TheInside.{Inside}
 use Rattle.smx_commands.specs.Closing.{closing}
-use Rattle.smx_commands.specs.Machine.{Machine}
-use Rattle.smx_commands.specs.ModelOfTables.{TablesInvariant, machine_of}
 use Rattle.smx_commands.proofs.DoneLemmas.{swept_is}
 use Rattle.smx_commands.proofs.TablesLemmas.{accepted}
-use Rattle.smx_tables.proofs.HungLemmas.{sweep_of_left}
-use Rattle.smx_tables.proofs.TouchLemmas.{touched_beside, touched_by, touched_there}
+use Rattle.smx_tables.proofs.TouchLemmas.{touched_there}
 use Rattle.smx_tables.proofs.WatchLemmas.{listed_last}
 
 -- if the stream stays when one of its descriptors is closed, each stream that was in the table still is

@@ -1,28 +1,22 @@
 -- The table of streams answers an open or a dup as the command table requires.
-use Rattle.std.proofs.Common.{◌≡◌, ℕ, zero, suc, ◌<◌, Bool, true, false, not, List, [], ◌∷◌, length, map, find, Option}
-use Rattle.std.proofs.Common.{Some, None, Ok, Err, refl, sym, ap, subst, ◌∙◌, arith, inl, inr}
+use Rattle.smx_commands.proofs.Common.{◌≡◌, ℕ, ◌<◌, Bool, true, false, not, List, [], ◌∷◌, length, map, Option, Some}
+use Rattle.smx_commands.proofs.Common.{None, Err, refl, sym, ap, subst, ◌∙◌, arith, DriverSpec, StreamId, outcome}
+use Rattle.smx_commands.proofs.Common.{Configuration, minors_of, Outcome, exists, is_below, TellsExisting, Machine}
+use Rattle.std.proofs.Common.{zero, suc, find, Ok, inl, inr}
 use Rattle.std.specs.Prelude.{IsOk, nat_le, slice_index}
 use Rattle.std.specs.List.{range_with_len}
 use Rattle.std.proofs.lemmas.Bool.Decides.{nat_tests}
 use Rattle.std.specs.Option.{ok_or}
 use Rattle.smx_types.specs.declared.command.Command.TheVariants as command
-use Rattle.smx_types.specs.declared.driver.DriverSpec.{DriverSpec}
 use Rattle.smx_types.specs.declared.reply.Fault.TheVariants.{NoMinor, TooManyDescriptors}
 use Rattle.smx_types.specs.declared.reply.Reply.TheVariants.{Fd}
-use Rattle.smx_types.specs.declared.stream.StreamId.{StreamId}
-use Rattle.smx_model.specs.Commands.{outcome, with_fd}
-use Rattle.smx_model.specs.Configuration.{Configuration}
-use Rattle.smx_model.specs.DriverList.{minors_of}
+use Rattle.smx_model.specs.Commands.{with_fd}
 use Rattle.smx_model.specs.Lookups.{driver_of, free_fd, free_minor}
-use Rattle.smx_model.specs.Outcomes.{Outcome}
-use Rattle.smx_model.specs.Standing.{exists, is_below}
 use Rattle.smx_streams.specs.StreamTables.{Answer, StreamTable, IsRefused, is_in_range, clone_answer, minor_answer}
 use Rattle.smx_streams.specs.StreamTables.{least_fd, least_minor, exists as is_there}
 use Rattle.smx_streams.specs.declared.stream_fault.StreamFault.{StreamFault}
 use Rattle.smx_commands.specs.declared.step_error.StepError.{StepError}
 use Rattle.smx_commands.specs.declared.step_error.StepError.TheVariants as step_error
-use Rattle.smx_tables.specs.ExistingStreams.{TellsExisting}
-use Rattle.smx_commands.specs.Machine.{Machine}
 use Rattle.smx_commands.specs.Refinement.{HasOutcome}
 use Rattle.smx_commands.specs.StreamFaults.{as_step_error}
 

@@ -1,6 +1,8 @@
 -- The outcomes of changes after a sweep.
-use Rattle.std.proofs.Common.{◌≡◌, ℕ, Bool, true, false, ◌&&◌, not, eqb, List, [], filter, Ok, Err, refl, rules}
-use Rattle.std.specs.List.{list_any}
+use Rattle.smx_commands.proofs.Common.{◌≡◌, ℕ, Bool, true, false, ◌&&◌, not, eqb, List, [], filter, Err, refl, rules}
+use Rattle.smx_commands.proofs.Common.{list_any, StreamId, DriverSpec, Reply, done_outcome, outcome, Configuration}
+use Rattle.smx_commands.proofs.Common.{leaf_stream, serials_that_left, after_sweep, exists}
+use Rattle.std.proofs.Common.{Ok}
 use Rattle.smx_types.specs.declared.command.Command.TheVariants as command
 use Rattle.smx_types.specs.declared.command.Which.{Which}
 use Rattle.smx_types.specs.declared.command.Which.TheVariants as which
@@ -8,17 +10,11 @@ use Rattle.smx_types.specs.declared.link.Binding.{Binding}
 use Rattle.smx_types.specs.declared.link.LinkKind.TheVariants as kind
 use Rattle.smx_types.specs.declared.link.Route.{Route}
 use Rattle.smx_types.specs.declared.reply.Fault.TheVariants.{Unbound, Unrouted}
-use Rattle.smx_types.specs.declared.stream.StreamId.{StreamId}
-use Rattle.smx_types.specs.declared.driver.DriverSpec.{DriverSpec}
-use Rattle.smx_types.specs.declared.reply.Reply.{Reply}
 use Rattle.smx_types.specs.declared.reply.Reply.TheVariants.{Done}
-use Rattle.smx_model.specs.Commands.{done_outcome, outcome}
-use Rattle.smx_model.specs.Configuration.{Configuration, bind_before, route_before}
+use Rattle.smx_model.specs.Configuration.{bind_before, route_before}
 use Rattle.smx_model.specs.Hangups.{with_hung}
 use Rattle.smx_model.specs.Ordered.{with_inserted}
-use Rattle.smx_model.specs.Lookups.{leaf_stream, mux_stream}
-use Rattle.smx_model.specs.Removal.{serials_that_left, after_sweep}
-use Rattle.smx_model.specs.Standing.{exists}
+use Rattle.smx_model.specs.Lookups.{mux_stream}
 use Rattle.smx_model.specs.Swept.{IsSwept}
 use Rattle.smx_addresses.specs.BindingLists.{is_taken}
 use Rattle.smx_model.proofs.DropLemmas.{done_idle, hung_swept, mux_exists}

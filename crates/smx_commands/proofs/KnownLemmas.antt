@@ -1,16 +1,14 @@
 -- A stream that exists has a driver and a minor that the list of drivers has.
-use Rattle.std.proofs.Common.{◌≡◌, ℕ, ◌<◌, ◌≤◌, true, false, List, length, Ok, subst, arith, inl, inr, rules}
+use Rattle.smx_commands.proofs.Common.{◌≡◌, ℕ, ◌<◌, ◌≤◌, true, false, List, length, subst, arith, rules, DriverSpec}
+use Rattle.smx_commands.proofs.Common.{Descriptor, StreamId, Configuration, same_stream, minors_of, IsKnown, is_below}
+use Rattle.smx_commands.proofs.Common.{exists}
+use Rattle.std.proofs.Common.{Ok, inl, inr}
 use Rattle.std.specs.List.{All}
 use Rattle.std.proofs.lemmas.Bool.{or_cases}
 use Rattle.std.proofs.lemmas.List.Elements.{recursion_from_All}
-use Rattle.smx_types.specs.declared.driver.DriverSpec.{DriverSpec}
-use Rattle.smx_types.specs.declared.stream.Descriptor.{Descriptor}
-use Rattle.smx_types.specs.declared.stream.StreamId.{StreamId}
-use Rattle.smx_model.specs.Configuration.{Configuration, same_stream}
-use Rattle.smx_model.specs.DriverList.{minors_of}
-use Rattle.smx_model.specs.KnownStreams.{IsKnown, AreStreamsKnown}
+use Rattle.smx_model.specs.KnownStreams.{AreStreamsKnown}
 use Rattle.smx_model.specs.Lookups.{stream_of}
-use Rattle.smx_model.specs.Standing.{is_below, is_named, exists}
+use Rattle.smx_model.specs.Standing.{is_named}
 use Rattle.smx_model.proofs.TestLemmas.{any_found}
 use Rattle.smx_tables.proofs.AboveLemmas.{stream_is}
 use Rattle.smx_tables.proofs.ExistingLemmas.{named_stream, stands_there}

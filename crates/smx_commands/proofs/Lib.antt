@@ -1,3 +1,4 @@
+pub mod Common
 pub mod DescriptorLemmas
 pub mod DroppedLemmas
 pub mod ReplyLemmas

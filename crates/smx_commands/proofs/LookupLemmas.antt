@@ -1,16 +1,11 @@
 -- Look-ups of a device's stream, and whether a search finds an item.
-use Rattle.std.proofs.Common.{◌≡◌, ℕ, Bool, true, false, not, List, find, Some, None, Ok, Err, refl, sym, ap}
-use Rattle.std.proofs.Common.{◌∙◌}
-use Rattle.std.specs.List.{list_any}
+use Rattle.smx_commands.proofs.Common.{◌≡◌, ℕ, Bool, true, false, not, List, Some, None, Err, refl, sym, ap, ◌∙◌}
+use Rattle.smx_commands.proofs.Common.{list_any, DriverSpec, Fault, Configuration, is_mux, leaf_stream, refuse}
+use Rattle.smx_commands.proofs.Common.{exists}
+use Rattle.std.proofs.Common.{find, Ok}
 use Rattle.std.specs.Option.{is_some}
-use Rattle.smx_types.specs.declared.driver.DriverSpec.{DriverSpec}
-use Rattle.smx_types.specs.declared.reply.Fault.{Fault}
 use Rattle.smx_types.specs.declared.reply.Fault.TheVariants.{NoMinor}
-use Rattle.smx_model.specs.Configuration.{Configuration}
-use Rattle.smx_model.specs.DriverList.{is_mux}
-use Rattle.smx_model.specs.Lookups.{driver_of, leaf_stream}
-use Rattle.smx_model.specs.Outcomes.{refuse}
-use Rattle.smx_model.specs.Standing.{exists}
+use Rattle.smx_model.specs.Lookups.{driver_of}
 use Rattle.smx_links.proofs.LowerLemmas.{any_found as is_found}
 
 -- a condition whose negation was not refused holds

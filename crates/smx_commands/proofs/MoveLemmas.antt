@@ -1,14 +1,11 @@
 -- The table of queues after a move.
-use Rattle.std.proofs.Common.{◌≡◌, Option, Some, None, refl, ap, arith}
+use Rattle.smx_commands.proofs.Common.{◌≡◌, Option, Some, None, refl, ap, arith, Place, Machine, TablesInvariant}
+use Rattle.smx_commands.proofs.Common.{machine_of, Inside}
 use Rattle.std.specs.Prelude.{IsSome}
 use Rattle.smx_types.specs.declared.message.Message.{Message}
-use Rattle.smx_types.specs.declared.stream.Place.{Place}
 use Rattle.smx_model.specs.Queues.{first_message}
 use Rattle.smx_model.specs.Settling.{after_move_between}
 use Rattle.smx_queues.specs.FlowTables.{FlowLists, after_arrival, after_leaving}
-use Rattle.smx_commands.specs.Machine.{Machine}
-use Rattle.smx_commands.specs.ModelOfTables.{TablesInvariant, machine_of}
-use Rattle.smx_commands.specs.declared.tables.Tables.TheInside.{Inside}
 
 -- the first message of a place, if there is one, has moved to the end of the other place
 abbrev pub IsMoved : FlowLists → FlowLists → Place → Place → Type 0

@@ -1,11 +1,8 @@
 -- The numbers of places are those of the table of queues.
-use Rattle.std.proofs.Common.{◌≡◌, ℕ, ◌<◌, length, Some, arith}
+use Rattle.smx_commands.proofs.Common.{◌≡◌, ℕ, ◌<◌, length, Some, arith, Place, Machine, TablesInvariant, machine_of}
+use Rattle.smx_commands.proofs.Common.{Inside}
 use Rattle.std.specs.Prelude.{slice_get}
-use Rattle.smx_types.specs.declared.stream.Place.{Place}
 use Rattle.smx_queues.specs.PlaceLists.{places_of}
-use Rattle.smx_commands.specs.Machine.{Machine}
-use Rattle.smx_commands.specs.ModelOfTables.{TablesInvariant, machine_of}
-use Rattle.smx_commands.specs.declared.tables.Tables.TheInside.{Inside}
 
 -- the table of queues is over the drivers
 pub queue_drivers : (t : Inside) (m : Machine) → TablesInvariant t → machine_of t ≡ m

@@ -1,16 +1,14 @@
 -- Replies without bytes and serials, and the room for them.
-use Rattle.std.proofs.Common.{◌≡◌, ℕ, Bool, true, false, not, List, [], ◌∷◌, Result, Ok, Err, refl, rules, arith}
+use Rattle.smx_commands.proofs.Common.{◌≡◌, ℕ, Bool, true, false, not, List, [], ◌∷◌, Result, Err, refl, rules, arith}
+use Rattle.smx_commands.proofs.Common.{DriverSpec, Fault, Reply, outcome, Configuration, Outcome}
+use Rattle.std.proofs.Common.{Ok}
 use Rattle.std.specs.Prelude.{◌≢◌, IsTrue}
 use Rattle.std.proofs.lemmas.Bool.{not-true}
 use Rattle.smx_types.specs.declared.command.Command.{Command}
 use Rattle.smx_types.specs.declared.command.Command.TheVariants as command
-use Rattle.smx_types.specs.declared.driver.DriverSpec.{DriverSpec}
-use Rattle.smx_types.specs.declared.reply.Fault.{Fault}
-use Rattle.smx_types.specs.declared.reply.Reply.{Reply}
-use Rattle.smx_model.specs.Commands.{after_outcome, outcome, step}
-use Rattle.smx_model.specs.Configuration.{Configuration}
+use Rattle.smx_model.specs.Commands.{after_outcome, step}
 use Rattle.smx_model.specs.LawfulHistories.{dropped_by, may_drop}
-use Rattle.smx_model.specs.Outcomes.{Outcome, ◌>>=◌}
+use Rattle.smx_model.specs.Outcomes.{◌>>=◌}
 use Rattle.smx_commands.specs.SecondReplies.{HasRoomFor, HasRoomForReply, bytes_of}
 use Rattle.smx_commands.specs.declared.second_reply.ReplyRoom.{ReplyRoom}
 

@@ -1,15 +1,13 @@
 -- The streams at which messages are sent and taken are known.
-use Rattle.std.proofs.Common.{◌≡◌, ℕ, List, Result, Ok, Err, refl, ◌∙◌, arith}
+use Rattle.smx_commands.proofs.Common.{◌≡◌, ℕ, List, Result, Err, refl, ◌∙◌, arith, DriverSpec, Fault, StreamId}
+use Rattle.smx_commands.proofs.Common.{Configuration, IsKnown, leaf_stream, refuse}
+use Rattle.std.proofs.Common.{Ok}
 use Rattle.std.specs.Prelude.{IfOk}
-use Rattle.smx_types.specs.declared.driver.DriverSpec.{DriverSpec}
-use Rattle.smx_types.specs.declared.reply.Fault.{Fault}
 use Rattle.smx_types.specs.declared.reply.Fault.TheVariants.{HungUp}
-use Rattle.smx_types.specs.declared.stream.StreamId.{StreamId}
-use Rattle.smx_model.specs.Configuration.{Configuration}
 use Rattle.smx_model.specs.Hangups.{is_hung}
-use Rattle.smx_model.specs.KnownStreams.{AreStreamsKnown, IsKnown}
-use Rattle.smx_model.specs.Lookups.{free_stream, leaf_stream, live_leaf, live_stream}
-use Rattle.smx_model.specs.Outcomes.{◌>>=◌, refuse}
+use Rattle.smx_model.specs.KnownStreams.{AreStreamsKnown}
+use Rattle.smx_model.specs.Lookups.{free_stream, live_leaf, live_stream}
+use Rattle.smx_model.specs.Outcomes.{◌>>=◌}
 use Rattle.smx_commands.proofs.AcceptedLemmas.{bound, free_says, leaf_says}
 use Rattle.smx_commands.proofs.KnownLemmas.{exists_known, stream_known}
 

@@ -1,16 +1,10 @@
 -- The value of tables, and their fields.
-use Rattle.smx_commands.specs.declared.tables.Tables.TheInside.{Inside}
-use Rattle.std.proofs.Common.{◌≡◌, ℕ, List, length, map, Ok, ap, subst, sym, ◌∙◌, arith}
-use Rattle.smx_types.specs.declared.driver.DriverSpec.{DriverSpec}
-use Rattle.smx_types.specs.declared.reply.Reply.{Reply}
-use Rattle.smx_model.specs.Configuration.{Configuration}
+use Rattle.smx_commands.proofs.Common.{Inside, ◌≡◌, ℕ, List, length, map, ap, subst, sym, ◌∙◌, arith, DriverSpec}
+use Rattle.smx_commands.proofs.Common.{Reply, Configuration, Outcome, TellsExisting, configuration_of, Machine}
+use Rattle.smx_commands.proofs.Common.{machine_of, TablesInvariant}
+use Rattle.std.proofs.Common.{Ok}
 use Rattle.smx_model.specs.KeptConfigurations.{IsSound}
-use Rattle.smx_model.specs.Outcomes.{Outcome}
-use Rattle.smx_tables.specs.ExistingStreams.{TellsExisting}
-use Rattle.smx_tables.specs.ModelOfLists.{configuration_of}
 use Rattle.smx_tables.proofs.ExistingLemmas.{swept_is_linked, tells_existing}
-use Rattle.smx_commands.specs.Machine.{Machine}
-use Rattle.smx_commands.specs.ModelOfTables.{machine_of, TablesInvariant}
 
 -- if the value is sound, the fields are
 pub sound_inside : (t : Inside) (m : Machine) → machine_of t ≡ m → IsSound m.drivers m.configuration

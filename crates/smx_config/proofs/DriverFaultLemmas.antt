@@ -1,13 +1,12 @@
 -- A list of drivers has one fault at most.
-use Rattle.std.proofs.Common.{◌≡◌, ℕ, ◌<◌, ltb, List, length, get_or, take, Ok, Err, Some, refl, sym, ap, subst, ◌∙◌}
-use Rattle.std.proofs.Common.{arith, inl, inr}
+use Rattle.smx_config.proofs.Common.{◌≡◌, ℕ, ◌<◌, List, length, take, Ok, Some, refl, sym, ap, subst, ◌∙◌, arith, inl}
+use Rattle.smx_config.proofs.Common.{inr, cases_Bool, same_Some, DriverSpec}
+use Rattle.std.proofs.Common.{ltb, get_or, Err}
 use Rattle.std.specs.Prelude.{Any, slice_get}
-use Rattle.std.proofs.lemmas.Bool.{cases_Bool}
 use Rattle.std.proofs.lemmas.Bool.Decides.{nat_tests}
 use Rattle.std.proofs.lemmas.List.{length-take-le, get_or-take, take-take}
-use Rattle.std.proofs.lemmas.Option.{same_Some, slice_get_within, slice_get-get_or}
+use Rattle.std.proofs.lemmas.Option.{slice_get_within, slice_get-get_or}
 use Rattle.smx_types.specs.Drivers.{spec_check}
-use Rattle.smx_types.specs.declared.driver.DriverSpec.{DriverSpec}
 use Rattle.smx_types.specs.declared.driver.SpecFault.{SpecFault}
 use Rattle.smx_model.specs.DriverList.{IsDriverList}
 use Rattle.smx_config.specs.DriverFaults.{IsFirstBad, RefusesDrivers}

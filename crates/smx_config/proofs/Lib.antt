@@ -1,3 +1,4 @@
+pub mod Common
 pub mod DriverFaultLemmas
 pub mod VerdictLemmas
 pub mod RunMarkLemmas

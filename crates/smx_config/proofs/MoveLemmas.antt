@@ -1,16 +1,9 @@
 -- A move of a first message to its next place, and the marks after it.
-use Rattle.std.proofs.Common.{◌≡◌, List, Some, arith}
-use Rattle.smx_types.specs.declared.driver.DriverSpec.{DriverSpec}
-use Rattle.smx_types.specs.declared.stream.Place.{Place}
-use Rattle.smx_model.specs.Configuration.{Configuration, same_place}
-use Rattle.smx_model.specs.KeptConfigurations.{IsSound}
-use Rattle.smx_model.specs.Settling.{after_move, after_move_between, next_open_place}
-use Rattle.smx_model.specs.RunMarks.{turned_by_move}
+use Rattle.smx_config.proofs.Common.{◌≡◌, List, Some, arith, DriverSpec, Place, Configuration, same_place, IsSound}
+use Rattle.smx_config.proofs.Common.{after_move, next_open_place, turned_by_move, Machine, AreMarks, IsWoken, Marks}
+use Rattle.smx_model.specs.Settling.{after_move_between}
 use Rattle.smx_model.proofs.FeederLemmas.{moved_frees}
 use Rattle.smx_model.proofs.TurningLemmas.{turns_moved}
-use Rattle.smx_commands.specs.Machine.{Machine}
-use Rattle.smx_config.specs.Marking.{AreMarks, IsWoken}
-use Rattle.smx_config.specs.declared.marks.Marks.{Marks}
 use Rattle.smx_config.proofs.WakeLemmas.{marks_after}
 use Rattle.smx_config.proofs.WokenLemmas.{turned_is}
 

@@ -1,29 +1,25 @@
 -- The least number with a run mark, and the marks after its place turned out not to be movable.
-use Rattle.std.proofs.Common.{◌≡◌, ℕ, suc, ◌<◌, Bool, true, false, cond, List, length, set, Option, Some, None, refl}
-use Rattle.std.proofs.Common.{sym, ap, ◌∙◌, subst, inl, inr, arith}
+use Rattle.smx_config.proofs.Common.{◌≡◌, ℕ, suc, ◌<◌, Bool, true, false, List, length, Option, Some, None, refl, sym}
+use Rattle.smx_config.proofs.Common.{ap, ◌∙◌, subst, inl, inr, arith, cases_Bool, false≢true, same_Some, DriverSpec}
+use Rattle.smx_config.proofs.Common.{Message, Place, Configuration, IsSound, IsKnown, first_message, is_full, next_of}
+use Rattle.smx_config.proofs.Common.{next_of_first, next_open_place, none_is_least, BitTable, has_bit, places_of, at}
+use Rattle.smx_config.proofs.Common.{Marks, AreMarks, IsAt}
+use Rattle.std.proofs.Common.{cond, set}
 use Rattle.std.specs.Prelude.{◌≢◌, IfNone}
 use Rattle.std.specs.Option.{is_some}
-use Rattle.std.proofs.lemmas.Bool.{cases_Bool, cases_eq, false≢true}
+use Rattle.std.proofs.lemmas.Bool.{cases_eq}
 use Rattle.std.proofs.lemmas.List.{get_or-set_other, get_or-set_same, length-set}
-use Rattle.std.proofs.lemmas.Option.{none-some, same_Some}
-use Rattle.smx_types.specs.declared.driver.DriverSpec.{DriverSpec}
-use Rattle.smx_types.specs.declared.message.Message.{Message}
-use Rattle.smx_types.specs.declared.stream.Place.{Place}
-use Rattle.smx_model.specs.Configuration.{Configuration, empty, place_before}
-use Rattle.smx_model.specs.KeptConfigurations.{IsSound}
-use Rattle.smx_model.specs.KnownStreams.{IsKnown}
-use Rattle.smx_model.specs.Queues.{first_message, is_full}
-use Rattle.smx_model.specs.RunMarks.{AreMarked, next_of, next_of_first}
-use Rattle.smx_model.specs.Settling.{◌>>=◌, IsSettled, is_movable, least_movable, next_open_place}
+use Rattle.std.proofs.lemmas.Option.{none-some}
+use Rattle.smx_model.specs.Configuration.{empty, place_before}
+use Rattle.smx_model.specs.RunMarks.{AreMarked}
+use Rattle.smx_model.specs.Settling.{◌>>=◌, IsSettled, is_movable, least_movable}
 use Rattle.smx_model.proofs.KnownPlaceLemmas.{held_known}
-use Rattle.smx_model.proofs.LeastMarkedLemmas.{marked_is_least, none_is_least}
-use Rattle.smx_queues.specs.Bits.{BitTable, has_bit, has_bit_but}
-use Rattle.smx_queues.specs.PlaceLists.{places_of}
-use Rattle.smx_queues.specs.Rings.{RingTable, at}
+use Rattle.smx_model.proofs.LeastMarkedLemmas.{marked_is_least}
+use Rattle.smx_queues.specs.Bits.{has_bit_but}
+use Rattle.smx_queues.specs.Rings.{RingTable}
 use Rattle.smx_queues.proofs.PlacesOfLemmas.{before_lower, known_number}
-use Rattle.smx_config.specs.declared.marks.Marks.{Marks}
 use Rattle.smx_config.specs.declared.settling.Move.{Move}
-use Rattle.smx_config.specs.Marking.{AreFor, AreMarks, HasNoBit, IsAt}
+use Rattle.smx_config.specs.Marking.{AreFor, HasNoBit}
 use Rattle.smx_config.specs.Moves.{IsLeastMove}
 use Rattle.smx_config.specs.Wakes.{everywhere}
 use Rattle.smx_config.proofs.PlaceNumberLemmas.{one_place}

@@ -1,26 +1,20 @@
 -- The next place of a message is another one that the drivers have.
-use Rattle.std.proofs.Common.{◌≡◌, ◌≢◌, ℕ, Bool, true, false, ◌&&◌, eqb, cond, List, [], ◌∷◌, find, Option, Some, None}
-use Rattle.std.proofs.Common.{refl, sym, ap, ◌∙◌, subst, arith, inl, inr}
-use Rattle.std.specs.Prelude.{IsSome}
-use Rattle.std.specs.List.{Contains, list_any}
-use Rattle.std.proofs.lemmas.Bool.{and_parts, cases_Bool, eqb-true, ne_eqb}
+use Rattle.smx_config.proofs.Common.{◌≡◌, ℕ, Bool, true, false, ◌&&◌, eqb, List, [], ◌∷◌, Option, Some, None, refl}
+use Rattle.smx_config.proofs.Common.{sym, ap, ◌∙◌, subst, arith, inl, inr, IsSome, list_any, cases_Bool, DriverSpec}
+use Rattle.smx_config.proofs.Common.{Link, Place, StreamId, Configuration, same_place, same_stream, IsSound, IsKnown}
+use Rattle.smx_config.proofs.Common.{first_message, is_full, next_open_place}
+use Rattle.std.proofs.Common.{◌≢◌, cond, find}
+use Rattle.std.specs.List.{Contains}
+use Rattle.std.proofs.lemmas.Bool.{and_parts, eqb-true, ne_eqb}
 use Rattle.std.proofs.lemmas.List.Elements.{Contains-append_right, recursion_from_All}
-use Rattle.smx_types.specs.declared.driver.DriverSpec.{DriverSpec}
 use Rattle.smx_types.specs.declared.link.Binding.{Binding}
-use Rattle.smx_types.specs.declared.link.Link.{Link}
 use Rattle.smx_types.specs.declared.link.Route.{Route}
-use Rattle.smx_types.specs.declared.stream.Place.{Place}
 use Rattle.smx_types.specs.declared.stream.Side.{Side}
 use Rattle.smx_types.specs.declared.stream.Side.TheVariants as side
-use Rattle.smx_types.specs.declared.stream.StreamId.{StreamId}
-use Rattle.smx_model.specs.Configuration.{Configuration, same_place, same_stream}
 use Rattle.smx_model.specs.DriverList.{is_mux}
 use Rattle.smx_model.specs.Hangups.{is_hung}
-use Rattle.smx_model.specs.KeptConfigurations.{IsSound}
-use Rattle.smx_model.specs.KnownStreams.{IsKnown}
 use Rattle.smx_model.specs.Paths.{HasNoCycle}
-use Rattle.smx_model.specs.Queues.{first_message, is_full}
-use Rattle.smx_model.specs.Settling.{◌>>=◌, live_write_side, next_open_place, next_place, place_above, place_below}
+use Rattle.smx_model.specs.Settling.{◌>>=◌, live_write_side, next_place, place_above, place_below}
 use Rattle.smx_tables.proofs.AboveLemmas.{some_with_id, stream_is}
 use Rattle.smx_tables.proofs.FoundLemmas.{bound, found_has, found_passes, some_is}
 

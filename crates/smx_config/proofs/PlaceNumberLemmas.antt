@@ -1,16 +1,12 @@
 -- Places and their numbers.
-use Rattle.std.proofs.Common.{◌≡◌, ℕ, zero, suc, ◌<◌, true, List, [], ◌∷◌, length, Option, None, Some, refl, sym, subst}
-use Rattle.std.proofs.Common.{arith}
-use Rattle.std.specs.Prelude.{IsSome, slice_get}
-use Rattle.std.proofs.lemmas.Option.{same_Some, slice_get_within}
-use Rattle.smx_types.specs.declared.driver.DriverSpec.{DriverSpec}
-use Rattle.smx_types.specs.declared.stream.Place.{Place}
-use Rattle.smx_model.specs.Configuration.{same_place}
-use Rattle.smx_model.specs.KnownStreams.{IsKnown}
-use Rattle.smx_queues.specs.PlaceLists.{places_of}
-use Rattle.smx_queues.proofs.PlaceLemmas.{place_is}
+use Rattle.smx_config.proofs.Common.{◌≡◌, ℕ, suc, ◌<◌, true, List, [], ◌∷◌, length, Option, None, Some, refl, sym}
+use Rattle.smx_config.proofs.Common.{subst, arith, IsSome, same_Some, DriverSpec, Place, same_place, IsKnown}
+use Rattle.smx_config.proofs.Common.{places_of, place_is, IsAt}
+use Rattle.std.proofs.Common.{zero}
+use Rattle.std.specs.Prelude.{slice_get}
+use Rattle.std.proofs.lemmas.Option.{slice_get_within}
 use Rattle.smx_queues.proofs.PlacesOfLemmas.{number_known, same_number}
-use Rattle.smx_config.specs.Marking.{IsAt, IsNumber}
+use Rattle.smx_config.specs.Marking.{IsNumber}
 
 -- the number of this place is the number of some place
 pub at_number : (drivers : List DriverSpec) (n : ℕ) (p : Place) → IsAt drivers n p → IsNumber drivers n

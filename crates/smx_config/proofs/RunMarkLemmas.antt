@@ -1,23 +1,19 @@
 -- Places that are marked, one after another.
-use Rattle.std.proofs.Common.{◌≡◌, ℕ, ◌<◌, Bool, true, false, ◌&&◌, eqb, List, [], ◌∷◌, None, refl, sym, ap, ◌∙◌, subst}
-use Rattle.std.proofs.Common.{arith, inl, inr}
+use Rattle.smx_config.proofs.Common.{◌≡◌, ℕ, ◌<◌, Bool, true, false, ◌&&◌, eqb, List, [], ◌∷◌, None, refl, sym, ap}
+use Rattle.smx_config.proofs.Common.{◌∙◌, subst, arith, inl, inr, list_any, cases_Bool, false≢true, Link, Place}
+use Rattle.smx_config.proofs.Common.{DriverSpec, StreamId, Configuration, same_place, same_stream, first_message}
+use Rattle.smx_config.proofs.Common.{BitTable, has_bit, IsAt, IsMarkedWhere}
 use Rattle.std.specs.Prelude.{nat_lt}
-use Rattle.std.specs.List.{All, AllByRecursion, list_any}
-use Rattle.std.proofs.lemmas.Bool.{and_parts, cases_Bool, eqb-true, false≢true, lt-ltb}
+use Rattle.std.specs.List.{All, AllByRecursion}
+use Rattle.std.proofs.lemmas.Bool.{and_parts, eqb-true, lt-ltb}
 use Rattle.std.proofs.lemmas.List.Elements.{recursion_from_All}
-use Rattle.smx_types.specs.declared.link.Link.{Link}
-use Rattle.smx_types.specs.declared.stream.Place.{Place}
-use Rattle.smx_types.specs.declared.driver.DriverSpec.{DriverSpec}
 use Rattle.smx_types.specs.declared.stream.Side.{Side}
-use Rattle.smx_types.specs.declared.stream.StreamId.{StreamId}
-use Rattle.smx_model.specs.Configuration.{Configuration, QueuedMessage, same_place, same_side, same_stream}
+use Rattle.smx_model.specs.Configuration.{QueuedMessage, same_side}
 use Rattle.smx_model.specs.DriverList.{minors_of}
 use Rattle.smx_model.specs.Paths.{reaches}
-use Rattle.smx_model.specs.Queues.{first_message}
 use Rattle.smx_model.specs.RunMarks.{asks_up, is_below_driver}
 use Rattle.smx_links.specs.Masks.{IsWithin}
-use Rattle.smx_queues.specs.Bits.{BitTable, has_bit}
-use Rattle.smx_config.specs.Marking.{IsAt, IsMarkedWhere, asks_at, asks_between}
+use Rattle.smx_config.specs.Marking.{asks_at, asks_between}
 use Rattle.smx_queues.proofs.PlacesOfLemmas.{number_known}
 use Rattle.smx_config.proofs.PlaceNumberLemmas.{one_number}
 

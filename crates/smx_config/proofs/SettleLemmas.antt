@@ -1,10 +1,8 @@
 -- Moves, one after another.
-use Rattle.std.proofs.Common.{◌≡◌, ℕ, zero, suc, ◌-◌, ◌<◌, List, Some, refl, arith}
-use Rattle.smx_types.specs.declared.driver.DriverSpec.{DriverSpec}
-use Rattle.smx_types.specs.declared.stream.Place.{Place}
-use Rattle.smx_model.specs.Configuration.{Configuration}
-use Rattle.smx_commands.specs.Machine.{Machine}
-use Rattle.smx_model.specs.Settling.{least_movable, after_move, after_settling_within}
+use Rattle.smx_config.proofs.Common.{◌≡◌, ℕ, suc, ◌<◌, List, Some, refl, arith, DriverSpec, Place, Configuration}
+use Rattle.smx_config.proofs.Common.{Machine, after_move}
+use Rattle.std.proofs.Common.{zero, ◌-◌}
+use Rattle.smx_model.specs.Settling.{least_movable, after_settling_within}
 use Rattle.smx_model.proofs.LeastMarkedLemmas.{settling_moves}
 
 -- settling is the move from the least movable place, and then settling with one move less

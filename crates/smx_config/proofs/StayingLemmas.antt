@@ -1,25 +1,18 @@
 -- Places from which no message moves on: the read side of a stream that is not linked below, and the write side of a
 -- leaf driver's stream. So if a message was read or transmitted, the messages after it still don't move on.
-use Rattle.std.proofs.Common.{◌≡◌, ℕ, Bool, true, false, List, [], ◌∷◌, find, None, Some, Ok, refl, arith}
-use Rattle.std.specs.List.{list_any}
+use Rattle.smx_config.proofs.Common.{◌≡◌, ℕ, Bool, true, false, List, [], ◌∷◌, None, Some, Ok, refl, arith, list_any}
+use Rattle.smx_config.proofs.Common.{DriverSpec, Link, Message, Reply, Place, StreamId, outcome, Configuration}
+use Rattle.smx_config.proofs.Common.{same_place, next_of, next_of_first, place_is}
+use Rattle.std.proofs.Common.{find}
 use Rattle.smx_types.specs.declared.command.Command.TheVariants as command
-use Rattle.smx_types.specs.declared.driver.DriverSpec.{DriverSpec}
-use Rattle.smx_types.specs.declared.link.Link.{Link}
-use Rattle.smx_types.specs.declared.message.Message.{Message}
-use Rattle.smx_types.specs.declared.reply.Reply.{Reply}
-use Rattle.smx_types.specs.declared.stream.Place.{Place}
 use Rattle.smx_types.specs.declared.stream.Side.TheVariants as side
-use Rattle.smx_types.specs.declared.stream.StreamId.{StreamId}
-use Rattle.smx_model.specs.Commands.{outcome}
-use Rattle.smx_model.specs.Configuration.{Configuration, same_place, read_side, write_side}
+use Rattle.smx_model.specs.Configuration.{read_side, write_side}
 use Rattle.smx_model.specs.DriverList.{is_mux}
 use Rattle.smx_model.specs.Lookups.{free_stream, live_leaf}
-use Rattle.smx_model.specs.RunMarks.{next_of, next_of_first}
 use Rattle.smx_model.specs.Standing.{is_below}
 use Rattle.smx_model.specs.TurnedPlaces.{of_stream}
 use Rattle.smx_commands.proofs.AcceptedLemmas.{bound, free_says, leaf_says}
 use Rattle.smx_config.proofs.WayLemmas.{read_keeps}
-use Rattle.smx_queues.proofs.PlaceLemmas.{place_is}
 
 -- ---- what an accepted lookup says
 

@@ -1,24 +1,19 @@
 -- The places that wait for a place that is no longer full, and the marks that a change keeps.
-use Rattle.std.proofs.Common.{◌≡◌, ℕ, suc, ◌<◌, Bool, true, false, not, List, length, set, Some, sym, ap, ◌∙◌, subst}
-use Rattle.std.proofs.Common.{arith, inl, inr}
+use Rattle.smx_config.proofs.Common.{◌≡◌, ℕ, suc, ◌<◌, Bool, true, false, List, length, Some, sym, ap, ◌∙◌, subst}
+use Rattle.smx_config.proofs.Common.{arith, inl, inr, cases_Bool, false≢true, DriverSpec, Place, Configuration}
+use Rattle.smx_config.proofs.Common.{same_place, is_full, next_of_first, BitTable, has_bit, at, place_is, AreKept}
+use Rattle.smx_config.proofs.Common.{AreMarks, IsAt, IsMarkedWhere, IsWoken, IsFullAt, Marks}
+use Rattle.std.proofs.Common.{not, set}
 use Rattle.std.specs.Prelude.{◌≢◌, ◌⊎◌}
-use Rattle.std.proofs.lemmas.Bool.{and_from, cases_Bool, cases_eq, false≢true, ne_eqb}
+use Rattle.std.proofs.lemmas.Bool.{and_from, cases_eq, ne_eqb}
 use Rattle.std.proofs.lemmas.List.{get_or-set_other, get_or-set_same, length-set}
 use Rattle.std.proofs.lemmas.Option.{none-some}
-use Rattle.smx_types.specs.declared.driver.DriverSpec.{DriverSpec}
-use Rattle.smx_types.specs.declared.stream.Place.{Place}
-use Rattle.smx_model.specs.Configuration.{Configuration, same_place}
 use Rattle.smx_model.specs.FreedPlaces.{FreesOnly}
-use Rattle.smx_model.specs.Queues.{is_full}
-use Rattle.smx_model.specs.RunMarks.{TurnsOnly, either, next_of_first}
-use Rattle.smx_queues.specs.Bits.{BitTable, has_bit, has_bit_but}
-use Rattle.smx_queues.specs.Rings.{RingTable, at}
-use Rattle.smx_queues.proofs.PlaceLemmas.{place_is}
-use Rattle.smx_config.specs.Marking.{AreKept, AreMarks, AreWaitersMarked, IsAt, IsListed, IsMarkedWhere, IsNotedFor}
-use Rattle.smx_config.specs.Marking.{IsReleased, IsWoken}
-use Rattle.smx_config.specs.Moves.{IsFullAt}
+use Rattle.smx_model.specs.RunMarks.{TurnsOnly, either}
+use Rattle.smx_queues.specs.Bits.{has_bit_but}
+use Rattle.smx_queues.specs.Rings.{RingTable}
+use Rattle.smx_config.specs.Marking.{AreWaitersMarked, IsListed, IsNotedFor, IsReleased}
 use Rattle.smx_config.specs.Wakes.{everywhere}
-use Rattle.smx_config.specs.declared.marks.Marks.{Marks}
 use Rattle.smx_config.proofs.NextMoveLemmas.{next_has_message, with_run}
 use Rattle.smx_config.proofs.PlaceNumberLemmas.{one_number}
 

@@ -1,32 +1,23 @@
 -- Commands and moves that leave the next places of messages as they are, and the hops after them.
-use Rattle.std.proofs.Common.{◌≡◌, ℕ, ◌<◌, Bool, true, List, length, get_or, Option, None, Some, Ok, sym, ap, ◌∙◌}
-use Rattle.std.proofs.Common.{subst, arith}
-use Rattle.std.specs.Prelude.{IfSome, IsSome}
-use Rattle.std.proofs.lemmas.Bool.{false≢true}
+use Rattle.smx_config.proofs.Common.{◌≡◌, ℕ, ◌<◌, Bool, true, List, length, Option, None, Some, Ok, sym, ap, ◌∙◌}
+use Rattle.smx_config.proofs.Common.{subst, arith, IsSome, false≢true, DriverSpec, Message, Reply, Place, StreamId}
+use Rattle.smx_config.proofs.Common.{outcome, Configuration, first_message, next_of, after_move, places_of, IsAt}
+use Rattle.smx_config.proofs.Common.{IsNextOf, AreHops}
+use Rattle.std.proofs.Common.{get_or}
+use Rattle.std.specs.Prelude.{IfSome}
 use Rattle.smx_types.specs.declared.command.Command.{Command}
 use Rattle.smx_types.specs.declared.command.Command.TheVariants as command
-use Rattle.smx_types.specs.declared.driver.DriverSpec.{DriverSpec}
-use Rattle.smx_types.specs.declared.message.Message.{Message}
-use Rattle.smx_types.specs.declared.reply.Reply.{Reply}
-use Rattle.smx_types.specs.declared.stream.Place.{Place}
-use Rattle.smx_types.specs.declared.stream.StreamId.{StreamId}
-use Rattle.smx_model.specs.Commands.{done_outcome, outcome, read_outcome, receive_outcome, send_outcome}
-use Rattle.smx_model.specs.Configuration.{Configuration}
+use Rattle.smx_model.specs.Commands.{done_outcome, read_outcome, receive_outcome, send_outcome}
 use Rattle.smx_model.specs.Lookups.{live_stream}
-use Rattle.smx_model.specs.Queues.{first_message}
 use Rattle.smx_model.specs.Removal.{without_queues_at}
-use Rattle.smx_model.specs.RunMarks.{next_of}
-use Rattle.smx_model.specs.Settling.{after_move, next_place}
+use Rattle.smx_model.specs.Settling.{next_place}
 use Rattle.smx_model.specs.Swept.{IsSwept}
 use Rattle.smx_model.proofs.IdleSweepLemmas.{swept_idle}
 use Rattle.smx_model.proofs.WaitingLemmas.{next_is}
-use Rattle.smx_queues.specs.PlaceLists.{places_of}
 use Rattle.smx_commands.proofs.AcceptedLemmas.{accepted, bound}
 use Rattle.smx_config.specs.declared.hops.Hop.{Hop}
 use Rattle.smx_config.specs.declared.hops.Hops.{Hops}
-use Rattle.smx_config.specs.Marking.{IsAt}
-use Rattle.smx_config.specs.Moves.{IsNextOf}
-use Rattle.smx_config.specs.Ways.{AreHops, IsWay, KeepsWays, LeadsTo, hop_at, keeps_ways}
+use Rattle.smx_config.specs.Ways.{IsWay, KeepsWays, LeadsTo, hop_at, keeps_ways}
 use Rattle.smx_config.proofs.PlaceNumberLemmas.{at_number}
 
 -- ---- changes that keep the next places of messages

@@ -1,44 +1,36 @@
 -- The places that a command turns and frees are among those that it may wake.
-use Rattle.std.proofs.Common.{◌≡◌, ℕ, Bool, true, false, ◌&&◌, ◌||◌, not, eqb, List, [], filter, Some, None, Result, Ok}
-use Rattle.std.proofs.Common.{Err, refl, sym, subst, inl, inr, arith}
+use Rattle.smx_config.proofs.Common.{◌≡◌, ℕ, Bool, true, false, ◌&&◌, eqb, List, [], Some, None, Ok, refl, sym, subst}
+use Rattle.smx_config.proofs.Common.{inl, inr, arith, list_any, cases_Bool, false≢true, DriverSpec, Link, Reply}
+use Rattle.smx_config.proofs.Common.{Place, StreamId, outcome, Configuration, same_place, same_stream, first_message}
+use Rattle.smx_config.proofs.Common.{next_of_first, turned_by_move, next_open_place, Marks, AreMarks, IsWoken}
+use Rattle.smx_config.proofs.Common.{Machine, IsSound}
+use Rattle.std.proofs.Common.{◌||◌, not, filter, Result, Err}
 use Rattle.std.specs.Prelude.{◌⊎◌, IfOk}
-use Rattle.std.specs.List.{list_any}
 use Rattle.std.specs.Option.{is_some}
 use Rattle.std.specs.Result.{is_ok}
-use Rattle.std.proofs.lemmas.Bool.{cases_Bool, false≢true}
 use Rattle.smx_types.specs.declared.command.Command.{Command}
 use Rattle.smx_types.specs.declared.command.Command.TheVariants as command
-use Rattle.smx_types.specs.declared.driver.DriverSpec.{DriverSpec}
-use Rattle.smx_types.specs.declared.link.Link.{Link}
 use Rattle.smx_types.specs.declared.reply.Fault.{Fault}
 use Rattle.smx_types.specs.declared.reply.Fault.TheVariants.{AddressInUse, NoLink}
-use Rattle.smx_types.specs.declared.reply.Reply.{Reply}
 use Rattle.smx_types.specs.declared.reply.Reply.TheVariants as reply
-use Rattle.smx_types.specs.declared.stream.Place.{Place}
 use Rattle.smx_types.specs.declared.stream.Side.TheVariants as side
-use Rattle.smx_types.specs.declared.stream.StreamId.{StreamId}
-use Rattle.smx_model.specs.Commands.{done_outcome, outcome, step}
-use Rattle.smx_model.specs.Configuration.{Configuration, QueuedMessage, bind_before, route_before, same_place}
-use Rattle.smx_model.specs.Configuration.{same_side, same_stream}
+use Rattle.smx_model.specs.Commands.{done_outcome, step}
+use Rattle.smx_model.specs.Configuration.{QueuedMessage, bind_before, route_before, same_side}
 use Rattle.smx_model.specs.FreedPlaces.{FreesOnly, HaveFullPlacesMessages, freed_by}
 use Rattle.smx_model.specs.Lookups.{mux_stream}
 use Rattle.smx_model.specs.Ordered.{with_inserted}
 use Rattle.smx_model.specs.Outcomes.{refuse}
-use Rattle.smx_model.specs.Queues.{after_leaving, first_message}
+use Rattle.smx_model.specs.Queues.{after_leaving}
 use Rattle.smx_model.specs.Removal.{after_sweep}
-use Rattle.smx_model.specs.RunMarks.{TurnsOnly, asks_down, asks_up, either, has_addr, is_first_at, next_of_first}
-use Rattle.smx_model.specs.RunMarks.{nowhere, turned_by_move}
-use Rattle.smx_model.specs.Settling.{after_settling, next_open_place}
+use Rattle.smx_model.specs.RunMarks.{TurnsOnly, asks_down, asks_up, either, has_addr, is_first_at, nowhere}
+use Rattle.smx_model.specs.Settling.{after_settling}
 use Rattle.smx_model.specs.Swept.{IsSwept}
 use Rattle.smx_model.specs.TurnedPlaces.{of_stream, turned_by}
-use Rattle.smx_config.specs.declared.marks.Marks.{Marks}
 use Rattle.smx_commands.specs.declared.step_error.StepError.{StepError}
-use Rattle.smx_config.specs.Marking.{AreMarks, IsWoken}
-use Rattle.smx_commands.specs.Machine.{Machine}
 use Rattle.smx_commands.specs.Refinement.{Refines, answer_of}
-use Rattle.smx_config.specs.Wakes.{arrives, drops_none, freed_under, is_either_side, on_stream, turned_under, wakes_of}
+use Rattle.smx_config.specs.Wakes.{arrives, drops_none, freed_under, is_either_side, on_stream, turned_under}
+use Rattle.smx_config.specs.Wakes.{wakes_of}
 use Rattle.smx_config.specs.declared.wakes.Wakes.{Wakes}
-use Rattle.smx_model.specs.KeptConfigurations.{IsSound}
 use Rattle.smx_model.proofs.IdleSweepLemmas.{swept_idle}
 use Rattle.smx_model.proofs.KeptLemmas.{outcome_sound}
 use Rattle.smx_model.proofs.FreedPlaceLemmas.{few_freed}

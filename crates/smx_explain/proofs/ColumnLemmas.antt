@@ -1,20 +1,13 @@
 -- Reading a line word by word, as long as some line of its kind goes on in the same way.
-use Rattle.std.proofs.Common.{◌≡◌, ℕ, ◌+◌, List, [], ◌∷◌, ◌++◌, length, Option, Some, None, refl, sym, ap, subst}
-use Rattle.std.proofs.Common.{◌∙◌, append-nil, append_assoc, arith, inl, inr, Bor}
+use Rattle.smx_explain.proofs.Common.{◌≡◌, ℕ, ◌+◌, List, [], ◌∷◌, ◌++◌, length, Option, Some, None, refl, sym, ap}
+use Rattle.smx_explain.proofs.Common.{subst, ◌∙◌, append_assoc, arith, inl, inr, Bor, AllByRecursion, Version, IsFree}
+use Rattle.smx_explain.proofs.Common.{SPACE, IsLine, IsColumn, IsWhole, LeadTo, first_choice, spaced, GoesOn, Choice}
+use Rattle.smx_explain.proofs.Common.{LineKind, Value, Wanted, LineColumn}
+use Rattle.std.proofs.Common.{append-nil}
 use Rattle.std.specs.Prelude.{◌↔◌, MatchOption}
-use Rattle.std.specs.List.{AllByRecursion}
 use Rattle.std.proofs.lemmas.Bool.{cases_eq}
 use Rattle.std.proofs.lemmas.List.{length-append}
-use Rattle.smx_types.specs.declared.version.Version.{Version}
-use Rattle.smx_words.specs.Words.{IsFree, SPACE}
-use Rattle.smx_explain.specs.Columns.{Begins, EndsThere, IsLine, IsColumn, IsWanted, IsWhole, LeadTo, Stops}
-use Rattle.smx_explain.specs.Columns.{first_choice, left_of, spaced, wanted_of}
-use Rattle.smx_explain.specs.Rows.{GoesOn}
-use Rattle.smx_explain.specs.declared.kinds.Choice.{Choice}
-use Rattle.smx_explain.specs.declared.kinds.LineKind.{LineKind}
-use Rattle.smx_explain.specs.declared.kinds.Value.{Value}
-use Rattle.smx_explain.specs.declared.kinds.Wanted.{Wanted}
-use Rattle.smx_explain.specs.declared.columns.LineColumn.{LineColumn}
+use Rattle.smx_explain.specs.Columns.{Begins, EndsThere, IsWanted, Stops, left_of, wanted_of}
 use Rattle.smx_explain.proofs.CompleteLemmas.{can_end}
 use Rattle.smx_explain.proofs.DeterminedLemmas.{one_way}
 use Rattle.smx_explain.proofs.LineFormLemmas.{line_is}

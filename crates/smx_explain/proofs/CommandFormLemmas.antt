@@ -1,19 +1,12 @@
 -- The words of a command, by the table of commands.
-use Rattle.std.proofs.Common.{◌≡◌, ℕ, true, List, [], ◌∷◌, refl, inl, rules}
-use Rattle.std.specs.Prelude.{codes}
-use Rattle.std.specs.Fmt.{decimal}
-use Rattle.std.specs.List.{AllByRecursion}
+use Rattle.smx_explain.proofs.Common.{◌≡◌, ℕ, true, List, [], ◌∷◌, refl, inl, rules, codes, decimal, AllByRecursion}
+use Rattle.smx_explain.proofs.Common.{Version, V1, V2, CanTell, FitsCommandIn, command_words, IsFixed, IsRow, WordRow}
+use Rattle.smx_explain.proofs.Common.{rows_in, Choice, Equals, Value, Name, Number, Bytes}
 use Rattle.smx_types.specs.declared.command.Command.{Command as AnyCommand}
 use Rattle.smx_types.specs.declared.command.Command.TheVariants as command
-use Rattle.smx_types.specs.declared.version.Version.{Version}
-use Rattle.smx_types.specs.declared.version.Version.TheVariants.{V1, V2}
-use Rattle.smx_words.specs.Spellable.{CanTell, FitsCommandIn}
-use Rattle.smx_words.specs.Spelling.{command_words}
-use Rattle.smx_explain.specs.Rows.{IsFixed, IsRow, WordRow, commands, rows_in}
-use Rattle.smx_explain.specs.declared.kinds.Choice.{Choice}
-use Rattle.smx_explain.specs.declared.kinds.Choice.TheVariants.{Command, Equals}
-use Rattle.smx_explain.specs.declared.kinds.Value.{Value}
-use Rattle.smx_explain.specs.declared.kinds.Value.TheVariants.{Name, Number, Which, Sides, Bytes}
+use Rattle.smx_explain.specs.Rows.{commands}
+use Rattle.smx_explain.specs.declared.kinds.Choice.TheVariants.{Command}
+use Rattle.smx_explain.specs.declared.kinds.Value.TheVariants.{Which, Sides}
 use Rattle.smx_explain.proofs.CompleteLemmas.{fixed_in}
 use Rattle.smx_explain.proofs.RowLemmas.{all_rows, row_of}
 use Rattle.smx_explain.proofs.ShapeLemmas.{Words, each, words_of}

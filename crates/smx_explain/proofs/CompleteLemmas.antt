@@ -1,22 +1,15 @@
 -- From every word on, a line can go on to an end.
-use Rattle.std.proofs.Common.{ℕ, List, [], ◌∷◌, refl, inl, inr, arith, rules}
-use Rattle.std.specs.Prelude.{codes}
-use Rattle.std.specs.Fmt.{decimal}
+use Rattle.smx_explain.proofs.Common.{ℕ, List, [], ◌∷◌, refl, inl, inr, arith, rules, codes, decimal, Version, V1, V2}
+use Rattle.smx_explain.proofs.Common.{IsFixed, IsRow, IsValue, later_rows, rows, Choice, ProgramsLine, SessionLine}
+use Rattle.smx_explain.proofs.Common.{SessionCommand, Equals, Serials, End, Value, Name, Number, Bytes}
 use Rattle.smx_types.specs.declared.command.Sides.TheVariants as sides
 use Rattle.smx_types.specs.declared.command.Which.TheVariants as which
 use Rattle.smx_types.specs.declared.driver.DriverKind.TheVariants as kind
 use Rattle.smx_types.specs.declared.link.LinkKind.TheVariants as link
 use Rattle.smx_types.specs.declared.stream.Side.TheVariants as side
-use Rattle.smx_types.specs.declared.version.Version.{Version}
-use Rattle.smx_types.specs.declared.version.Version.TheVariants.{V1, V2}
-use Rattle.smx_explain.specs.Rows.{IsFixed, IsRow, IsValue, later_rows, rows}
-use Rattle.smx_explain.specs.declared.kinds.Choice.{Choice}
-use Rattle.smx_explain.specs.declared.kinds.Choice.TheVariants.{ProgramsLine, TranscriptLine, SessionLine, Command}
-use Rattle.smx_explain.specs.declared.kinds.Choice.TheVariants.{SessionCommand, Switch, Equals, Reply, BadDescriptor}
-use Rattle.smx_explain.specs.declared.kinds.Choice.TheVariants.{Invalid, Again, NoDevice, Serials, End}
-use Rattle.smx_explain.specs.declared.kinds.Value.{Value}
-use Rattle.smx_explain.specs.declared.kinds.Value.TheVariants.{Name, DriverKind, Number, Process, Which, Sides, Side}
-use Rattle.smx_explain.specs.declared.kinds.Value.TheVariants.{LinkKind, Bytes}
+use Rattle.smx_explain.specs.declared.kinds.Choice.TheVariants.{TranscriptLine, Command, Switch, Reply, BadDescriptor}
+use Rattle.smx_explain.specs.declared.kinds.Choice.TheVariants.{Invalid, Again, NoDevice}
+use Rattle.smx_explain.specs.declared.kinds.Value.TheVariants.{DriverKind, Process, Which, Sides, Side, LinkKind}
 use Rattle.smx_explain.proofs.RowLemmas.{in_second}
 use Rattle.smx_explain.proofs.Spelling.{Spells}
 

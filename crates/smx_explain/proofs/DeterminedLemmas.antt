@@ -1,21 +1,16 @@
 -- A word determines how a line goes on after it.
-use Rattle.std.proofs.Common.{◌≡◌, ℕ, ◌<◌, ◌^◌, Bool, true, false, ◌&&◌, not, List, [], ◌∷◌, ◌++◌, refl, sym}
-use Rattle.std.proofs.Common.{subst, ◌∙◌, inl, inr, arith}
+use Rattle.smx_explain.proofs.Common.{◌≡◌, ℕ, ◌<◌, Bool, true, false, List, [], ◌∷◌, ◌++◌, refl, sym, subst, ◌∙◌, inl}
+use Rattle.smx_explain.proofs.Common.{inr, arith, decimal, Version, V1, V2, LeadTo, GoesOn, IsFixed, IsOther, IsRow}
+use Rattle.smx_explain.proofs.Common.{WordRow, rows_in, Choice, ProgramsLine, SessionLine, SessionCommand, Equals}
+use Rattle.smx_explain.proofs.Common.{Serials, Value, Wanted}
+use Rattle.std.proofs.Common.{◌^◌, ◌&&◌, not}
 use Rattle.std.specs.Prelude.{bytes_eq}
-use Rattle.std.specs.Fmt.{decimal}
 use Rattle.std.specs.Str.{all_ascii_digits}
 use Rattle.std.proofs.lemmas.Fmt.{digits_decimal}
 use Rattle.std.proofs.lemmas.Slice.Eq.{bytes_eq-Decides}
-use Rattle.smx_types.specs.declared.version.Version.{Version}
-use Rattle.smx_types.specs.declared.version.Version.TheVariants.{V1, V2}
 use Rattle.smx_words.proofs.NumberLemmas.{own}
-use Rattle.smx_explain.specs.Columns.{LeadTo}
-use Rattle.smx_explain.specs.Rows.{GoesOn, IsChosen, IsFixed, IsLoneCommand, IsOther, IsRow, WordRow, rows_in}
-use Rattle.smx_explain.specs.declared.kinds.Choice.{Choice}
-use Rattle.smx_explain.specs.declared.kinds.Choice.TheVariants.{ProgramsLine, TranscriptLine, SessionLine, Command}
-use Rattle.smx_explain.specs.declared.kinds.Choice.TheVariants.{SessionCommand, Equals, Serials}
-use Rattle.smx_explain.specs.declared.kinds.Value.{Value}
-use Rattle.smx_explain.specs.declared.kinds.Wanted.{Wanted}
+use Rattle.smx_explain.specs.Rows.{IsChosen, IsLoneCommand}
+use Rattle.smx_explain.specs.declared.kinds.Choice.TheVariants.{TranscriptLine, Command}
 use Rattle.smx_explain.proofs.RowLemmas.{in_second}
 
 -- ---- tables whose words differ

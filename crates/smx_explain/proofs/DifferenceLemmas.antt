@@ -1,9 +1,7 @@
 -- Reading two texts line by line, as long as their lines are the same.
-use Rattle.std.proofs.Common.{◌≡◌, ℕ, ◌+◌, List, [], ◌∷◌, ◌++◌, length, refl, sym, ap, ◌∙◌, append_assoc, arith}
-use Rattle.std.specs.List.{AllByRecursion}
+use Rattle.smx_explain.proofs.Common.{◌≡◌, ℕ, ◌+◌, List, [], ◌∷◌, ◌++◌, length, refl, sym, ap, ◌∙◌, append_assoc}
+use Rattle.smx_explain.proofs.Common.{arith, AllByRecursion, LINE_FEED, lines_text, IsOneLine}
 use Rattle.std.proofs.lemmas.List.{length-append}
-use Rattle.smx_words.specs.Words.{LINE_FEED, lines_text}
-use Rattle.smx_text.specs.Grammar.{IsOneLine}
 use Rattle.smx_explain.specs.Differences.{Begin}
 
 -- ---- lines

@@ -1,18 +1,16 @@
 -- The explanation of a transcript, and what it is for each verdict.
-use Rattle.std.proofs.Common.{◌≡◌, ◌≢◌, ℕ, zero, suc, ◌+◌, ◌<◌, Some, List, [], ◌∷◌, ◌++◌, length, map, take, Result}
-use Rattle.std.proofs.Common.{Ok, Err, refl, sym, ap, subst, ◌∙◌, append_assoc, arith, inl, inr, rules}
-use Rattle.std.specs.List.{AllByRecursion}
+use Rattle.smx_explain.proofs.Common.{◌≡◌, ◌≢◌, ℕ, ◌+◌, ◌<◌, Some, List, [], ◌∷◌, ◌++◌, length, map, take, refl, sym}
+use Rattle.smx_explain.proofs.Common.{ap, subst, ◌∙◌, append_assoc, arith, inl, inr, rules, AllByRecursion, Entry}
+use Rattle.smx_explain.proofs.Common.{DriverSpec, Version, V1, V2, LINE_FEED, lines_text, IsOneLine, AreAlike}
+use Rattle.smx_explain.proofs.Common.{IsFirstDifference}
+use Rattle.std.proofs.Common.{zero, suc, Result, Ok, Err}
 use Rattle.std.specs.Prelude.{IfErr, slice_get}
 use Rattle.std.proofs.lemmas.List.{append-nil, length-append, length-map, map-append}
-use Rattle.smx_types.specs.declared.command.Entry.{Entry}
-use Rattle.smx_types.specs.declared.driver.DriverSpec.{DriverSpec}
 use Rattle.smx_types.specs.declared.transcript.Transcript.{Transcript}
-use Rattle.smx_types.specs.declared.version.Version.{Version}
-use Rattle.smx_types.specs.declared.version.Version.TheVariants.{V1, V2}
 use Rattle.smx_words.specs.Spellable.{FitsDriver, FitsEntry}
 use Rattle.smx_words.specs.Spelling.{driver_words, entry_words}
-use Rattle.smx_words.specs.Words.{AreWords, LINE_FEED, line_of, lines_text}
-use Rattle.smx_text.specs.Grammar.{IsOneLine, ReadsAny}
+use Rattle.smx_words.specs.Words.{AreWords, line_of}
+use Rattle.smx_text.specs.Grammar.{ReadsAny}
 use Rattle.smx_text.specs.TranscriptLines.{TranscriptLine}
 use Rattle.smx_text.specs.TranscriptLines as line
 use Rattle.smx_text.specs.TranscriptText.{IsAllowed, IsSpellable, SpellsTranscript, body, transcript_grammar}
@@ -31,7 +29,6 @@ use Rattle.smx_config.specs.Verdicts.{IsVerdict}
 use Rattle.smx_config.specs.declared.verdict.Verdict.TheVariants.{ConfigDiffers, Legal}
 use Rattle.smx_trace.specs.Answers.{answered}
 use Rattle.smx_trace.specs.Replays.{IsReplayOf, IsReplayText}
-use Rattle.smx_explain.specs.Differences.{AreAlike, IsFirstDifference}
 use Rattle.smx_explain.specs.Explanations.{IsExplanation, difference_text}
 use Rattle.smx_explain.proofs.HistoryLemmas.{stands_in}
 use Rattle.smx_explain.proofs.LineLemmas.{no_difference, no_rest, one_difference, past_front}

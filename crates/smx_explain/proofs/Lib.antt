@@ -1,3 +1,4 @@
+pub mod Common
 pub mod RowLemmas
 pub mod NearLemmas
 pub mod Spelling

@@ -1,19 +1,16 @@
 -- The words of a line of each text, by the tables.
-use Rattle.std.proofs.Common.{◌≡◌, ℕ, true, List, [], ◌∷◌, ◌++◌, refl, sym, ap, subst, ◌∙◌, inl, inr, rules}
-use Rattle.std.specs.Prelude.{◌↔◌, codes}
-use Rattle.std.specs.Fmt.{decimal}
+use Rattle.smx_explain.proofs.Common.{◌≡◌, ℕ, true, List, [], ◌∷◌, ◌++◌, refl, sym, ap, subst, ◌∙◌, inl, inr, rules}
+use Rattle.smx_explain.proofs.Common.{codes, decimal, Entry, DriverSpec, Version, V1, V2, CanTell, FitsCommandIn}
+use Rattle.smx_explain.proofs.Common.{command_words, IsLine, first_choice, IsOther, Choice, ProgramsLine, Equals, End}
+use Rattle.smx_explain.proofs.Common.{LineKind, Session, Value, Name, Number, Bytes}
+use Rattle.std.specs.Prelude.{◌↔◌}
 use Rattle.smx_types.specs.Versions.{is_hangup, tells_of_hangup}
 use Rattle.smx_types.specs.declared.command.Command.{Command as AnyCommand}
-use Rattle.smx_types.specs.declared.command.Entry.{Entry}
-use Rattle.smx_types.specs.declared.driver.DriverSpec.{DriverSpec}
 use Rattle.smx_types.specs.declared.reply.Reply.{Reply as AnyReply}
-use Rattle.smx_types.specs.declared.version.Version.{Version}
-use Rattle.smx_types.specs.declared.version.Version.TheVariants.{V1, V2}
 use Rattle.smx_types.specs.declared.view.HungLine.{HungLine}
 use Rattle.smx_words.specs.HexWords.{hex_word}
-use Rattle.smx_words.specs.Spellable.{CanTell, FitsCommandIn, FitsDriver, FitsEntryIn, FitsHung, FitsReplyIn}
-use Rattle.smx_words.specs.Spelling.{command_words, entry_words, hung_words, kind_word, link_kind_word, reply_words}
-use Rattle.smx_words.specs.Spelling.{side_word}
+use Rattle.smx_words.specs.Spellable.{FitsDriver, FitsEntryIn, FitsHung, FitsReplyIn}
+use Rattle.smx_words.specs.Spelling.{entry_words, hung_words, kind_word, link_kind_word, reply_words, side_word}
 use Rattle.smx_words.proofs.InVersionLemmas.{can_tell_both, can_tell_each}
 use Rattle.smx_text.specs.ProgramLines.{Line}
 use Rattle.smx_text.specs.ProgramLines as line
@@ -21,15 +18,9 @@ use Rattle.smx_text.specs.ProgramsText as programs
 use Rattle.smx_text.specs.TranscriptLines.{TranscriptLine as AnyTranscriptLine}
 use Rattle.smx_text.specs.TranscriptLines as told
 use Rattle.smx_text.specs.TranscriptText as transcript
-use Rattle.smx_explain.specs.Columns.{IsLine, first_choice}
-use Rattle.smx_explain.specs.Rows.{IsOther}
-use Rattle.smx_explain.specs.declared.kinds.Choice.{Choice}
-use Rattle.smx_explain.specs.declared.kinds.Choice.TheVariants.{ProgramsLine, TranscriptLine, Command, Equals, Reply}
-use Rattle.smx_explain.specs.declared.kinds.Choice.TheVariants.{End}
-use Rattle.smx_explain.specs.declared.kinds.LineKind.{LineKind}
-use Rattle.smx_explain.specs.declared.kinds.LineKind.TheVariants.{Programs, Transcript, Session}
-use Rattle.smx_explain.specs.declared.kinds.Value.{Value}
-use Rattle.smx_explain.specs.declared.kinds.Value.TheVariants.{Name, DriverKind, Number, Process, Side, LinkKind, Bytes}
+use Rattle.smx_explain.specs.declared.kinds.Choice.TheVariants.{TranscriptLine, Command, Reply}
+use Rattle.smx_explain.specs.declared.kinds.LineKind.TheVariants.{Programs, Transcript}
+use Rattle.smx_explain.specs.declared.kinds.Value.TheVariants.{DriverKind, Process, Side, LinkKind}
 use Rattle.smx_explain.proofs.CommandFormLemmas.{form, of_form}
 use Rattle.smx_explain.proofs.ReplyFormLemmas.{IsReply, of_reply, reply_spelled}
 use Rattle.smx_explain.proofs.RowLemmas.{equals_behind}

@@ -1,13 +1,12 @@
 -- Texts that are made of lines have one first difference.
-use Rattle.std.proofs.Common.{◌≡◌, ◌≢◌, ℕ, ◌+◌, ◌<◌, ◌≤◌, List, [], ◌∷◌, ◌++◌, length, map, refl, sym, ap, subst, ◌∙◌}
-use Rattle.std.proofs.Common.{append_assoc, arith, inl, inr}
+use Rattle.smx_explain.proofs.Common.{◌≡◌, ◌≢◌, ℕ, ◌+◌, ◌<◌, ◌≤◌, List, [], ◌∷◌, ◌++◌, length, map, refl, sym, ap}
+use Rattle.smx_explain.proofs.Common.{subst, ◌∙◌, append_assoc, arith, inl, inr, AllByRecursion, LINE_FEED}
+use Rattle.smx_explain.proofs.Common.{lines_text, IsOneLine, AreAlike, IsFirstDifference}
 use Rattle.std.proofs.lemmas.List.{append_cancel_left}
 use Rattle.std.specs.Prelude.{◌⊎◌}
-use Rattle.std.specs.List.{AllByRecursion, flat_map}
-use Rattle.smx_words.specs.Words.{LINE_FEED, lines_text}
-use Rattle.smx_text.specs.Grammar.{IsOneLine}
+use Rattle.std.specs.List.{flat_map}
 use Rattle.smx_text.proofs.LineLemmas.{not_one, one_cut}
-use Rattle.smx_explain.specs.Differences.{AreAlike, IsFirstDifference, IsFirstLine}
+use Rattle.smx_explain.specs.Differences.{IsFirstLine}
 
 -- ---- bytes
 

@@ -1,12 +1,9 @@
 -- The first near word of two joined tables, and the word that is meant.
-use Rattle.std.proofs.Common.{◌≡◌, ℕ, Bool, true, false, List, [], ◌∷◌, ◌++◌, Option, Some, None, length, refl}
+use Rattle.smx_explain.proofs.Common.{◌≡◌, ℕ, Bool, true, false, List, [], ◌∷◌, ◌++◌, Option, Some, None, length}
+use Rattle.smx_explain.proofs.Common.{refl, Version, V1, V2, WordRow, rows_in, Choice, ProgramsLine, SessionCommand}
 use Rattle.std.specs.Prelude.{if◌then◌else◌, nat_eq}
-use Rattle.smx_types.specs.declared.version.Version.{Version}
-use Rattle.smx_types.specs.declared.version.Version.TheVariants.{V1, V2}
 use Rattle.smx_explain.specs.Hints.{first_near, is_near, meant}
-use Rattle.smx_explain.specs.Rows.{WordRow, rows_in}
-use Rattle.smx_explain.specs.declared.kinds.Choice.{Choice}
-use Rattle.smx_explain.specs.declared.kinds.Choice.TheVariants.{ProgramsLine, SessionCommand, Command}
+use Rattle.smx_explain.specs.declared.kinds.Choice.TheVariants.{Command}
 
 -- what holds of the rest of a search holds of all of it, if a row in front that is near ends it
 found_by : (near : Bool) (first : List ℕ) (rest more : Option (List ℕ)) (verb : List ℕ)

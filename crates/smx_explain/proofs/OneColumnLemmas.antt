@@ -1,17 +1,12 @@
 -- A line becomes invalid in at most one column.
-use Rattle.std.proofs.Common.{◌≡◌, ℕ, ◌+◌, List, [], ◌∷◌, ◌++◌, length, refl, sym, ap, subst, ◌∙◌, append_assoc}
-use Rattle.std.proofs.Common.{◌<◌, arith, inl, inr}
+use Rattle.smx_explain.proofs.Common.{◌≡◌, ℕ, ◌+◌, List, [], ◌∷◌, ◌++◌, length, refl, sym, ap, subst, ◌∙◌}
+use Rattle.smx_explain.proofs.Common.{append_assoc, ◌<◌, arith, inl, inr, AllByRecursion, Version, IsFree, SPACE}
+use Rattle.smx_explain.proofs.Common.{IsLine, IsColumn, IsPartAt, IsWhole, LeadTo, first_choice, first_of, spaced}
+use Rattle.smx_explain.proofs.Common.{LineKind, LineColumn, Wanted}
 use Rattle.std.proofs.lemmas.List.{append-nil, length-append}
-use Rattle.std.specs.List.{AllByRecursion}
 use Rattle.std.specs.Prelude.{◌⊎◌}
-use Rattle.smx_types.specs.declared.version.Version.{Version}
-use Rattle.smx_words.specs.Words.{IsFree, SPACE}
 use Rattle.smx_words.proofs.CutLemmas.{apart}
-use Rattle.smx_explain.specs.Columns.{AreParts, Begins, IsLine, IsColumn, IsPartAt, IsWhole, LeadTo, Stops}
-use Rattle.smx_explain.specs.Columns.{first_choice, first_of, spaced}
-use Rattle.smx_explain.specs.declared.kinds.LineKind.{LineKind}
-use Rattle.smx_explain.specs.declared.columns.LineColumn.{LineColumn}
-use Rattle.smx_explain.specs.declared.kinds.Wanted.{Wanted}
+use Rattle.smx_explain.specs.Columns.{AreParts, Begins, Stops}
 use Rattle.smx_explain.proofs.ColumnLemmas.{spaced_both}
 use Rattle.smx_explain.proofs.DeterminedLemmas.{one_lead}
 

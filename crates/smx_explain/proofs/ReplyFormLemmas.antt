@@ -1,23 +1,17 @@
 -- The words of a reply, by the table of replies.
-use Rattle.std.proofs.Common.{◌≡◌, ℕ, true, false, List, [], ◌∷◌, map, refl, sym, subst, inl, inr, rules}
-use Rattle.std.specs.Prelude.{codes}
-use Rattle.std.specs.Fmt.{decimal}
-use Rattle.std.specs.List.{AllByRecursion}
+use Rattle.smx_explain.proofs.Common.{◌≡◌, ℕ, true, false, List, [], ◌∷◌, map, refl, sym, subst, inl, inr, rules}
+use Rattle.smx_explain.proofs.Common.{codes, decimal, AllByRecursion, Version, V1, V2, CanTell, FitsNumber, IsRow}
+use Rattle.smx_explain.proofs.Common.{rows, rows_in, Choice, Serials, End, Number, Bytes}
 use Rattle.smx_types.specs.Versions.{tells_of_hangup}
 use Rattle.smx_types.specs.declared.reply.Fault.{Fault}
 use Rattle.smx_types.specs.declared.reply.Fault.TheVariants as fault
 use Rattle.smx_types.specs.declared.reply.Reply.{Reply as AnyReply}
 use Rattle.smx_types.specs.declared.reply.Reply.TheVariants as reply
-use Rattle.smx_types.specs.declared.version.Version.{Version}
-use Rattle.smx_types.specs.declared.version.Version.TheVariants.{V1, V2}
 use Rattle.smx_words.specs.HexWords.{hex_word}
-use Rattle.smx_words.specs.Spellable.{CanTell, FitsNumber, FitsReplyIn}
+use Rattle.smx_words.specs.Spellable.{FitsReplyIn}
 use Rattle.smx_words.specs.Spelling.{fault_words, reply_words}
-use Rattle.smx_explain.specs.Rows.{IsRow, replies, rows, rows_in}
-use Rattle.smx_explain.specs.declared.kinds.Choice.{Choice}
+use Rattle.smx_explain.specs.Rows.{replies}
 use Rattle.smx_explain.specs.declared.kinds.Choice.TheVariants.{Reply, BadDescriptor, Invalid, Again, NoDevice}
-use Rattle.smx_explain.specs.declared.kinds.Choice.TheVariants.{Serials, End}
-use Rattle.smx_explain.specs.declared.kinds.Value.TheVariants.{Number, Bytes}
 use Rattle.smx_explain.proofs.Spelling.{Spells}
 use Rattle.smx_explain.proofs.WalkLemmas.{◌▹◌, from_row, number, of_choice, tells}
 

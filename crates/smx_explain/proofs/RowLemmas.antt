@@ -1,22 +1,19 @@
 -- The row of a word in a table.
-use Rattle.std.proofs.Common.{◌≡◌, ◌≢◌, ℕ, ◌≤◌, ◌-◌, Bool, true, false, List, [], ◌∷◌, ◌++◌, length, get_or, take, drop}
-use Rattle.std.proofs.Common.{Option, Some, None, MatchOption, inl, inr, sym, subst, ◌∙◌, Bor, arith, rules}
+use Rattle.smx_explain.proofs.Common.{◌≡◌, ◌≢◌, ℕ, ◌≤◌, Bool, true, false, List, [], ◌∷◌, ◌++◌, length, take, drop}
+use Rattle.smx_explain.proofs.Common.{Option, Some, None, inl, inr, sym, subst, ◌∙◌, Bor, arith, rules}
+use Rattle.smx_explain.proofs.Common.{AllByRecursion, decimal, FitsNumber, Version, V1, V2, IsFixed, IsRow}
+use Rattle.smx_explain.proofs.Common.{later_rows, rows, rows_in, WordRow, Choice, Equals, Value}
+use Rattle.std.proofs.Common.{◌-◌, get_or, MatchOption}
 use Rattle.std.specs.Prelude.{bytes_eq}
-use Rattle.std.specs.List.{AllByRecursion}
-use Rattle.std.specs.Fmt.{decimal}
 use Rattle.std.proofs.lemmas.Fmt.{decimal_injective}
 use Rattle.std.proofs.lemmas.List.{take_rest}
 use Rattle.std.proofs.lemmas.Slice.Eq.{bytes_eq-Decides}
 use Rattle.smx_types.specs.declared.limits.TheConstants.{MAX_PROCESSES}
 use Rattle.smx_words.specs.LineReading.{IsSpelled}
-use Rattle.smx_words.specs.Spellable.{FitsNumber, FitsProcess}
-use Rattle.smx_types.specs.declared.version.Version.{Version}
-use Rattle.smx_types.specs.declared.version.Version.TheVariants.{V1, V2}
+use Rattle.smx_words.specs.Spellable.{FitsProcess}
 use Rattle.smx_text.proofs.EachLemmas.{all_append}
-use Rattle.smx_explain.specs.Rows.{IsFixed, IsNoRow, IsRow, later_rows, rows, rows_of, rows_in, WordRow}
-use Rattle.smx_explain.specs.declared.kinds.Choice.{Choice}
-use Rattle.smx_explain.specs.declared.kinds.Choice.TheVariants.{Command, Equals}
-use Rattle.smx_explain.specs.declared.kinds.Value.{Value}
+use Rattle.smx_explain.specs.Rows.{IsNoRow, rows_of}
+use Rattle.smx_explain.specs.declared.kinds.Choice.TheVariants.{Command}
 use Rattle.smx_explain.specs.declared.rows.FoundRow.{FoundRow}
 
 -- a row as the code stores it

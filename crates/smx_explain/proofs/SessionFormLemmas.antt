@@ -1,15 +1,12 @@
 -- The words of a command without a reply, and of a line of a session, by the tables.
-use Rattle.std.proofs.Common.{◌≡◌, ◌⊎◌, ℕ, List, [], ◌∷◌, refl, sym, subst, inl, inr, append-nil, rules}
-use Rattle.std.specs.Prelude.{codes}
+use Rattle.smx_explain.proofs.Common.{◌≡◌, ℕ, List, [], ◌∷◌, refl, sym, subst, inl, inr, rules, codes, Version}
+use Rattle.smx_explain.proofs.Common.{FitsCommandIn, command_words, IsOther, IsRow, rows, Choice, SessionLine}
+use Rattle.smx_explain.proofs.Common.{SessionCommand, Equals, End, Value}
+use Rattle.std.proofs.Common.{◌⊎◌, append-nil}
 use Rattle.smx_types.specs.declared.command.Command.{Command as AnyCommand}
-use Rattle.smx_types.specs.declared.version.Version.{Version}
-use Rattle.smx_words.specs.Spellable.{FitsCommandIn}
-use Rattle.smx_words.specs.Spelling.{command_words}
 use Rattle.smx_explain.specs.Columns.{AreRequest}
-use Rattle.smx_explain.specs.Rows.{IsLoneCommand, IsOther, IsRow, rows}
-use Rattle.smx_explain.specs.declared.kinds.Choice.{Choice}
-use Rattle.smx_explain.specs.declared.kinds.Choice.TheVariants.{SessionLine, SessionCommand, Switch, Equals, End}
-use Rattle.smx_explain.specs.declared.kinds.Value.{Value}
+use Rattle.smx_explain.specs.Rows.{IsLoneCommand}
+use Rattle.smx_explain.specs.declared.kinds.Choice.TheVariants.{Switch}
 use Rattle.smx_explain.proofs.CommandFormLemmas.{IsCommand, form, of_form}
 use Rattle.smx_explain.proofs.Spelling.{Spells}
 use Rattle.smx_explain.proofs.WalkLemmas.{◌▹◌, ended, from_row, of_choice, with_args}

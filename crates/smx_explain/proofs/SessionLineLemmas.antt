@@ -1,31 +1,23 @@
 -- The part of a line in a column, and the one explanation of a session's line.
-use Rattle.std.proofs.Common.{◌≡◌, ◌≤◌, ◌<◌, ℕ, ◌+◌, true, List, [], ◌∷◌, ◌++◌, length, drop, Option, Some, None}
-use Rattle.std.proofs.Common.{refl, sym, ap, subst, ◌∙◌, inl, inr, arith, length-append, rules}
-use Rattle.std.specs.List.{AllByRecursion}
-use Rattle.std.specs.Prelude.{◌-◌, codes}
-use Rattle.std.specs.Fmt.{decimal, digits}
+use Rattle.smx_explain.proofs.Common.{◌≡◌, ◌≤◌, ◌<◌, ℕ, ◌+◌, true, List, [], ◌∷◌, ◌++◌, length, drop, Option, Some}
+use Rattle.smx_explain.proofs.Common.{None, refl, sym, ap, subst, ◌∙◌, inl, inr, arith, rules, AllByRecursion, codes}
+use Rattle.smx_explain.proofs.Common.{decimal, Version, V1, V2, IsFree, SPACE, IsColumn, IsPartAt, IsWhole, first_of}
+use Rattle.smx_explain.proofs.Common.{spaced, rows_in, Choice, LineColumn, Session, Bytes, Wanted}
+use Rattle.std.proofs.Common.{length-append}
+use Rattle.std.specs.Prelude.{◌-◌}
+use Rattle.std.specs.Fmt.{digits}
 use Rattle.std.specs.Str.{all_ascii_digits}
 use Rattle.std.proofs.lemmas.Fmt.{digits_decimal}
-use Rattle.smx_types.specs.declared.version.Version.{Version}
-use Rattle.smx_types.specs.declared.version.Version.TheVariants.{V1, V2}
-use Rattle.smx_words.specs.Words.{IsFree, SPACE}
 use Rattle.smx_words.specs.LineReading.{IsSpelled}
 use Rattle.smx_words.specs.Spellable.{FitsProcess}
 use Rattle.smx_words.proofs.CutLemmas.{apart}
 use Rattle.smx_words.proofs.NumberLemmas.{own}
 use Rattle.smx_explain.specs.ColumnWords.{IsExplanationOf, column_words, explanation_text}
-use Rattle.smx_explain.specs.Columns.{IsColumn, IsPartAt, IsWhole, first_of, spaced}
-use Rattle.smx_explain.specs.Rows.{rows_in}
 use Rattle.smx_explain.specs.WorkedColumns.{choice_at}
 use Rattle.smx_explain.specs.Hints.{IsHintOn, IsLater, IsWithoutHint, is_capital_hex, meant}
-use Rattle.smx_explain.specs.declared.kinds.Choice.{Choice}
 use Rattle.smx_explain.specs.declared.kinds.Choice.TheVariants as choice
-use Rattle.smx_explain.specs.declared.columns.LineColumn.{LineColumn}
 use Rattle.smx_explain.specs.declared.hints.Hint.{Hint}
 use Rattle.smx_explain.specs.declared.hints.Hint.TheVariants.{LaterVersion, SmallLetters, Meant}
-use Rattle.smx_explain.specs.declared.kinds.LineKind.TheVariants.{Session}
-use Rattle.smx_explain.specs.declared.kinds.Value.TheVariants.{Bytes}
-use Rattle.smx_explain.specs.declared.kinds.Wanted.{Wanted}
 use Rattle.smx_explain.specs.declared.kinds.Wanted.TheVariants as wanted
 use Rattle.smx_explain.proofs.ColumnLemmas.{spaced_both, stops_here}
 use Rattle.smx_explain.proofs.DeterminedLemmas.{not_new}

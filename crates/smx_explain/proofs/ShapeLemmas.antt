@@ -1,7 +1,5 @@
 -- Words for some values, one by one.
-use Rattle.std.proofs.Common.{◌≡◌, ℕ, List, [], ◌∷◌, refl, ap}
-use Rattle.smx_explain.specs.Rows.{IsValue}
-use Rattle.smx_explain.specs.declared.kinds.Value.{Value}
+use Rattle.smx_explain.proofs.Common.{◌≡◌, ℕ, List, [], ◌∷◌, refl, ap, IsValue, Value}
 use Rattle.smx_explain.proofs.Spelling.{Takes}
 
 -- a word for each of some values

@@ -1,10 +1,6 @@
 -- The words that complete a line from some values and then a choice.
-use Rattle.std.proofs.Common.{ℕ, List, [], ◌∷◌}
-use Rattle.smx_types.specs.declared.version.Version.{Version}
+use Rattle.smx_explain.proofs.Common.{ℕ, List, [], ◌∷◌, Version, GoesOn, IsValue, Choice, Value}
 use Rattle.smx_explain.specs.Columns.{EndsThere, wanted_of}
-use Rattle.smx_explain.specs.Rows.{GoesOn, IsValue}
-use Rattle.smx_explain.specs.declared.kinds.Choice.{Choice}
-use Rattle.smx_explain.specs.declared.kinds.Value.{Value}
 
 -- the words complete the line
 abbrev pub Spells : Version → List Value → Choice → List (List ℕ) → Type 0

@@ -1,15 +1,9 @@
 -- How a line goes on through the expected values and then a choice.
-use Rattle.std.proofs.Common.{◌≡◌, ℕ, false, List, [], ◌∷◌, ◌++◌, refl, ap, ◌∙◌, append-nil, inl, inr}
-use Rattle.smx_types.specs.declared.version.Version.{Version}
-use Rattle.smx_types.specs.declared.version.Version.TheVariants.{V1, V2}
-use Rattle.smx_words.specs.Spellable.{CanTell, FitsNumber}
-use Rattle.std.specs.Fmt.{decimal}
-use Rattle.smx_explain.specs.Rows.{IsOther, IsRow, IsValue, MayEnd, WordRow, later_rows, rows, rows_in}
-use Rattle.std.specs.List.{AllByRecursion}
-use Rattle.smx_explain.specs.declared.kinds.Choice.{Choice}
-use Rattle.smx_explain.specs.declared.kinds.Choice.TheVariants.{End}
-use Rattle.smx_explain.specs.declared.kinds.Value.{Value}
-use Rattle.smx_explain.specs.declared.kinds.Value.TheVariants.{Number}
+use Rattle.smx_explain.proofs.Common.{◌≡◌, ℕ, false, List, [], ◌∷◌, ◌++◌, refl, ap, ◌∙◌, inl, inr, Version, V1, V2}
+use Rattle.smx_explain.proofs.Common.{CanTell, FitsNumber, decimal, IsOther, IsRow, IsValue, WordRow, later_rows}
+use Rattle.smx_explain.proofs.Common.{rows, rows_in, AllByRecursion, Choice, End, Value, Number}
+use Rattle.std.proofs.Common.{append-nil}
+use Rattle.smx_explain.specs.Rows.{MayEnd}
 use Rattle.smx_explain.proofs.CompleteLemmas.{fixed_in}
 use Rattle.smx_explain.proofs.RowLemmas.{all_rows, row_of}
 use Rattle.smx_explain.proofs.ShapeLemmas.{Words, each, words_of}

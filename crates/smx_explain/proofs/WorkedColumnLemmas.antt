@@ -1,16 +1,11 @@
 -- The worked columns, word by word.
-use Rattle.std.proofs.Common.{ℕ, List, [], ◌∷◌, ◌++◌, Some, None, refl, inl, inr, Bor, arith, rules}
-use Rattle.std.specs.Prelude.{codes}
+use Rattle.smx_explain.proofs.Common.{ℕ, List, [], ◌∷◌, ◌++◌, Some, None, refl, inl, inr, Bor, arith, rules, codes}
+use Rattle.smx_explain.proofs.Common.{Version, V1, V2, IsColumn, IsWhole, GoesOn, IsFixed, IsOther, rows_in, Choice}
+use Rattle.smx_explain.proofs.Common.{Session, Value}
 use Rattle.std.specs.Fmt.{digits}
-use Rattle.smx_types.specs.declared.version.Version.{Version}
-use Rattle.smx_types.specs.declared.version.Version.TheVariants.{V1, V2}
-use Rattle.smx_explain.specs.Columns.{IsColumn, IsWhole}
-use Rattle.smx_explain.specs.Rows.{GoesOn, IsFixed, IsOther, rows_in}
 use Rattle.smx_explain.specs.WorkedColumns.{choice_at, value_at}
-use Rattle.smx_explain.specs.declared.kinds.Choice.{Choice}
 use Rattle.smx_explain.specs.declared.kinds.Choice.TheVariants as choice
-use Rattle.smx_explain.specs.declared.kinds.LineKind.TheVariants.{Programs, Transcript, Session}
-use Rattle.smx_explain.specs.declared.kinds.Value.{Value}
+use Rattle.smx_explain.specs.declared.kinds.LineKind.TheVariants.{Programs, Transcript}
 use Rattle.smx_explain.specs.declared.kinds.Value.TheVariants as value
 use Rattle.smx_explain.proofs.DeterminedLemmas.{not_new}
 use Rattle.smx_explain.proofs.ColumnLemmas.{HasCome, at_begin, ends_here, one_more, stops_here, whole_here}

@@ -1,27 +1,16 @@
 -- An input has one answer, and what a run writes spells one report.
-use Rattle.std.proofs.Common.{◌≡◌, ◌≢◌, ℕ, ◌++◌, ◌≤◌, Bool, true, false, List, length, map, Option, Result, Ok, Err}
-use Rattle.std.proofs.Common.{refl, sym, ap, subst, ◌∙◌, arith, inl, inr}
-use Rattle.smx_types.specs.ProgramLists.{ProgramLists}
-use Rattle.smx_types.specs.declared.command.Entry.{Entry}
-use Rattle.smx_types.specs.declared.driver.DriverSpec.{DriverSpec}
-use Rattle.smx_types.specs.declared.transcript.Transcript.{Transcript}
-use Rattle.smx_types.specs.declared.version.Version.{Version}
+use Rattle.smx_filters.proofs.Common.{◌≡◌, ◌≢◌, ℕ, ◌≤◌, Bool, true, false, List, length, map, Option, Result, Ok, Err}
+use Rattle.smx_filters.proofs.Common.{refl, sym, ap, subst, ◌∙◌, arith, inl, inr, ProgramLists, Entry, DriverSpec}
+use Rattle.smx_filters.proofs.Common.{Transcript, Version, IsReportOf, call_of, Spells, transcript_grammar}
+use Rattle.smx_filters.proofs.Common.{transcript_text, TextFault, RefusesDrivers, IsVerdict, ConfigFault, Verdict}
+use Rattle.smx_filters.proofs.Common.{Legal, RefusesAlone, RunFault, checking, Answers, Filter, GivesFor, replaying}
+use Rattle.smx_filters.proofs.Common.{IsWrittenFor, running, MainFault, Refused, Text, TooLong, ReadFailed}
+use Rattle.smx_filters.proofs.Common.{WriteFailed}
+use Rattle.std.proofs.Common.{◌++◌}
 use Rattle.smx_types.specs.declared.view.ConfigView.{ConfigView}
 use Rattle.smx_model.specs.DriverList.{IsDriverList}
-use Rattle.smx_model.specs.Headline.{IsReportOf}
-use Rattle.smx_model.specs.Histories.{call_of}
-use Rattle.smx_text.specs.Grammar.{Spells}
 use Rattle.smx_text.specs.ProgramsText.{programs_grammar}
-use Rattle.smx_text.specs.TranscriptText.{transcript_grammar, transcript_text}
-use Rattle.smx_text.specs.declared.text_fault.TextFault.{TextFault}
-use Rattle.smx_config.specs.DriverFaults.{RefusesDrivers}
-use Rattle.smx_config.specs.Verdicts.{IsVerdict}
-use Rattle.smx_config.specs.declared.config_fault.ConfigFault.{ConfigFault}
 use Rattle.smx_config.specs.declared.config_fault.ConfigFault.TheVariants as config
-use Rattle.smx_config.specs.declared.verdict.Verdict.{Verdict}
-use Rattle.smx_config.specs.declared.verdict.Verdict.TheVariants.{Legal}
-use Rattle.smx_run.specs.RunFaults.{RefusesAlone}
-use Rattle.smx_run.specs.declared.run_fault.RunFault.{RunFault}
 use Rattle.smx_run.specs.declared.run_fault.RunFault.TheVariants as run
 use Rattle.smx_model.proofs.ReportLemmas.{one_report}
 use Rattle.smx_config.proofs.DriverFaultLemmas.{one_fault as one_refusal}
@@ -30,14 +19,12 @@ use Rattle.smx_filters.proofs.ReadingLemmas.{HasOneReading, no_fault, one_fault,
 use Rattle.smx_filters.proofs.ReplayTextLemmas.{HasOneReplay, part_drivers}
 use Rattle.smx_trace.specs.Traces.{IsTraceText}
 use Rattle.smx_explain.specs.Explanations.{IsExplanation}
-use Rattle.smx_filters.specs.CheckText.{checking, verdict_line}
+use Rattle.smx_filters.specs.CheckText.{verdict_line}
 use Rattle.smx_filters.specs.ExplainText.{explaining}
-use Rattle.smx_filters.specs.Filters.{Answers, Filter, GivesFor, HasEnoughMemory, RefusesFor}
-use Rattle.smx_filters.specs.ReplayText.{IsPastEnd, RefusesPart, asked_part, replaying}
-use Rattle.smx_filters.specs.RunText.{IsTranscriptFor, IsWrittenFor, running}
+use Rattle.smx_filters.specs.Filters.{HasEnoughMemory, RefusesFor}
+use Rattle.smx_filters.specs.ReplayText.{IsPastEnd, RefusesPart, asked_part}
+use Rattle.smx_filters.specs.RunText.{IsTranscriptFor}
 use Rattle.smx_filters.specs.TraceText.{tracing}
-use Rattle.smx_filters.specs.declared.main_fault.MainFault.{MainFault}
-use Rattle.smx_filters.specs.declared.main_fault.MainFault.TheVariants.{Refused, Text, TooLong, ReadFailed, WriteFailed}
 
 -- ---- what other crates' laws say
 

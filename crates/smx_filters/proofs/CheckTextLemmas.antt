@@ -1,16 +1,9 @@
 -- The answer of a check to a transcript that was read.
-use Rattle.std.proofs.Common.{◌≡◌, ℕ, List, Result, Ok, Err, sym, subst}
-use Rattle.std.specs.Prelude.{IfErr, IfOk, IsErrAnd, String, string_bytes}
-use Rattle.std.specs.Global.{Global}
-use Rattle.smx_types.specs.declared.transcript.Transcript.{Transcript}
-use Rattle.smx_text.specs.Grammar.{ReadsAny, Spells}
-use Rattle.smx_text.specs.TranscriptText.{transcript_grammar}
-use Rattle.smx_text.specs.declared.text_fault.TextFault.{TextFault}
-use Rattle.smx_config.specs.declared.verdict.Verdict.{Verdict}
-use Rattle.smx_filters.specs.CheckText.{IsJudged, IsRefusedCheck, checking, judged_of}
-use Rattle.smx_filters.specs.Filters.{Answers, IsFaultOf}
-use Rattle.smx_filters.specs.declared.main_fault.MainFault.{MainFault}
-use Rattle.smx_filters.specs.declared.main_fault.MainFault.TheVariants.{Text}
+use Rattle.smx_filters.proofs.Common.{◌≡◌, ℕ, List, Result, Ok, Err, sym, subst, IfErr, IsErrAnd, Global, Transcript}
+use Rattle.smx_filters.proofs.Common.{ReadsAny, Spells, transcript_grammar, TextFault, Verdict, checking, Answers}
+use Rattle.smx_filters.proofs.Common.{IsFaultOf, MainFault, Text}
+use Rattle.std.specs.Prelude.{IfOk, String, string_bytes}
+use Rattle.smx_filters.specs.CheckText.{IsJudged, IsRefusedCheck, judged_of}
 
 -- the malformed text is that of the input
 pub text_not_judged : (bytes input : List ℕ) → bytes ≡ input → (f : TextFault)

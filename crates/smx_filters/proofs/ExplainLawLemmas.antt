@@ -1,18 +1,11 @@
 -- The explanation beside the verdict of a check, and what is kept of an input in memory.
-use Rattle.std.proofs.Common.{◌≡◌, ℕ, ◌++◌, Bool, true, false, List, [], Option, Some, None, Err, Vec, refl}
-use Rattle.std.proofs.Common.{sym, subst, ◌∙◌, append-nil, inl, inr}
-use Rattle.std.specs.Global.{Global}
-use Rattle.smx_types.specs.declared.transcript.Transcript.{Transcript}
-use Rattle.smx_config.specs.Verdicts.{IsVerdict}
-use Rattle.smx_config.specs.declared.verdict.Verdict.{Verdict}
-use Rattle.smx_config.specs.declared.verdict.Verdict.TheVariants.{Legal}
+use Rattle.smx_filters.proofs.Common.{◌≡◌, ℕ, Bool, true, false, List, Option, Some, None, Err, Vec, refl, sym, subst}
+use Rattle.smx_filters.proofs.Common.{◌∙◌, inl, inr, Global, Transcript, IsVerdict, Verdict, Legal, checking, Filter}
+use Rattle.smx_filters.proofs.Common.{GivesFor, MainFault, Refused, Text}
+use Rattle.std.proofs.Common.{◌++◌, [], append-nil}
 use Rattle.smx_explain.specs.Explanations.{IsExplanation}
 use Rattle.smx_run.specs.declared.run_fault.RunFault.TheVariants as run
-use Rattle.smx_filters.specs.CheckText.{checking}
 use Rattle.smx_filters.specs.ExplainText.{IsKept, KeepsText, is_in_text, judging}
-use Rattle.smx_filters.specs.Filters.{Filter, GivesFor}
-use Rattle.smx_filters.specs.declared.main_fault.MainFault.{MainFault}
-use Rattle.smx_filters.specs.declared.main_fault.MainFault.TheVariants.{Refused, Text}
 use Rattle.smx_filters.specs.declared.refusal.Refusal.{Refusal}
 
 -- the explanation of a legal transcript is empty

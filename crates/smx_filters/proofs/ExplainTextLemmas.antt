@@ -1,14 +1,9 @@
 -- The texts that are kept.
-use Rattle.std.proofs.Common.{◌≡◌, ℕ, Bool, true, false, List, Option, None, Result, Ok, Err, Vec, sym, ap, subst, ◌∙◌}
-use Rattle.std.specs.Global.{Global}
-use Rattle.std.specs.Io.KnownBytes.{Appends}
-use Rattle.std.specs.Prelude.{IsErrAnd}
+use Rattle.smx_filters.proofs.Common.{◌≡◌, ℕ, Bool, true, false, List, Option, None, Result, Ok, Err, Vec, sym, ap}
+use Rattle.smx_filters.proofs.Common.{subst, ◌∙◌, Global, Appends, IsErrAnd, Answers, Filter, GivesFor, IsInput}
+use Rattle.smx_filters.proofs.Common.{MainFault, WriteFailed}
 use Rattle.smx_filters.specs.ExplainText.{IsKept, KeepsText, is_in_text}
-use Rattle.smx_filters.specs.Filters.{Answers, Filter, GivesFor}
-use Rattle.smx_filters.specs.Input.{IsInput}
 use Rattle.smx_filters.specs.Output.{AppendsBeginning}
-use Rattle.smx_filters.specs.declared.main_fault.MainFault.{MainFault}
-use Rattle.smx_filters.specs.declared.main_fault.MainFault.TheVariants.{WriteFailed}
 use Rattle.smx_filters.specs.declared.refusal.Refusal.{Refusal}
 use Rattle.smx_filters.proofs.FilterLemmas.{are_read, at_answer}
 use Rattle.smx_filters.proofs.WritingFilterLemmas.{written_out}

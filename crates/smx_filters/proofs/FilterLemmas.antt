@@ -1,20 +1,14 @@
 -- A filter that fails on the bytes that it read.
-use Rattle.std.proofs.Common.{◌≡◌, ◌≢◌, ℕ, List, Option, Some, None, Bool, Result, Ok, Err}
-use Rattle.std.proofs.Common.{Vec, sym, subst, rules, arith, inl}
-use Rattle.std.specs.Prelude.{IsErrAnd, IsErrOf}
-use Rattle.std.specs.Global.{Global}
+use Rattle.smx_filters.proofs.Common.{◌≡◌, ◌≢◌, ℕ, List, Option, Some, None, Bool, Result, Ok, Err, Vec, sym, subst}
+use Rattle.smx_filters.proofs.Common.{rules, arith, inl, IsErrAnd, Global, DriverSpec, TextFault, RefusesDrivers}
+use Rattle.smx_filters.proofs.Common.{ConfigFault, RefusesAlone, RunFault, MainFault, Refused, Text, TooLong}
+use Rattle.smx_filters.proofs.Common.{ReadFailed, WriteFailed, Filter, Answers, FiltersText, IsFaultOf, IsInput}
+use Rattle.std.specs.Prelude.{IsErrOf}
 use Rattle.std.specs.Io.KnownBytes.{Keeps}
-use Rattle.smx_types.specs.declared.driver.DriverSpec.{DriverSpec}
-use Rattle.smx_text.specs.declared.text_fault.TextFault.{TextFault}
-use Rattle.smx_config.specs.DriverFaults.{RefusesDrivers}
-use Rattle.smx_config.specs.declared.config_fault.ConfigFault.{ConfigFault}
 use Rattle.smx_config.specs.declared.config_fault.ConfigFault.TheVariants as config
-use Rattle.smx_run.specs.RunFaults.{RefusesAlone, run_fault_of}
-use Rattle.smx_run.specs.declared.run_fault.RunFault.{RunFault}
-use Rattle.smx_filters.specs.declared.main_fault.MainFault.{MainFault}
-use Rattle.smx_filters.specs.declared.main_fault.MainFault.TheVariants.{Refused, Text, TooLong, ReadFailed, WriteFailed}
-use Rattle.smx_filters.specs.Filters.{Filter, Answers, FiltersText, IsFaultOf, RefusesFor}
-use Rattle.smx_filters.specs.Input.{IsInput, IsWhole}
+use Rattle.smx_run.specs.RunFaults.{run_fault_of}
+use Rattle.smx_filters.specs.Filters.{RefusesFor}
+use Rattle.smx_filters.specs.Input.{IsWhole}
 
 -- known bytes that don't change are kept
 kept : (known : Option (List ℕ)) → Keeps known known

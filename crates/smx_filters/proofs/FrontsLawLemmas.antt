@@ -1,20 +1,14 @@
 -- The fronts text that a run writes is that of one report.
-use Rattle.std.proofs.Common.{◌≡◌, ℕ, suc, ◌+◌, ◌≤◌, true, List, [], ◌∷◌, length, map, refl, sym, ap, ◌∙◌, arith}
-use Rattle.std.proofs.Common.{length-append}
+use Rattle.smx_filters.proofs.Common.{◌≡◌, ℕ, ◌+◌, ◌≤◌, true, List, length, map, refl, sym, ap, ◌∙◌, arith}
+use Rattle.smx_filters.proofs.Common.{ProgramLists, Entry, DriverSpec, Transcript, IsReportOf, call_of, calls_from}
+use Rattle.smx_filters.proofs.Common.{IsWrittenFor}
+use Rattle.std.proofs.Common.{suc, [], ◌∷◌, length-append}
 use Rattle.std.proofs.lemmas.List.Elements.{All-nil, All-cons}
 use Rattle.std.specs.List.{All}
-use Rattle.smx_types.specs.ProgramLists.{ProgramLists}
 use Rattle.smx_types.specs.declared.command.Command.{Command}
-use Rattle.smx_types.specs.declared.command.Entry.{Entry}
-use Rattle.smx_types.specs.declared.driver.DriverSpec.{DriverSpec}
-use Rattle.smx_types.specs.declared.transcript.Transcript.{Transcript}
-use Rattle.smx_model.specs.Headline.{IsReportOf}
-use Rattle.smx_model.specs.Histories.{call_of}
 use Rattle.smx_shared.specs.declared.front.Front.{Front}
 use Rattle.smx_run.specs.Fronts.{AreFrontsFrom, IsFrontAfter}
-use Rattle.smx_run.specs.ProgramOrder.{calls_from}
 use Rattle.smx_filters.specs.FrontsText.{fronts_text}
-use Rattle.smx_filters.specs.RunText.{IsWrittenFor}
 
 -- there is one front for each process
 as_many : (drivers : List DriverSpec) (history : List Entry) (n : ℕ) (programs : List (List Command))

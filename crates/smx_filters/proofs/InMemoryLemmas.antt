@@ -1,14 +1,12 @@
 -- The results of a filter for an input in memory.
-use Rattle.std.proofs.Common.{◌≡◌, ◌≢◌, ℕ, ◌+◌, ◌≤◌, ltb, Bool, List, [], ◌++◌, length, drop, Some, Result, Ok, Err}
-use Rattle.std.proofs.Common.{sym, ap, ◌∙◌, arith, inl, inr, length-append, refl, true}
+use Rattle.smx_filters.proofs.Common.{◌≡◌, ◌≢◌, ℕ, ◌+◌, ◌≤◌, Bool, List, length, Some, Result, Ok, Err, sym, ap, ◌∙◌}
+use Rattle.smx_filters.proofs.Common.{arith, inl, inr, refl, true, Filter, FiltersText, MainFault, Refused, Text}
+use Rattle.smx_filters.proofs.Common.{TooLong, ReadFailed, WriteFailed, MAX_INPUT}
+use Rattle.std.proofs.Common.{ltb, [], ◌++◌, drop, length-append}
 use Rattle.std.proofs.lemmas.Bool.{cases_Bool}
 use Rattle.std.proofs.lemmas.Bool.Decides.{nat_tests}
 use Rattle.std.proofs.lemmas.List.{drop_at, nil_from_length}
-use Rattle.smx_filters.specs.Filters.{Filter, FiltersText}
 use Rattle.smx_filters.specs.InMemory.{EndsInMemory, IsCutShort, FiltersInMemory}
-use Rattle.smx_filters.specs.declared.main_fault.MainFault.{MainFault}
-use Rattle.smx_filters.specs.declared.main_fault.MainFault.TheVariants.{Refused, Text, TooLong, ReadFailed, WriteFailed}
-use Rattle.smx_filters.specs.declared.input.TheConstants.{MAX_INPUT}
 
 -- nothing is left of a whole input
 none_left : (input read left : List ℕ) → input ≡ read ++ left → input ≡ read → left ≡ []

@@ -1,23 +1,19 @@
 -- A report of programs is allowed in their version, and its text is a transcript.
-use Rattle.std.proofs.Common.{◌≡◌, ℕ, ◌≤◌, Bool, true, false, ◌||◌, List, length, map, refl, sym, ap, subst, ◌∙◌, rules}
-use Rattle.smx_types.specs.ProgramLists.{ProgramLists, AreWithinLimits}
+use Rattle.smx_filters.proofs.Common.{◌≡◌, ℕ, ◌≤◌, Bool, true, false, List, length, map, refl, sym, ap, subst, ◌∙◌}
+use Rattle.smx_filters.proofs.Common.{rules, ProgramLists, Entry, DriverSpec, Transcript, Version, IsReportOf}
+use Rattle.smx_filters.proofs.Common.{call_of, calls_from, IsWrittenFor, transcript_text}
+use Rattle.std.proofs.Common.{◌||◌}
+use Rattle.smx_types.specs.ProgramLists.{AreWithinLimits}
 use Rattle.smx_types.specs.Versions.{are_more_drivers, least_of_transcript, most_drivers, version_2_where}
-use Rattle.smx_types.specs.declared.command.Entry.{Entry}
-use Rattle.smx_types.specs.declared.driver.DriverSpec.{DriverSpec}
 use Rattle.smx_types.specs.declared.limits.TheConstants.{MAX_COMMANDS, MAX_DRIVERS}
-use Rattle.smx_types.specs.declared.transcript.Transcript.{Transcript}
-use Rattle.smx_types.specs.declared.version.Version.{Version}
 use Rattle.smx_types.specs.declared.version.Version.TheVariants.{V1, V2}
 use Rattle.smx_types.specs.declared.view.ConfigView.{ConfigView}
-use Rattle.smx_model.specs.Headline.{IsReportOf}
-use Rattle.smx_model.specs.Histories.{after, call_of}
+use Rattle.smx_model.specs.Histories.{after}
 use Rattle.smx_model.specs.Views.{view}
 use Rattle.smx_shared.specs.Recorded.{Recorded}
-use Rattle.smx_run.specs.ProgramOrder.{calls_from}
 use Rattle.smx_run.specs.Reports.{transcript_in}
 use Rattle.smx_text.specs.GrowingTranscripts.{transcript_with, AreEntryLines}
-use Rattle.smx_filters.specs.RunText.{IsWrittenFor}
-use Rattle.smx_text.specs.TranscriptText.{IsAllowed, IsSpellable, SpellsTranscript, transcript_text}
+use Rattle.smx_text.specs.TranscriptText.{IsAllowed, IsSpellable, SpellsTranscript}
 use Rattle.smx_text.proofs.TranscriptWholeLemmas.{spellable_allowed}
 use Rattle.smx_model.proofs.QuietHistoryLemmas.{report_is_quiet}
 

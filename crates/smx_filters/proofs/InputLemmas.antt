@@ -1,13 +1,11 @@
 -- How reading goes on and ends.
-use Rattle.std.proofs.Common.{◌≡◌, ℕ, ◌+◌, ◌<◌, ◌≤◌, Bool, List, ◌++◌, length, take, Option, Some}
-use Rattle.std.proofs.Common.{None, Err, sym, ap, ◌∙◌, append_assoc, arith, rules}
+use Rattle.smx_filters.proofs.Common.{◌≡◌, ℕ, ◌+◌, ◌≤◌, Bool, List, length, take, Option, Some, None, Err, sym, ap}
+use Rattle.smx_filters.proofs.Common.{◌∙◌, arith, rules, Consumes, IsInput, TooLong, ReadFailed, MAX_INPUT}
+use Rattle.std.proofs.Common.{◌<◌, ◌++◌, append_assoc}
 use Rattle.std.proofs.Math.Seq.{take-append-add}
 use Rattle.std.proofs.lemmas.List.{length-append, take-append-le, take-take}
 use Rattle.std.proofs.KnownBytes.{Consumes-trans}
-use Rattle.std.specs.Io.KnownBytes.{Consumes, Keeps}
-use Rattle.smx_filters.specs.Input.{IsInput}
-use Rattle.smx_filters.specs.declared.main_fault.MainFault.TheVariants.{TooLong, ReadFailed}
-use Rattle.smx_filters.specs.declared.input.TheConstants.{MAX_INPUT}
+use Rattle.std.specs.Io.KnownBytes.{Keeps}
 
 -- a piece that was read after the first `k` bytes of a buffer, as the buffer then has it
 pub with_piece : (before piece after tail : List ℕ) (k size n : ℕ) → length before ≡ k → k + n ≤ size → n ≤ length piece

@@ -1,10 +1,7 @@
 -- The bytes of an input determine the value that it spells, or its fault.
-use Rattle.std.proofs.Common.{◌≡◌, ◌≢◌, ℕ, List, Result, Ok, Err}
-use Rattle.std.specs.Prelude.{IfErr}
-use Rattle.smx_types.specs.declared.version.Version.{Version}
-use Rattle.smx_text.specs.Grammar.{Grammar, ReadsAny, Spells}
+use Rattle.smx_filters.proofs.Common.{◌≡◌, ◌≢◌, ℕ, List, Result, Ok, Err, IfErr, Version, ReadsAny, Spells, TextFault}
+use Rattle.smx_text.specs.Grammar.{Grammar}
 use Rattle.smx_text.specs.declared.text_fault.Cause.TheVariants as cause
-use Rattle.smx_text.specs.declared.text_fault.TextFault.{TextFault}
 
 -- two readings of one text are the same, unless memory runs out: what the laws of texts say
 abbrev pub HasOneReading : {V K : Type 0} → (Version → Grammar V K) → Type 0

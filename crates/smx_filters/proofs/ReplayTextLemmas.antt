@@ -1,28 +1,19 @@
 -- The answer of a replay to an input that was read completely, and the laws of replays over bytes.
-use Rattle.std.proofs.Common.{◌≡◌, ℕ, List, length, Option, Some, None, Vec, Result, Ok, Err, refl, sym, ap, subst, ◌∙◌}
-use Rattle.std.specs.Prelude.{IsErrAnd}
-use Rattle.std.specs.Global.{Global}
-use Rattle.smx_types.specs.declared.driver.DriverSpec.{DriverSpec}
-use Rattle.smx_types.specs.declared.transcript.Transcript.{Transcript}
-use Rattle.smx_types.specs.declared.version.Version.{Version}
+use Rattle.smx_filters.proofs.Common.{◌≡◌, ℕ, List, length, Option, Some, None, Vec, Result, Ok, Err, refl, sym, ap}
+use Rattle.smx_filters.proofs.Common.{subst, ◌∙◌, IsErrAnd, Global, DriverSpec, Transcript, Version, ReadsAny, Spells}
+use Rattle.smx_filters.proofs.Common.{transcript_grammar, transcript_text, RefusesDrivers, IsVerdict, ConfigFault}
+use Rattle.smx_filters.proofs.Common.{Legal, RefusesAlone, RunFault, checking, Answers, GivesFor, replaying}
+use Rattle.smx_filters.proofs.Common.{MainFault, Refused}
 use Rattle.smx_model.specs.DriverList.{IsDriverList}
-use Rattle.smx_text.specs.Grammar.{ReadsAny, Spells, full_text}
-use Rattle.smx_text.specs.TranscriptText.{IsAllowed, IsSpellable, transcript_grammar, transcript_text}
-use Rattle.smx_config.specs.DriverFaults.{RefusesDrivers}
-use Rattle.smx_config.specs.Verdicts.{IsVerdict}
-use Rattle.smx_config.specs.declared.config_fault.ConfigFault.{ConfigFault}
-use Rattle.smx_config.specs.declared.verdict.Verdict.TheVariants.{Legal}
+use Rattle.smx_text.specs.Grammar.{full_text}
+use Rattle.smx_text.specs.TranscriptText.{IsAllowed, IsSpellable}
 use Rattle.smx_trace.specs.Prefixes.{first_entries}
 use Rattle.smx_trace.specs.Replays.{IsReplayOf, IsReplayText}
-use Rattle.smx_run.specs.RunFaults.{RefusesAlone, run_fault_of}
-use Rattle.smx_run.specs.declared.run_fault.RunFault.{RunFault}
+use Rattle.smx_run.specs.RunFaults.{run_fault_of}
 use Rattle.smx_run.specs.declared.run_fault.RunFault.TheVariants as run
-use Rattle.smx_filters.specs.CheckText.{checking, verdict_line}
-use Rattle.smx_filters.specs.Filters.{Answers, GivesFor}
-use Rattle.smx_filters.specs.ReplayText.{IsPastEnd, RefusesPart, asked_part, replaying}
+use Rattle.smx_filters.specs.CheckText.{verdict_line}
+use Rattle.smx_filters.specs.ReplayText.{IsPastEnd, RefusesPart, asked_part}
 use Rattle.smx_filters.specs.RunText.{items_of}
-use Rattle.smx_filters.specs.declared.main_fault.MainFault.{MainFault}
-use Rattle.smx_filters.specs.declared.main_fault.MainFault.TheVariants.{Refused}
 use Rattle.smx_filters.proofs.FilterLemmas.{alone_of}
 use Rattle.smx_filters.proofs.ReadingLemmas.{HasOneReading, one_value}
 

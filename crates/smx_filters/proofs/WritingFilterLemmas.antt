@@ -1,16 +1,13 @@
 -- A filter whose answer says only that it is done, for an input that was read completely: its text is malformed, or
 -- what the filter gives is written.
-use Rattle.std.proofs.Common.{◌≡◌, ℕ, Bool, true, List, Option, Vec, Result, Ok, Err, sym, ap, subst, ◌∙◌, arith}
-use Rattle.std.specs.Prelude.{IfErr, IsErrAnd, OnErr, OnOk}
-use Rattle.std.specs.Global.{Global}
-use Rattle.std.specs.Io.KnownBytes.{Appends}
-use Rattle.smx_text.specs.declared.text_fault.TextFault.{TextFault}
-use Rattle.smx_filters.specs.Filters.{Answers, Filter, FiltersText, GivesFor, IsFaultOf}
-use Rattle.smx_filters.specs.Input.{IsInput, IsWhole}
+use Rattle.smx_filters.proofs.Common.{◌≡◌, ℕ, Bool, true, List, Option, Vec, Result, Ok, Err, sym, ap, subst, ◌∙◌}
+use Rattle.smx_filters.proofs.Common.{arith, IfErr, IsErrAnd, Global, Appends, TextFault, Answers, Filter}
+use Rattle.smx_filters.proofs.Common.{FiltersText, GivesFor, IsFaultOf, IsInput, MainFault, Refused, Text, TooLong}
+use Rattle.smx_filters.proofs.Common.{ReadFailed, WriteFailed}
+use Rattle.std.specs.Prelude.{OnErr, OnOk}
+use Rattle.smx_filters.specs.Input.{IsWhole}
 use Rattle.smx_filters.specs.Output.{AppendsBeginning}
 use Rattle.smx_filters.specs.RunText.{items_of}
-use Rattle.smx_filters.specs.declared.main_fault.MainFault.{MainFault}
-use Rattle.smx_filters.specs.declared.main_fault.MainFault.TheVariants.{Refused, Text, TooLong, ReadFailed, WriteFailed}
 
 -- if the text is malformed, the answer is its fault
 pub text_refused : {V K : Type 0} (filter : Filter V K (Unit {0})) (bytes input : List ℕ) → bytes ≡ input

@@ -1,21 +1,12 @@
 -- The output of a worked session if memory runs out.
-use Rattle.std.proofs.Common.{◌≡◌, ◌≢◌, ℕ, Bool, true, false, List, [], ◌∷◌, ◌++◌, length, refl, sym, ap, subst, ◌∙◌}
-use Rattle.std.proofs.Common.{inl, inr, arith}
-use Rattle.std.proofs.lemmas.List.{append-nil, length-append}
-use Rattle.std.specs.Prelude.{codes}
-use Rattle.smx_types.specs.ProgramLists.{ProgramLists}
-use Rattle.smx_types.specs.declared.version.Version.TheVariants.{V2}
-use Rattle.smx_words.specs.Words.{LINE_FEED}
-use Rattle.smx_text.specs.Grammar.{Spells}
-use Rattle.smx_text.specs.ProgramsText.{programs_grammar}
-use Rattle.smx_filters.proofs.ReadingLemmas.{HasOneReading, one_value}
-use Rattle.smx_explain.specs.ColumnWords.{IsExplanationOf}
-use Rattle.smx_session.specs.Sessions.{IsStartOf}
+use Rattle.smx_live.proofs.Common.{◌≡◌, ◌≢◌, ℕ, Bool, true, false, List, [], ◌∷◌, ◌++◌, length, refl, sym, ap, subst}
+use Rattle.smx_live.proofs.Common.{◌∙◌, inl, inr, arith, length-append, codes, ProgramLists, V2, LINE_FEED, Spells}
+use Rattle.smx_live.proofs.Common.{programs_grammar, HasOneReading, one_value, IsExplanationOf, IsStartOf}
+use Rattle.smx_live.proofs.Common.{HasComeSoFar, IsTable, table_text, Turn, asked_text, worked_table}
+use Rattle.std.proofs.lemmas.List.{append-nil}
 use Rattle.smx_session.specs.WorkedSessions.{begun, drivers, opened, table}
-use Rattle.smx_live.specs.LiveText.{HasComeSoFar, IsBroken}
-use Rattle.smx_live.specs.Tables.{IsTable, table_text}
-use Rattle.smx_live.specs.Turns.{Turn, asked_text}
-use Rattle.smx_live.specs.WorkedLives.{worked_answers, worked_below, worked_input, worked_table}
+use Rattle.smx_live.specs.LiveText.{IsBroken}
+use Rattle.smx_live.specs.WorkedLives.{worked_answers, worked_below, worked_input}
 use Rattle.smx_live.proofs.OneOutputLemmas.{asked_cons}
 use Rattle.smx_live.proofs.OverTableLemmas.{table_once}
 use Rattle.smx_live.proofs.LiveLemmas as live

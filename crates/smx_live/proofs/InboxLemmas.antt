@@ -1,17 +1,15 @@
 -- Lines at the start of the held bytes, and how reads end.
-use Rattle.std.proofs.Common.{◌≡◌, ◌≢◌, ℕ, ◌+◌, ◌<◌, ◌≤◌, Bool, List, [], ◌∷◌, ◌++◌, length, take, drop}
-use Rattle.std.proofs.Common.{sym, ap, subst, ◌∙◌, append_assoc, take-append-drop, arith}
+use Rattle.smx_live.proofs.Common.{◌≡◌, ◌≢◌, ℕ, ◌+◌, ◌<◌, ◌≤◌, Bool, List, [], ◌∷◌, ◌++◌, length, take, drop, sym, ap}
+use Rattle.smx_live.proofs.Common.{subst, ◌∙◌, append_assoc, arith, length-append, length-take-le, LINE_FEED}
+use Rattle.smx_live.proofs.Common.{IsOneLine, MainFault, Refused, Text, TooLong, ReadFailed, WriteFailed, FailsToRead}
+use Rattle.smx_live.proofs.Common.{HasLine, IsTooLong, MAX_INPUT}
+use Rattle.std.proofs.Common.{take-append-drop}
 use Rattle.std.proofs.Math.Seq.{drop-append-add, take-append-add, take-append_seam}
-use Rattle.std.proofs.lemmas.List.{length-append, length-take-le, take_all}
+use Rattle.std.proofs.lemmas.List.{take_all}
 use Rattle.std.specs.Prelude.{Option, Result, Ok, Err}
-use Rattle.smx_words.specs.Words.{LINE_FEED}
-use Rattle.smx_text.specs.Grammar.{IsOneLine}
 use Rattle.smx_text.proofs.EachLemmas.{all_append}
-use Rattle.smx_filters.specs.declared.main_fault.MainFault.{MainFault}
-use Rattle.smx_filters.specs.declared.main_fault.MainFault.TheVariants.{Refused, Text, TooLong, ReadFailed, WriteFailed}
-use Rattle.smx_live.specs.Inboxes.{FailsToRead, HasLine, IsTooLong, LineComes, MayBeTaken}
+use Rattle.smx_live.specs.Inboxes.{LineComes, MayBeTaken}
 use Rattle.smx_live.specs.declared.inbox.Inbox.{Inbox}
-use Rattle.smx_filters.specs.declared.input.TheConstants.{MAX_INPUT}
 
 -- ---- lines
 

@@ -1,32 +1,24 @@
 -- The output of a live session, without the answers that are not entries, is a legal transcript.
-use Rattle.std.proofs.Common.{◌≡◌, ℕ, ◌≤◌, Bool, false, List, [], ◌∷◌, ◌++◌, length, map, refl, sym, ap}
-use Rattle.std.proofs.Common.{subst, ◌∙◌, append_assoc, rules}
+use Rattle.smx_live.proofs.Common.{◌≡◌, ℕ, ◌≤◌, Bool, false, List, [], ◌∷◌, ◌++◌, length, map, refl, sym, ap, subst}
+use Rattle.smx_live.proofs.Common.{◌∙◌, append_assoc, rules, AllByRecursion, codes, Entry, DriverSpec, Version, step}
+use Rattle.smx_live.proofs.Common.{Configuration, after, view, BeginsTranscript, IsOver, Entered, Shown, NotDone}
+use Rattle.smx_live.proofs.Common.{Turn, Answer, AreAnswered, IsAnswer, IsEntryOf, entries_in, entries_of}
 use Rattle.std.proofs.lemmas.Bool.{or_from}
 use Rattle.std.proofs.lemmas.List.{append-nil}
-use Rattle.std.specs.List.{AllByRecursion, list_any}
-use Rattle.std.specs.Prelude.{codes, nat_lt}
-use Rattle.smx_types.specs.Versions.{is_hangup, is_of_hangup, least_of_transcript, most_drivers}
-use Rattle.smx_types.specs.Versions.{version_2_where}
-use Rattle.smx_types.specs.declared.command.Entry.{Entry}
-use Rattle.smx_types.specs.declared.driver.DriverSpec.{DriverSpec}
+use Rattle.std.specs.List.{list_any}
+use Rattle.std.specs.Prelude.{nat_lt}
+use Rattle.smx_types.specs.Versions.{is_hangup, is_of_hangup, least_of_transcript, most_drivers, version_2_where}
 use Rattle.smx_types.specs.declared.limits.TheConstants.{MAX_DRIVERS_OF_VERSION_1}
-use Rattle.smx_types.specs.declared.version.Version.{Version}
 use Rattle.smx_types.specs.declared.version.Version.TheVariants.{V1}
 use Rattle.smx_types.specs.declared.view.ConfigView.{ConfigView}
-use Rattle.smx_model.specs.Commands.{step}
-use Rattle.smx_model.specs.Configuration.{Configuration}
-use Rattle.smx_model.specs.Histories.{after, IsLegal}
-use Rattle.smx_model.specs.Views.{view}
+use Rattle.smx_model.specs.Histories.{IsLegal}
 use Rattle.smx_words.specs.Spellable.{FitsEntry}
 use Rattle.smx_words.specs.Spelling.{entry_words}
 use Rattle.smx_words.specs.Words.{text_of}
-use Rattle.smx_text.specs.GrowingTranscripts.{BeginsTranscript}
 use Rattle.smx_text.specs.TranscriptText.{transcript_text, view_lines, IsAllowed}
 use Rattle.smx_text.proofs.GrowingLemmas.{grown, finished}
 use Rattle.smx_text.proofs.TranscriptWholeLemmas.{spellable_allowed}
-use Rattle.smx_live.specs.LiveText.{IsOver, IsLegalTranscript, transcript_of, transcript_part}
-use Rattle.smx_live.specs.Turns.{Entered, Shown, NotDone, Turn, Answer, AreAnswered, IsAnswer, IsEntryOf, entries_in}
-use Rattle.smx_live.specs.Turns.{entries_of}
+use Rattle.smx_live.specs.LiveText.{IsLegalTranscript, transcript_of, transcript_part}
 
 -- ---- what the laws of histories say
 

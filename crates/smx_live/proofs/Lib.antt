@@ -1,3 +1,4 @@
+pub mod Common
 pub mod AskedLineLemmas
 pub mod BrokenLiveLemmas
 pub mod InboxLemmas

@@ -1,32 +1,20 @@
 -- How a live session goes on: one more turn, more bytes, its beginning and its end.
-use Rattle.std.proofs.Common.{◌≡◌, ℕ, ◌+◌, ◌≤◌, Bool, true, false, List, [], ◌∷◌, ◌++◌, length, take, drop, refl}
-use Rattle.std.proofs.Common.{sym, ap, subst, ◌∙◌, append_assoc, arith, inl, Some}
-use Rattle.std.proofs.lemmas.List.{append-nil, length-append, length-take-le}
-use Rattle.smx_types.specs.declared.command.Entry.{Entry}
-use Rattle.smx_types.specs.declared.driver.DriverSpec.{DriverSpec}
+use Rattle.smx_live.proofs.Common.{◌≡◌, ℕ, ◌+◌, ◌≤◌, Bool, true, false, List, [], ◌∷◌, ◌++◌, length, take, drop, refl}
+use Rattle.smx_live.proofs.Common.{sym, ap, subst, ◌∙◌, append_assoc, arith, inl, length-append, length-take-le}
+use Rattle.smx_live.proofs.Common.{Entry, DriverSpec, Version, step, Configuration, after, call_of, view, call_words}
+use Rattle.smx_live.proofs.Common.{LINE_FEED, line_of, BeginsTranscript, IsStartOf, State, MAX_INPUT, HasLine}
+use Rattle.smx_live.proofs.Common.{IsShort, IsLive, IsOver, IsTable, table_text, Answer, Entered, Shown, NotDone}
+use Rattle.smx_live.proofs.Common.{Turn, AreAnswered, IsAnswer, IsBelow, IsEntryOf, asked_text, entries_in}
+use Rattle.smx_live.proofs.Common.{entries_of, Progress}
+use Rattle.std.proofs.Common.{Some}
+use Rattle.std.proofs.lemmas.List.{append-nil}
 use Rattle.smx_types.specs.declared.limits.TheConstants.{MAX_COMMANDS}
 use Rattle.smx_types.specs.declared.reply.Reply.{Reply}
-use Rattle.smx_types.specs.declared.version.Version.{Version}
-use Rattle.smx_model.specs.Commands.{step}
-use Rattle.smx_model.specs.Configuration.{Configuration}
-use Rattle.smx_model.specs.Histories.{after, call_of}
-use Rattle.smx_model.specs.Views.{view}
 use Rattle.smx_model.proofs.HistoryLemmas.{after_push}
-use Rattle.smx_words.specs.Spelling.{call_words}
-use Rattle.smx_words.specs.Words.{LINE_FEED, line_of}
-use Rattle.smx_text.specs.GrowingTranscripts.{BeginsTranscript}
 use Rattle.smx_text.specs.TranscriptText.{IsSpellableView}
-use Rattle.smx_session.specs.Sessions.{IsStartOf, State}
-use Rattle.smx_filters.specs.declared.input.TheConstants.{MAX_INPUT}
-use Rattle.smx_live.specs.Inboxes.{HasLine, IsShort}
-use Rattle.smx_live.specs.LiveText.{IsAtEnd, IsLive, IsOver, closing_text}
+use Rattle.smx_live.specs.LiveText.{IsAtEnd, closing_text}
 use Rattle.smx_live.specs.LiveTurns.{IsTurnText}
-use Rattle.smx_live.specs.Tables.{IsTable, table_text}
-use Rattle.smx_live.specs.Turns.{Answer, Entered, Shown, NotDone, Turn, AreAnswered, IsAnswer}
-use Rattle.smx_live.specs.Turns.{AreFollowed, IsBelow, IsEntryOf, IsTaken, answer_text, asked_text}
-use Rattle.smx_live.specs.Turns.{entries_in, entries_of, traces_after}
-use Rattle.smx_live.specs.Turns.{traces_behind}
-use Rattle.smx_live.specs.declared.talk.Progress.{Progress}
+use Rattle.smx_live.specs.Turns.{AreFollowed, IsTaken, answer_text, traces_after, traces_behind}
 use Rattle.smx_live.proofs.TableLemmas.{flat_more, still_a_table}
 
 -- ---- one more at the end

@@ -1,27 +1,20 @@
 -- The stages of a live session, by the result of each, and how the session ends.
-use Rattle.std.proofs.Common.{◌≡◌, ℕ, ◌+◌, ◌<◌, ◌≤◌, ◌^◌, Bool, true, false, List, [], ◌++◌, length, take, drop}
-use Rattle.std.proofs.Common.{Option, Result, Ok, Err, refl, sym, ap, append_assoc, arith, inl, inr}
-use Rattle.std.proofs.KnownBytes.{Appends-kept, Appends-nil, Appends-trans, Consumes-nil, Consumes-trans}
+use Rattle.smx_live.proofs.Common.{◌≡◌, ℕ, ◌+◌, ◌<◌, ◌≤◌, ◌^◌, Bool, true, false, List, [], ◌++◌, length, take, drop}
+use Rattle.smx_live.proofs.Common.{refl, sym, ap, append_assoc, arith, inl, inr, Consumes-trans, length-append}
+use Rattle.smx_live.proofs.Common.{Consumes, ⊤, DriverSpec, Version, Configuration, IsOneLine, State, MainFault}
+use Rattle.smx_live.proofs.Common.{Refused, Text, TooLong, ReadFailed, WriteFailed, MAX_INPUT, FailsToRead, HasLine}
+use Rattle.smx_live.proofs.Common.{IsTooLong, IsLive, IsOutcome, IsOver, Answer, IsBelow, NotDone, Progress}
+use Rattle.smx_live.proofs.Common.{NoCommand, NoMemory}
+use Rattle.std.proofs.Common.{Option, Result, Ok, Err}
+use Rattle.std.proofs.KnownBytes.{Appends-kept, Appends-nil, Appends-trans, Consumes-nil}
 use Rattle.std.proofs.Math.Seq.{take-append-add}
-use Rattle.std.proofs.lemmas.List.{append-nil, length-append, length-drop}
-use Rattle.std.specs.Io.KnownBytes.{Appends, Consumes}
-use Rattle.std.specs.Prelude.{⊤}
-use Rattle.smx_types.specs.declared.driver.DriverSpec.{DriverSpec}
-use Rattle.smx_types.specs.declared.version.Version.{Version}
-use Rattle.smx_model.specs.Configuration.{Configuration}
-use Rattle.smx_text.specs.Grammar.{IsOneLine}
-use Rattle.smx_session.specs.Sessions.{State}
-use Rattle.smx_filters.specs.declared.main_fault.MainFault.{MainFault}
-use Rattle.smx_filters.specs.declared.main_fault.MainFault.TheVariants.{Refused, Text, TooLong, ReadFailed, WriteFailed}
-use Rattle.smx_filters.specs.declared.input.TheConstants.{MAX_INPUT}
-use Rattle.smx_live.specs.Inboxes.{FailsToRead, HasLine, IsTooLong}
+use Rattle.std.proofs.lemmas.List.{append-nil, length-drop}
+use Rattle.std.specs.Io.KnownBytes.{Appends}
 use Rattle.smx_live.specs.LiveStages.{Converses, Finishes, GoesOn, IsPossible, TurnsOn}
-use Rattle.smx_live.specs.LiveText.{IsLive, IsOutcome, IsOver}
 use Rattle.smx_live.specs.LiveTurns.{FailsToSay, IsTurnText, Says, TakesTurn, Writes}
-use Rattle.smx_live.specs.Turns.{Answer, IsBelow, IsTaken, NotDone, answer_text}
-use Rattle.smx_live.specs.declared.talk.Progress.{Progress}
+use Rattle.smx_live.specs.Turns.{IsTaken, answer_text}
 use Rattle.smx_live.specs.declared.turn_fault.TurnFault.{TurnFault}
-use Rattle.smx_live.specs.declared.turn_fault.TurnFault.TheVariants.{NoCommand, NoMemory, Full}
+use Rattle.smx_live.specs.declared.turn_fault.TurnFault.TheVariants.{Full}
 use Rattle.smx_live.proofs.LiveLemmas.{ended_by_line, turned, with_more}
 
 -- ---- one turn

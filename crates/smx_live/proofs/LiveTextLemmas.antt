@@ -1,16 +1,13 @@
 -- A live session from bytes to bytes, by the stage at which it ends.
-use Rattle.std.proofs.Common.{◌≡◌, ℕ, ◌≤◌, Bool, false, List, [], ◌++◌, length, take, Option}
-use Rattle.std.proofs.Common.{Result, Err, refl, inl, inr}
-use Rattle.std.proofs.KnownBytes.{Appends-kept, Appends-nil, Appends-trans, Consumes-trans}
-use Rattle.std.specs.Io.KnownBytes.{Appends, Consumes}
-use Rattle.smx_session.specs.Sessions.{IsStartOf, State}
-use Rattle.smx_filters.specs.declared.main_fault.MainFault.{MainFault}
-use Rattle.smx_filters.specs.declared.main_fault.MainFault.TheVariants.{Refused, Text, TooLong, ReadFailed, WriteFailed}
+use Rattle.smx_live.proofs.Common.{◌≡◌, ℕ, ◌≤◌, Bool, false, List, [], ◌++◌, length, take, refl, inl, inr}
+use Rattle.smx_live.proofs.Common.{Consumes-trans, Consumes, IsStartOf, State, MainFault, Refused, Text, TooLong}
+use Rattle.smx_live.proofs.Common.{ReadFailed, WriteFailed, MAX_INPUT, FailsToRead, IsOutcome, IsEndlessTable}
+use Rattle.smx_live.proofs.Common.{IsTable, IsUnfinished, table_text}
+use Rattle.std.proofs.Common.{Option, Result, Err}
+use Rattle.std.proofs.KnownBytes.{Appends-kept, Appends-nil, Appends-trans}
+use Rattle.std.specs.Io.KnownBytes.{Appends}
 use Rattle.smx_live.specs.LiveStages.{Begins, Converses, Opens}
-use Rattle.smx_filters.specs.declared.input.TheConstants.{MAX_INPUT}
-use Rattle.smx_live.specs.Inboxes.{FailsToRead}
-use Rattle.smx_live.specs.LiveText.{IsOutcome, LivesText}
-use Rattle.smx_live.specs.Tables.{IsEndlessTable, IsTable, IsUnfinished, table_text}
+use Rattle.smx_live.specs.LiveText.{LivesText}
 use Rattle.smx_live.proofs.LiveLemmas.{begun}
 
 module _ {explain : Bool} {had left : Option (List ℕ)} {ended : Bool} {reads : ℕ} (read : List ℕ)

@@ -1,37 +1,21 @@
 -- A live session has one output, if it never ran out of memory.
-use Rattle.std.proofs.Common.{◌≡◌, ◌≢◌, ℕ, Bool, true, false, List, [], ◌∷◌, ◌++◌}
-use Rattle.std.proofs.Common.{map}
-use Rattle.std.proofs.Common.{refl, sym, ap, subst, ◌∙◌, append_assoc, arith, inl, inr}
-use Rattle.std.specs.Prelude.{codes}
-use Rattle.smx_types.specs.ProgramLists.{ProgramLists}
+use Rattle.smx_live.proofs.Common.{◌≡◌, ◌≢◌, ℕ, Bool, true, false, List, [], ◌∷◌, ◌++◌, map, refl, sym, ap, subst}
+use Rattle.smx_live.proofs.Common.{◌∙◌, append_assoc, arith, inl, inr, codes, ProgramLists, Entry, DriverSpec}
+use Rattle.smx_live.proofs.Common.{Version, step, Configuration, after, call_of, view, call_words, LINE_FEED, line_of}
+use Rattle.smx_live.proofs.Common.{not_one, IsOneLine, programs_grammar, IsExplanationOf, HasOneReading, one_value}
+use Rattle.smx_live.proofs.Common.{IsShort, IsOver, table_text, Answer, AreAnswered, Entered, IsAnswer, IsEntryOf}
+use Rattle.smx_live.proofs.Common.{NotDone, IsBelow, Shown, Turn, asked_text, entries_in, entries_of, NoCommand}
+use Rattle.smx_live.proofs.Common.{NoMemory}
 use Rattle.smx_types.specs.declared.command.Command.{Command}
-use Rattle.smx_types.specs.declared.command.Entry.{Entry}
-use Rattle.smx_types.specs.declared.driver.DriverSpec.{DriverSpec}
 use Rattle.smx_types.specs.declared.reply.Reply.{Reply}
-use Rattle.smx_types.specs.declared.version.Version.{Version}
-use Rattle.smx_model.specs.Commands.{step}
-use Rattle.smx_model.specs.Configuration.{Configuration}
-use Rattle.smx_model.specs.Histories.{after, call_of}
-use Rattle.smx_model.specs.Views.{view}
 use Rattle.smx_words.proofs.CutLemmas.{apart}
 use Rattle.smx_words.specs.Spellable.{FitsCall}
-use Rattle.smx_words.specs.Spelling.{call_words}
-use Rattle.smx_words.specs.Words.{LINE_FEED, line_of}
-use Rattle.smx_text.proofs.LineLemmas.{not_one}
-use Rattle.smx_text.specs.Grammar.{IsOneLine, beginning}
-use Rattle.smx_text.specs.ProgramsText.{programs_grammar}
+use Rattle.smx_text.specs.Grammar.{beginning}
 use Rattle.smx_text.specs.TranscriptLines as line
 use Rattle.smx_text.specs.TranscriptText.{transcript_grammar, view_lines}
-use Rattle.smx_explain.specs.ColumnWords.{IsExplanationOf}
-use Rattle.smx_filters.proofs.ReadingLemmas.{HasOneReading, one_value}
-use Rattle.smx_live.specs.Inboxes.{IsShort}
-use Rattle.smx_live.specs.LiveText.{IsAtEnd, IsOver}
-use Rattle.smx_live.specs.Tables.{table_text}
-use Rattle.smx_live.specs.Turns.{Answer, AreAnswered, AsksToShow, Entered, HasEnoughMemory, IsAnswer, IsEntryOf}
-use Rattle.smx_live.specs.Turns.{NotDone}
-use Rattle.smx_live.specs.Turns.{AreFollowed, IsBelow, Shown, Turn, asked_text, entries_in, entries_of, said_text}
-use Rattle.smx_live.specs.Turns.{traces_after}
-use Rattle.smx_live.specs.declared.turn_fault.TurnFault.TheVariants.{NoCommand, NoMemory, Full}
+use Rattle.smx_live.specs.LiveText.{IsAtEnd}
+use Rattle.smx_live.specs.Turns.{AsksToShow, HasEnoughMemory, AreFollowed, said_text, traces_after}
+use Rattle.smx_live.specs.declared.turn_fault.TurnFault.TheVariants.{Full}
 use Rattle.smx_live.proofs.AskedLineLemmas.{no_call_line, no_digit_shows, shows_nothing}
 use Rattle.smx_live.proofs.OverTableLemmas.{table_once}
 

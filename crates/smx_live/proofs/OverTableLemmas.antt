@@ -1,22 +1,18 @@
 -- Tables that have ended: nothing that starts the same bytes is a longer table.
-use Rattle.std.proofs.Common.{◌≡◌, ◌≢◌, ℕ, ◌+◌, ◌<◌, ◌≤◌, Bool, true, false, List, [], ◌∷◌, ◌++◌, length, take, drop}
-use Rattle.std.proofs.Common.{refl, sym, ap, subst, ◌∙◌, append_assoc, take-append-drop, arith, inl, inr}
+use Rattle.smx_live.proofs.Common.{◌≡◌, ◌≢◌, ℕ, ◌+◌, ◌<◌, ◌≤◌, Bool, true, false, List, [], ◌∷◌, ◌++◌, length, take}
+use Rattle.smx_live.proofs.Common.{drop, refl, sym, ap, subst, ◌∙◌, append_assoc, arith, inl, inr, length-append}
+use Rattle.smx_live.proofs.Common.{length-take-le, AllByRecursion, codes, LINE_FEED, lines_text, not_one, IsOneLine}
+use Rattle.smx_live.proofs.Common.{MAX_INPUT, HasLine, IsTooLong, HasComeSoFar, IsOver, AreOfTable, IsEndlessTable}
+use Rattle.smx_live.proofs.Common.{IsTable, IsUnfinished, begins_driver}
+use Rattle.std.proofs.Common.{take-append-drop}
 use Rattle.std.proofs.Math.Seq.{take-append_seam}
 use Rattle.std.proofs.lemmas.Bool.Decides.{Decides-eqb}
-use Rattle.std.proofs.lemmas.List.{append-nil, append_cancel_left, length-append, length-take-le}
+use Rattle.std.proofs.lemmas.List.{append-nil, append_cancel_left}
 use Rattle.std.proofs.lemmas.Slice.Eq.{starts_is}
-use Rattle.std.specs.List.{AllByRecursion}
-use Rattle.std.specs.Prelude.{◌⊎◌, codes}
+use Rattle.std.specs.Prelude.{◌⊎◌}
 use Rattle.smx_words.proofs.CutLemmas.{apart}
-use Rattle.smx_words.specs.Words.{LINE_FEED, lines_text}
 use Rattle.smx_text.proofs.EachLemmas.{all_append, all_right}
-use Rattle.smx_text.proofs.LineLemmas.{not_one}
-use Rattle.smx_text.specs.Grammar.{IsOneLine}
-use Rattle.smx_filters.specs.declared.input.TheConstants.{MAX_INPUT}
-use Rattle.smx_live.specs.Inboxes.{HasLine, IsTooLong}
-use Rattle.smx_live.specs.LiveText.{HasComeSoFar, IsOver}
-use Rattle.smx_live.specs.Tables.{AreOfTable, IsCutDriver, IsEndlessTable, IsOverAt, IsTable, IsUnfinished}
-use Rattle.smx_live.specs.Tables.{begins_driver}
+use Rattle.smx_live.specs.Tables.{IsCutDriver, IsOverAt}
 
 -- ---- lines at the start of bytes
 

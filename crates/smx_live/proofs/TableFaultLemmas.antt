@@ -1,30 +1,22 @@
 -- The text of a table, read as a programs text: it has one value, or one fault.
-use Rattle.std.proofs.Common.{◌≡◌, ◌≢◌, ℕ, ◌≤◌, Bool, List, [], ◌∷◌, ◌++◌, length, Err, refl, sym, ap, subst}
-use Rattle.std.proofs.Common.{◌∙◌, inl, inr}
-use Rattle.std.specs.List.{AllByRecursion}
-use Rattle.smx_types.specs.ProgramLists.{ProgramLists}
-use Rattle.smx_types.specs.declared.command.Entry.{Entry}
-use Rattle.smx_types.specs.declared.driver.DriverSpec.{DriverSpec}
-use Rattle.smx_types.specs.declared.version.Version.{Version}
+use Rattle.smx_live.proofs.Common.{◌≡◌, ◌≢◌, ℕ, ◌≤◌, Bool, List, [], ◌∷◌, ◌++◌, length, refl, sym, ap, subst, ◌∙◌}
+use Rattle.smx_live.proofs.Common.{inl, inr, AllByRecursion, ProgramLists, Entry, DriverSpec, Version, ReadsAny}
+use Rattle.smx_live.proofs.Common.{Spells, programs_grammar, State, MAX_INPUT, Refused, Text, HasOneReading}
+use Rattle.smx_live.proofs.Common.{one_value, HasComeSoFar, IsLive, IsOutcome, IsEndlessTable, table_text}
+use Rattle.smx_live.proofs.Common.{AreAnswered, Turn, entries_in, Progress}
+use Rattle.std.proofs.Common.{Err}
 use Rattle.smx_config.specs.DriverFaults.{RefusesDrivers}
 use Rattle.smx_config.specs.declared.config_fault.ConfigFault.{ConfigFault}
 use Rattle.smx_run.specs.RunFaults.{RefusesAlone}
 use Rattle.smx_run.specs.declared.run_fault.RunFault.{RunFault}
 use Rattle.smx_run.specs.declared.run_fault.RunFault.TheVariants as run
-use Rattle.smx_text.specs.Grammar.{ReadsAny, Spells}
-use Rattle.smx_text.specs.ProgramsText.{programs_grammar}
 use Rattle.smx_text.specs.declared.text_fault.Cause.TheVariants as cause
 use Rattle.smx_text.specs.declared.text_fault.TextFault.{TextFault}
-use Rattle.smx_session.specs.Sessions.{HasDrivers, State}
-use Rattle.smx_filters.specs.declared.input.TheConstants.{MAX_INPUT}
-use Rattle.smx_filters.specs.declared.main_fault.MainFault.TheVariants.{Refused, Text}
+use Rattle.smx_session.specs.Sessions.{HasDrivers}
 use Rattle.smx_filters.proofs.AnswerLemmas.{HaveOneFault, only_memory_refuses}
 use Rattle.smx_filters.proofs.ReadingLemmas as texts
-use Rattle.smx_filters.proofs.ReadingLemmas.{HasOneReading, one_value}
-use Rattle.smx_live.specs.LiveText.{HasComeSoFar, IsLive, IsOutcome, RefusesDriversOf}
-use Rattle.smx_live.specs.Tables.{HasShortTableOf, HasTableOf, IsEndlessTable, table_text}
-use Rattle.smx_live.specs.Turns.{AreAnswered, Turn, entries_in}
-use Rattle.smx_live.specs.declared.talk.Progress.{Progress}
+use Rattle.smx_live.specs.LiveText.{RefusesDriversOf}
+use Rattle.smx_live.specs.Tables.{HasShortTableOf, HasTableOf}
 use Rattle.smx_live.proofs.OverTableLemmas.{not_endless, table_once}
 
 -- ---- one table

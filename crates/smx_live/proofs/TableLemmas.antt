@@ -1,20 +1,16 @@
 -- Tables that grow by a line, and what is read after them.
-use Rattle.std.proofs.Common.{◌≡◌, ◌≢◌, ℕ, ◌+◌, ◌<◌, ◌≤◌, Bool, true, false, List, [], ◌∷◌, ◌++◌, length, take, refl}
-use Rattle.std.proofs.Common.{sym, ap, ◌∙◌, append_assoc, arith, inl, inr}
-use Rattle.std.proofs.lemmas.List.{append-nil, length-append, take-append-le}
+use Rattle.smx_live.proofs.Common.{◌≡◌, ◌≢◌, ℕ, ◌+◌, ◌<◌, ◌≤◌, Bool, true, false, List, [], ◌∷◌, ◌++◌, length, take}
+use Rattle.smx_live.proofs.Common.{refl, sym, ap, ◌∙◌, append_assoc, arith, inl, inr, length-append, LINE_FEED}
+use Rattle.smx_live.proofs.Common.{lines_text, IsOneLine, MAX_INPUT, MainFault, Refused, Text, TooLong, ReadFailed}
+use Rattle.smx_live.proofs.Common.{WriteFailed, FailsToRead, HasLine, IsShort, IsTooLong, AreOfTable, IsEndlessTable}
+use Rattle.smx_live.proofs.Common.{IsTable, IsUnfinished, begins_driver}
+use Rattle.std.proofs.lemmas.List.{append-nil, take-append-le}
 use Rattle.std.specs.List.{flat_map}
 use Rattle.std.specs.Global.{Global}
 use Rattle.std.specs.Prelude.{◌⊎◌, Result, Vec, Ok, Err}
-use Rattle.smx_words.specs.Words.{LINE_FEED, lines_text}
-use Rattle.smx_text.specs.Grammar.{IsOneLine}
 use Rattle.smx_text.proofs.EachLemmas.{all_push}
-use Rattle.smx_filters.specs.declared.input.TheConstants.{MAX_INPUT}
-use Rattle.smx_filters.specs.declared.main_fault.MainFault.{MainFault}
-use Rattle.smx_filters.specs.declared.main_fault.MainFault.TheVariants.{Refused, Text, TooLong, ReadFailed, WriteFailed}
-use Rattle.smx_live.specs.Inboxes.{FailsToRead, HasLine, IsShort, IsTooLong}
 use Rattle.smx_live.specs.LiveStages.{TableComes, TakesCutLine}
-use Rattle.smx_live.specs.Tables.{AreOfTable, IsCutDriver, IsEndlessTable, IsOverAt, IsTable, IsUnfinished}
-use Rattle.smx_live.specs.Tables.{begins_driver}
+use Rattle.smx_live.specs.Tables.{IsCutDriver, IsOverAt}
 use Rattle.smx_live.specs.declared.inbox.Inbox.{Inbox}
 use Rattle.smx_live.proofs.InboxLemmas.{fails_as, line_stays, with_line_feed}
 

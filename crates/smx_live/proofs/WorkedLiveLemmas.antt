@@ -1,28 +1,18 @@
 -- The worked live session, and tables like its own.
-use Rattle.std.proofs.Common.{◌≡◌, ℕ, Bool, true, false, List, [], ◌∷◌, ◌++◌, map}
-use Rattle.std.proofs.Common.{refl, inl, arith, rules}
-use Rattle.std.proofs.lemmas.List.{length-append}
+use Rattle.smx_live.proofs.Common.{◌≡◌, ℕ, Bool, true, false, List, [], ◌∷◌, ◌++◌, map, refl, inl, arith, rules}
+use Rattle.smx_live.proofs.Common.{length-append, codes, ProgramLists, V2, eth, Spells, BeginsTranscript}
+use Rattle.smx_live.proofs.Common.{programs_grammar, call_words, line_of, IsExplanationOf, IsStartOf, HasLine, IsLive}
+use Rattle.smx_live.proofs.Common.{IsOver, AreOfTable, IsTable, table_text, IsEntryOf, worked_table}
 use Rattle.std.specs.Fmt.{digits}
-use Rattle.std.specs.Prelude.{codes}
-use Rattle.smx_types.specs.ProgramLists.{ProgramLists}
-use Rattle.smx_types.specs.declared.version.Version.TheVariants.{V2}
-use Rattle.smx_model.specs.Worked.Common.{Fd, OpenClone, ◌does◌gets◌, eth, leaf}
-use Rattle.smx_text.specs.Grammar.{Spells, beginning}
-use Rattle.smx_text.specs.GrowingTranscripts.{BeginsTranscript}
-use Rattle.smx_text.specs.ProgramsText.{programs_grammar}
+use Rattle.smx_model.specs.Worked.Common.{Fd, OpenClone, ◌does◌gets◌, leaf}
+use Rattle.smx_text.specs.Grammar.{beginning}
 use Rattle.smx_text.specs.TranscriptLines as line
 use Rattle.smx_text.specs.TranscriptText.{transcript_grammar}
-use Rattle.smx_words.specs.Spelling.{call_words}
-use Rattle.smx_words.specs.Words.{line_of}
-use Rattle.smx_explain.specs.ColumnWords.{IsExplanationOf}
-use Rattle.smx_session.specs.Sessions.{IsStartOf}
 use Rattle.smx_session.specs.WorkedSessions.{begun, drivers, opened, table}
-use Rattle.smx_live.specs.Inboxes.{HasLine}
-use Rattle.smx_live.specs.LiveText.{IsLive, IsOver, closing_text}
-use Rattle.smx_live.specs.Tables.{AreOfTable, IsTable, table_text}
-use Rattle.smx_live.specs.Turns.{IsEntryOf, IsExplained, said_text}
-use Rattle.smx_live.specs.WorkedLives.{worked_answers, worked_below, worked_input, worked_output, worked_table}
-use Rattle.smx_live.specs.WorkedLives.{minorless_text, worked_turns}
+use Rattle.smx_live.specs.LiveText.{closing_text}
+use Rattle.smx_live.specs.Turns.{IsExplained, said_text}
+use Rattle.smx_live.specs.WorkedLives.{worked_answers, worked_below, worked_input, worked_output, minorless_text}
+use Rattle.smx_live.specs.WorkedLives.{worked_turns}
 use Rattle.smx_live.proofs.AskedLineLemmas.{neither, no_call_line}
 use Rattle.smx_live.proofs.TableLemmas.{over_at_a_line}
 

@@ -1,19 +1,15 @@
 -- Assignments of workers, and the processes that have ended.
-use Rattle.std.proofs.Common.{◌≡◌, ◌≢◌, ℕ, suc, ◌+◌, ◌%◌, ◌<◌, true, false, List, [], ◌∷◌, ◌++◌, All, length, map}
-use Rattle.std.proofs.Common.{get_or, set, drop, arith, refl, ap, sym, subst, ◌∙◌, inl, inr, append_assoc}
-use Rattle.std.specs.Prelude.{◌==◌}
-use Rattle.std.specs.List.{range_with_len}
+use Rattle.smx_run.proofs.Common.{◌≡◌, ◌≢◌, ℕ, suc, ◌+◌, ◌%◌, ◌<◌, false, List, [], ◌∷◌, ◌++◌, All, length, map}
+use Rattle.smx_run.proofs.Common.{get_or, drop, arith, refl, ap, sym, subst, ◌∙◌, inl, inr, append_assoc, ◌==◌}
+use Rattle.smx_run.proofs.Common.{range_with_len, nat_tests, append-nil, length-map, map-append, Command, Seated}
+use Rattle.smx_run.proofs.Common.{assignment_of, Calls, calls_of, numbered}
+use Rattle.std.proofs.Common.{true, set}
 use Rattle.std.proofs.lemmas.List.FromFn.{length-range_with_len, length-map-range_with_len, map-range_with_len_more}
 use Rattle.std.proofs.lemmas.List.FromFn.{get_or-map-range_with_len, fill_by_all}
 use Rattle.std.proofs.lemmas.Bool.{cases_Bool}
-use Rattle.std.proofs.lemmas.Bool.Decides.{nat_tests}
-use Rattle.std.proofs.lemmas.List.{append-nil, length-map, map-append, map-set, get_or-map, get_or-set_same}
-use Rattle.std.proofs.lemmas.List.{get_or-set_other}
+use Rattle.std.proofs.lemmas.List.{map-set, get_or-map, get_or-set_same, get_or-set_other}
 use Rattle.std.proofs.lemmas.List.Elements.{All-push, filter-append}
-use Rattle.smx_types.specs.declared.command.Command.{Command}
-use Rattle.smx_shared.specs.Seats.{Seated}
-use Rattle.smx_run.specs.Assignments.{assignment_of, assignments_of}
-use Rattle.smx_run.specs.ProgramOrder.{Calls, calls_of, numbered}
+use Rattle.smx_run.specs.Assignments.{assignments_of}
 
 -- two lists whose images agree still agree with one more item at the end of each
 pub one_more : {A B C : Type 0} (f : A → C) (g : B → C) (xs more : List A) (ys : List B) (x : A) (y : B)

@@ -1,16 +1,13 @@
 -- Numbers that are not fronts of the example: too early, past the end, or with another number of links. And drivers
 -- that are not valid.
-use Rattle.std.proofs.Common.{◌≡◌, ℕ, ◌+◌, ◌≤◌, List, [], ◌∷◌, take, length, refl, sym, ap, ◌∙◌, arith}
+use Rattle.smx_run.proofs.Common.{◌≡◌, ℕ, ◌+◌, ◌≤◌, List, [], ◌∷◌, take, length, refl, sym, ap, ◌∙◌, arith}
+use Rattle.smx_run.proofs.Common.{length-append, Command, Entry, commands_of, Front}
 use Rattle.std.proofs.Math.Seq.{take-append_seam}
-use Rattle.std.proofs.lemmas.List.{length-append}
-use Rattle.smx_types.specs.declared.command.Command.{Command}
-use Rattle.smx_types.specs.declared.command.Entry.{Entry}
 use Rattle.smx_model.specs.DriverList.{IsDriverList}
-use Rattle.smx_model.specs.Histories.{after, commands_of}
+use Rattle.smx_model.specs.Histories.{after}
 use Rattle.smx_model.specs.Worked.Common.{OpenClone, Dup, ip, mux}
 use Rattle.smx_model.specs.Worked.Reports.{drivers, opened, exited, copied}
 use Rattle.smx_shared.specs.Seats.{IsBeginningOf}
-use Rattle.smx_shared.specs.declared.front.Front.{Front}
 use Rattle.smx_run.specs.Fronts.{IsFrontAfter}
 
 -- the three entries of the example

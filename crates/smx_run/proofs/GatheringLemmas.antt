@@ -1,13 +1,12 @@
 -- The number of entries of each transcript that a history has.
-use Rattle.std.proofs.Common.{◌≡◌, ◌≢◌, ℕ, suc, All, ◌<◌, ◌≤◌, false, List, [], ◌∷◌, ◌++◌, length, set, replicate}
-use Rattle.std.proofs.Common.{get_or, Option, Some, None, refl, sym, subst, ◌∙◌, arith, inl, inr}
-use Rattle.std.specs.Prelude.{◌==◌, IfSome}
-use Rattle.std.proofs.lemmas.Bool.{cases_eq, cases_lt}
-use Rattle.std.proofs.lemmas.Bool.Decides.{nat_tests}
-use Rattle.std.proofs.lemmas.List.{append-nil, get_or-set_same, get_or-set_other, get_or-replicate, get_or_past}
-use Rattle.smx_types.specs.declared.command.Entry.{Entry}
-use Rattle.smx_types.specs.declared.limits.TheConstants.{MAX_PROCESSES}
-use Rattle.smx_run.specs.Gathering.{entries_of, IsBorneOut, IsLeastStrange, IsMet}
+use Rattle.smx_run.proofs.Common.{◌≡◌, ◌≢◌, ℕ, suc, All, ◌<◌, ◌≤◌, false, List, [], ◌∷◌, ◌++◌, length, get_or, None}
+use Rattle.smx_run.proofs.Common.{refl, sym, subst, ◌∙◌, arith, inl, inr, ◌==◌, cases_lt, nat_tests, append-nil}
+use Rattle.smx_run.proofs.Common.{Entry, MAX_PROCESSES, IsBorneOut, IsMet}
+use Rattle.std.proofs.Common.{set, replicate, Option, Some}
+use Rattle.std.specs.Prelude.{IfSome}
+use Rattle.std.proofs.lemmas.Bool.{cases_eq}
+use Rattle.std.proofs.lemmas.List.{get_or-set_same, get_or-set_other, get_or-replicate, get_or_past}
+use Rattle.smx_run.specs.Gathering.{entries_of, IsLeastStrange}
 use Rattle.smx_shared.proofs.OwnEntryLemmas.{entries_append, entries_mine, entries_other}
 
 -- the counts before the first entry

@@ -1,3 +1,4 @@
+pub mod Common
 pub mod AssignmentLemmas
 pub mod FrontLemmas
 pub mod GatheringLemmas

@@ -1,14 +1,10 @@
 -- The seats that a seat has met.
-use Rattle.std.proofs.Common.{◌≡◌, ◌≢◌, ℕ, ◌+◌, ◌<◌, ◌≤◌, List, [], ◌∷◌, ◌++◌, All, length, map, refl, ap, sym, subst}
-use Rattle.std.proofs.Common.{◌∙◌, arith, get_or, inl, inr}
-use Rattle.std.proofs.lemmas.Bool.{cases_lt}
-use Rattle.smx_types.specs.declared.command.Command.{Command}
-use Rattle.smx_shared.specs.Seats.{Known, Seated, HasMetAll, IsNotMet, met_seat}
+use Rattle.smx_run.proofs.Common.{◌≡◌, ◌≢◌, ℕ, ◌+◌, ◌<◌, ◌≤◌, List, [], ◌∷◌, ◌++◌, All, length, map, refl, ap, sym}
+use Rattle.smx_run.proofs.Common.{subst, ◌∙◌, arith, get_or, inl, inr, cases_lt, Command, Seated, called, known_at}
+use Rattle.smx_run.proofs.Common.{IsKnownTo, Calls, calls_of, numbered, EndedProgram}
+use Rattle.smx_shared.specs.Seats.{Known, HasMetAll, IsNotMet, met_seat}
 use Rattle.smx_shared.specs.declared.seat_view.MetSeat.{MetSeat}
-use Rattle.smx_run.specs.Assignments.{called, calls_in, known_at}
-use Rattle.smx_run.specs.Meeting.{IsKnownTo}
-use Rattle.smx_run.specs.ProgramOrder.{Calls, calls_of, numbered}
-use Rattle.smx_run.specs.declared.worker.EndedProgram.{EndedProgram}
+use Rattle.smx_run.specs.Assignments.{calls_in}
 use Rattle.smx_shared.proofs.EachLemmas.{all_right}
 use Rattle.smx_run.proofs.AssignmentLemmas.{take_off}
 

@@ -1,20 +1,15 @@
 -- A history with the calls of the programs, process by process, holds the programs.
-use Rattle.std.proofs.Common.{◌≡◌, ℕ, zero, suc, ◌+◌, ◌<◌, true, false, List, [], ◌∷◌, ◌++◌, map, filter, get_or, refl}
-use Rattle.std.proofs.Common.{sym, ap, ◌∙◌, arith, inl, inr}
-use Rattle.std.specs.Prelude.{◌==◌}
+use Rattle.smx_run.proofs.Common.{◌≡◌, ℕ, suc, ◌+◌, ◌<◌, false, List, [], ◌∷◌, ◌++◌, map, get_or, refl, sym, ap, ◌∙◌}
+use Rattle.smx_run.proofs.Common.{arith, inl, inr, ◌==◌, nat_tests, append-nil, Command, Entry, call_of, commands_of}
+use Rattle.smx_run.proofs.Common.{HoldsPrograms, Recorded, IsSoundSystem, calls_of, calls_from}
+use Rattle.std.proofs.Common.{zero, true, filter}
 use Rattle.std.proofs.lemmas.Bool.{cases_Bool}
-use Rattle.std.proofs.lemmas.Bool.Decides.{nat_tests}
-use Rattle.std.proofs.lemmas.List.{append-nil}
-use Rattle.smx_types.specs.declared.command.Command.{Command}
-use Rattle.smx_types.specs.declared.command.Entry.{Entry}
-use Rattle.smx_model.specs.Histories.{after, call_of, commands_of, HoldsPrograms}
+use Rattle.smx_model.specs.Histories.{after}
 use Rattle.smx_model.proofs.DropLemmas.{few_drop}
 use Rattle.smx_types.specs.ProgramLists.{ProgramLists}
 use Rattle.smx_types.specs.declared.transcript.Transcript.{Transcript}
 use Rattle.smx_model.specs.Headline.{IsReportOf}
 use Rattle.smx_model.specs.Views.{view}
-use Rattle.smx_shared.specs.Recorded.{Recorded, IsSoundSystem}
-use Rattle.smx_run.specs.ProgramOrder.{calls_of, calls_from}
 
 -- the commands of one process among some calls
 abbrev picked : ℕ → List (ℕ × Command) → List Command

@@ -1,24 +1,19 @@
 -- The entries that the workers have made, and the entries that each of them has seen.
-use Rattle.std.proofs.Common.{◌≡◌, ◌≢◌, ℕ, zero, suc, ◌+◌, ◌<◌, ◌≤◌, List, [], ◌∷◌, ◌++◌, All, length, map}
-use Rattle.std.proofs.Common.{get_or, refl, ap, sym, subst, ◌∙◌, arith, inl, inr, append_assoc}
-use Rattle.std.proofs.lemmas.Bool.{cases_lt}
-use Rattle.std.proofs.lemmas.List.{append-nil, map-append, get_or_past}
-use Rattle.smx_types.specs.declared.command.Command.{Command}
-use Rattle.smx_types.specs.declared.command.Entry.{Entry}
+use Rattle.smx_run.proofs.Common.{◌≡◌, ◌≢◌, ℕ, suc, ◌+◌, ◌<◌, ◌≤◌, List, [], ◌∷◌, ◌++◌, All, length, map, get_or}
+use Rattle.smx_run.proofs.Common.{refl, ap, sym, subst, ◌∙◌, arith, inl, inr, append_assoc, cases_lt, append-nil}
+use Rattle.smx_run.proofs.Common.{map-append, Command, Entry, call_of, commands_of, HoldsPrograms, Recorded, Seated}
+use Rattle.smx_run.proofs.Common.{SharedId, Front, AreFrontsFrom, called, known_at, IsFresh, IsBorneOutBy, Calls}
+use Rattle.smx_run.proofs.Common.{calls_of, calls_from, numbered, EndedProgram}
+use Rattle.std.proofs.Common.{zero}
+use Rattle.std.proofs.lemmas.List.{get_or_past}
 use Rattle.smx_types.specs.declared.driver.DriverSpec.{DriverSpec}
-use Rattle.smx_model.specs.Histories.{call_of, commands_of, HoldsPrograms}
 use Rattle.smx_shared.specs.Calls.{HasSeenMore, EndsAs}
 use Rattle.smx_shared.specs.Fronts.{IsFrontOf}
-use Rattle.smx_shared.specs.Recorded.{Recorded}
-use Rattle.smx_shared.specs.Seats.{Known, Seated, SharedId, GoesOnNamed, IsBeginningOf, IsMetBy}
-use Rattle.smx_shared.specs.Seats.{AreMetBy, entries_of, first_seat, met_seat}
-use Rattle.smx_shared.specs.declared.front.Front.{Front}
+use Rattle.smx_shared.specs.Seats.{Known, GoesOnNamed, IsBeginningOf, IsMetBy, AreMetBy, entries_of, first_seat}
+use Rattle.smx_shared.specs.Seats.{met_seat}
 use Rattle.smx_shared.specs.declared.seat_view.MetSeat.{MetSeat}
-use Rattle.smx_run.specs.Fronts.{IsFrontAfter, AreFrontsFrom}
-use Rattle.smx_run.specs.Assignments.{called, calls_in, known_at, IsFresh, EndsAt}
-use Rattle.smx_run.specs.Meeting.{IsBorneOutBy}
-use Rattle.smx_run.specs.ProgramOrder.{Calls, calls_of, calls_from, numbered}
-use Rattle.smx_run.specs.declared.worker.EndedProgram.{EndedProgram}
+use Rattle.smx_run.specs.Fronts.{IsFrontAfter}
+use Rattle.smx_run.specs.Assignments.{calls_in, EndsAt}
 use Rattle.smx_shared.proofs.EachLemmas.{all_right}
 use Rattle.smx_shared.proofs.OwnEntryLemmas.{begins_trans, entries_none}
 use Rattle.smx_run.proofs.AssignmentLemmas.{take_off}

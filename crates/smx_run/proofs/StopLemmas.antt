@@ -1,16 +1,12 @@
 -- A run on one thread: what it performs, and where it stops. There is room for all commands, so it stops only if it
 -- is out of memory.
-use Rattle.std.proofs.Common.{◌≡◌, ◌≢◌, ℕ, ◌+◌, ◌<◌, List, [], ◌∷◌, ◌++◌, length, map, refl, sym, ap, ◌∙◌, arith}
-use Rattle.std.proofs.Common.{append_assoc}
-use Rattle.std.proofs.lemmas.List.{length-append, length-map, map-append}
+use Rattle.smx_run.proofs.Common.{◌≡◌, ◌≢◌, ℕ, ◌+◌, ◌<◌, List, [], ◌∷◌, ◌++◌, length, map, refl, sym, ap, ◌∙◌, arith}
+use Rattle.smx_run.proofs.Common.{append_assoc, length-append, length-map, map-append, Command, Entry, call_of}
+use Rattle.smx_run.proofs.Common.{calls_of, calls_from}
 use Rattle.std.specs.List.{sum_by}
 use Rattle.std.proofs.lemmas.List.Sums.{sum_by-cons}
-use Rattle.smx_types.specs.declared.command.Command.{Command}
-use Rattle.smx_types.specs.declared.command.Entry.{Entry}
-use Rattle.smx_model.specs.Histories.{call_of}
 use Rattle.smx_shared.specs.declared.shared_fault.ApplyFault.{ApplyFault}
 use Rattle.smx_shared.specs.declared.shared_fault.ApplyFault.TheVariants as apply
-use Rattle.smx_run.specs.ProgramOrder.{calls_of, calls_from}
 use Rattle.smx_run.proofs.RunLemmas.{calls_apart}
 
 -- the calls up to where one program stopped, and the next command, which is the first that is left

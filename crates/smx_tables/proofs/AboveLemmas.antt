@@ -1,20 +1,13 @@
 -- At most one link is above a stream, and at most one has an id, so that this link is found.
-use Rattle.std.proofs.Common.{◌≡◌, ℕ, zero, suc, ◌<◌, Bool, true, false, ◌&&◌, eqb, List, [], ◌∷◌, length, map, filter}
-use Rattle.std.proofs.Common.{get_or, find, Some, None, refl, sym, ap, ◌∙◌, arith}
-use Rattle.std.specs.Prelude.{nat_lt}
-use Rattle.std.specs.List.{list_any}
-use Rattle.std.specs.Option.{option_map_or}
-use Rattle.std.proofs.Math.Bool.{and_comm, or-false}
-use Rattle.std.proofs.lemmas.Bool.{false≢true}
-use Rattle.std.proofs.lemmas.Bool.Decides.{nat_tests}
+use Rattle.smx_tables.proofs.Common.{◌≡◌, ℕ, zero, suc, ◌<◌, Bool, true, false, ◌&&◌, eqb, List, [], ◌∷◌, map, filter}
+use Rattle.smx_tables.proofs.Common.{get_or, find, Some, None, refl, sym, ap, ◌∙◌, arith, nat_lt, list_any}
+use Rattle.smx_tables.proofs.Common.{option_map_or, or-false, false≢true, nat_tests, Link, StreamId, same_stream}
+use Rattle.smx_tables.proofs.Common.{AreLowersApart, is_below}
+use Rattle.std.proofs.Common.{length}
+use Rattle.std.proofs.Math.Bool.{and_comm}
 use Rattle.std.proofs.lemmas.List.Folds.{list_any_at}
 use Rattle.std.proofs.lemmas.Option.{same_Some}
-use Rattle.smx_types.specs.declared.link.Link.{Link}
-use Rattle.smx_types.specs.declared.stream.StreamId.{StreamId}
-use Rattle.smx_model.specs.Configuration.{same_stream}
 use Rattle.smx_model.specs.Ordered.{ComesBefore, IsRising}
-use Rattle.smx_model.specs.Paths.{AreLowersApart}
-use Rattle.smx_model.specs.Standing.{is_below}
 use Rattle.smx_model.proofs.TestLemmas.{any_more}
 use Rattle.smx_streams.proofs.NameLemmas.{same_sym}
 -- streams that pass the test `same_stream` are equal, and each stream passes it with itself

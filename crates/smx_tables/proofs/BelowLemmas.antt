@@ -1,20 +1,13 @@
 -- Emptying the read sides below listed links, link by link.
-use Rattle.std.proofs.Common.{◌≡◌, ℕ, Bool, false, ◌&&◌, ◌||◌, not, eqb, List, [], ◌∷◌, ◌++◌, filter, find, arith}
-use Rattle.std.proofs.Common.{Option, Some, None, sym, ◌∙◌}
-use Rattle.std.proofs.Math.Bool.{and-false, or-false}
+use Rattle.smx_tables.proofs.Common.{◌≡◌, ℕ, Bool, false, ◌&&◌, ◌||◌, not, eqb, List, [], ◌∷◌, ◌++◌, filter, find}
+use Rattle.smx_tables.proofs.Common.{arith, Option, Some, None, sym, ◌∙◌, and-false, or-false, option_map_or}
+use Rattle.smx_tables.proofs.Common.{filter_agree, nat_tests, Link, Place, QueuedMessage, same_place, same_stream}
+use Rattle.smx_tables.proofs.Common.{AreLowersApart, is_listed, is_read_below_listed}
 use Rattle.std.specs.Prelude.{Vec}
-use Rattle.std.specs.Option.{option_map_or}
-use Rattle.std.proofs.lemmas.List.Elements.{filter_agree}
-use Rattle.std.proofs.lemmas.Bool.Decides.{nat_tests}
-use Rattle.smx_types.specs.declared.link.Link.{Link}
-use Rattle.smx_types.specs.declared.stream.Place.{Place}
 use Rattle.smx_types.specs.declared.stream.Side.TheVariants as side
-use Rattle.smx_model.specs.Configuration.{QueuedMessage, same_place, same_side, same_stream}
-use Rattle.smx_model.specs.Paths.{AreLowersApart}
-use Rattle.smx_model.specs.Configuration.{read_side}
+use Rattle.smx_model.specs.Configuration.{same_side, read_side}
 use Rattle.smx_queues.specs.FlowTables.{FlowLists}
 use Rattle.smx_tables.specs.DroppedMessages.{EmptiesPlaces, HasRoom}
-use Rattle.smx_tables.specs.ListedLinks.{is_listed, is_read_below_listed}
 use Rattle.smx_tables.proofs.AboveLemmas.{above_with_id, stream_turned, IsIdsRising}
 use Rattle.smx_tables.proofs.DropLemmas.{filter_twice}
 use Rattle.smx_tables.proofs.ReleasedIdLemmas.{listed_one_more}

@@ -1,16 +1,8 @@
 -- A stream exists if a descriptor names it, or through the one link above it.
-use Rattle.std.proofs.Common.{◌≡◌, ℕ, zero, suc, Bool, true, false, ◌&&◌, ◌||◌, not, List, find, Option, Some, None}
-use Rattle.std.proofs.Common.{arith, refl}
-use Rattle.std.proofs.Math.Bool.{and_comm, or-false}
-use Rattle.std.specs.Option.{option_map_or}
-use Rattle.std.proofs.lemmas.Bool.{or_left}
-use Rattle.std.proofs.lemmas.Bool.Decides.{nat_tests}
-use Rattle.smx_types.specs.declared.link.Link.{Link}
-use Rattle.smx_types.specs.declared.stream.Descriptor.{Descriptor}
-use Rattle.smx_types.specs.declared.stream.StreamId.{StreamId}
-use Rattle.smx_model.specs.Configuration.{same_stream}
-use Rattle.smx_model.specs.Paths.{AreLowersApart}
-use Rattle.smx_model.specs.Standing.{is_named, is_persistent, stands_within}
+use Rattle.smx_tables.proofs.Common.{◌≡◌, ℕ, zero, suc, Bool, true, false, ◌&&◌, ◌||◌, not, List, find, Option, Some}
+use Rattle.smx_tables.proofs.Common.{None, arith, refl, or-false, option_map_or, or_left, nat_tests, Link, Descriptor}
+use Rattle.smx_tables.proofs.Common.{StreamId, same_stream, AreLowersApart, is_named, is_persistent, stands_within}
+use Rattle.std.proofs.Math.Bool.{and_comm}
 use Rattle.smx_tables.proofs.AboveLemmas.{any_once, once_below}
 
 -- whether a stream exists within n climbs through the link above it: the link is persistent, or its controlling stream

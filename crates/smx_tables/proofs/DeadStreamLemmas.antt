@@ -1,19 +1,12 @@
 -- Removing what belongs to dead streams from a configuration, stream by stream.
-use Rattle.std.proofs.Common.{◌≡◌, ℕ, ◌+◌, Bool, true, false, ◌&&◌, ◌||◌, not, eqb, List, [], ◌∷◌, ◌++◌, filter, take}
-use Rattle.std.proofs.Common.{refl, sym, ap, ◌∙◌, arith}
-use Rattle.std.proofs.Math.Bool.{and-false, and-true, not-not}
-use Rattle.std.proofs.lemmas.Bool.Decides.{nat_tests}
-use Rattle.smx_types.specs.declared.driver.DriverSpec.{DriverSpec}
+use Rattle.smx_tables.proofs.Common.{◌≡◌, ℕ, ◌+◌, Bool, true, false, ◌&&◌, ◌||◌, not, eqb, List, [], ◌∷◌, ◌++◌}
+use Rattle.smx_tables.proofs.Common.{filter, take, refl, sym, ap, ◌∙◌, arith, and-false, and-true, not-not, nat_tests}
+use Rattle.smx_tables.proofs.Common.{DriverSpec, Place, StreamId, Configuration, QueuedMessage, same_stream, is_hung}
+use Rattle.smx_tables.proofs.Common.{without_dead_streams, StreamTable, TellsExisting, is_dead, without_streams}
+use Rattle.smx_tables.proofs.Common.{IsTouched}
 use Rattle.smx_types.specs.declared.link.Binding.{Binding}
-use Rattle.smx_types.specs.declared.stream.Place.{Place}
-use Rattle.smx_types.specs.declared.stream.StreamId.{StreamId}
-use Rattle.smx_model.specs.Configuration.{Configuration, QueuedMessage, same_stream}
-use Rattle.smx_model.specs.Hangups.{is_hung}
-use Rattle.smx_model.specs.Removal.{without_dead_streams}
 use Rattle.smx_model.proofs.EachLemmas.{each_of_list_all}
-use Rattle.smx_streams.specs.StreamTables.{StreamTable, exists as is_there}
-use Rattle.smx_tables.specs.ExistingStreams.{TellsExisting}
-use Rattle.smx_tables.specs.TouchedStreams.{is_dead, without_streams, IsTouched}
+use Rattle.smx_streams.specs.StreamTables.{exists as is_there}
 use Rattle.smx_tables.proofs.AboveLemmas.{stream_is}
 use Rattle.smx_tables.proofs.BelowLemmas.{tests_less}
 use Rattle.smx_tables.proofs.HungLemmas.{all_pass}

@@ -1,14 +1,13 @@
 -- Lists of drivers that are valid for a configuration, driver by driver.
-use Rattle.std.proofs.Common.{◌≡◌, ◌≢◌, ℕ, ◌+◌, ◌<◌, ◌≤◌, List, [], ◌∷◌, ◌++◌, length, get_or, take, Ok, sym, ap, subst}
-use Rattle.std.proofs.Common.{◌∙◌, arith, length-append}
+use Rattle.smx_tables.proofs.Common.{◌≡◌, ℕ, ◌+◌, ◌<◌, ◌≤◌, List, [], ◌∷◌, ◌++◌, get_or, take, sym, ap, subst, ◌∙◌}
+use Rattle.smx_tables.proofs.Common.{arith, length-append, AllByRecursion, nat_tests, take_more, recursion_from_All}
+use Rattle.smx_tables.proofs.Common.{DriverSpec}
+use Rattle.std.proofs.Common.{◌≢◌, length, Ok}
 use Rattle.std.specs.Prelude.{Any}
-use Rattle.std.specs.List.{AllByRecursion}
-use Rattle.std.proofs.lemmas.Bool.Decides.{nat_tests}
-use Rattle.std.proofs.lemmas.List.{take_more, length-take-le, get_or_default, get_or-take}
-use Rattle.std.proofs.lemmas.List.Elements.{All-push, recursion_from_All}
+use Rattle.std.proofs.lemmas.List.{length-take-le, get_or_default, get_or-take}
+use Rattle.std.proofs.lemmas.List.Elements.{All-push}
 use Rattle.std.proofs.lemmas.List.Quantifiers.{all_pairs_push}
 use Rattle.smx_types.specs.Drivers.{spec_check}
-use Rattle.smx_types.specs.declared.driver.DriverSpec.{DriverSpec}
 use Rattle.smx_types.specs.declared.limits.TheConstants.{MAX_DRIVERS, MAX_MINORS}
 use Rattle.smx_model.specs.DriverList.{IsDriverList}
 

@@ -1,24 +1,21 @@
 -- The messages that are dropped at a place, and the serials of dropped messages in order.
-use Rattle.std.proofs.Common.{◌≡◌, ◌≢◌, ℕ, suc, ◌+◌, ◌≤◌, Bool, true, false, ◌&&◌, ◌||◌, not, cond, eqb, List, [], ◌∷◌}
-use Rattle.std.proofs.Common.{◌++◌, length, map, filter, refl, sym, ap, ◌∙◌, arith, rules}
-use Rattle.std.specs.List.{AllByRecursion, AllPairs, sum_by}
+use Rattle.smx_tables.proofs.Common.{◌≡◌, ℕ, suc, ◌+◌, ◌≤◌, Bool, true, false, ◌&&◌, ◌||◌, not, eqb, List, [], ◌∷◌}
+use Rattle.smx_tables.proofs.Common.{◌++◌, map, filter, refl, sym, ap, ◌∙◌, arith, rules, AllByRecursion, not-not}
+use Rattle.smx_tables.proofs.Common.{eq-eqb, nat_tests, filter_agree, Place, StreamId, QueuedMessage, same_stream}
+use Rattle.smx_tables.proofs.Common.{is_flushed_at}
+use Rattle.std.proofs.Common.{◌≢◌, cond, length}
+use Rattle.std.specs.List.{AllPairs, sum_by}
 use Rattle.std.specs.List.Sorted.{IsNonDecreasing, IsPermutation}
-use Rattle.std.proofs.Math.Bool.{not-not}
-use Rattle.std.proofs.lemmas.Bool.{eq-eqb}
-use Rattle.std.proofs.lemmas.Bool.Decides.{nat_tests}
 use Rattle.std.proofs.lemmas.List.{map-append}
-use Rattle.std.proofs.lemmas.List.Elements.{filter_agree}
 use Rattle.std.proofs.lemmas.List.Sums.{sum_by-cons}
 use Rattle.std.proofs.lemmas.List.Sorted.{IsPermutation-append_left, IsPermutation-filter_both, IsPermutation-map}
 use Rattle.std.proofs.lemmas.List.Sorted.{IsPermutation-refl, IsPermutation-trans, sum_by-IsPermutation}
 use Rattle.smx_types.specs.declared.message.Message.{Message}
 use Rattle.smx_types.specs.declared.command.Sides.{Sides}
-use Rattle.smx_types.specs.declared.stream.Place.{Place}
 use Rattle.smx_types.specs.declared.stream.Side.{Side}
 use Rattle.smx_types.specs.declared.stream.Side.TheVariants as side
-use Rattle.smx_types.specs.declared.stream.StreamId.{StreamId}
 use Rattle.smx_model.specs.Commands.{is_side}
-use Rattle.smx_model.specs.Configuration.{QueuedMessage, is_at, same_stream}
+use Rattle.smx_model.specs.Configuration.{is_at}
 use Rattle.smx_model.specs.Ordered.{AllLater, in_rising_order}
 use Rattle.smx_model.specs.Queues.{queue}
 use Rattle.smx_model.specs.Removal.{serials, serials_that_left}
@@ -26,7 +23,7 @@ use Rattle.smx_model.proofs.CountLemmas.{times, times_rising}
 use Rattle.smx_model.proofs.EachLemmas.{each_of_every, later_pairs, later_placed}
 use Rattle.smx_model.proofs.TestLemmas.{all_true, keep_all, none_kept}
 use Rattle.smx_model.proofs.QueueLemmas.{gone_is}
-use Rattle.smx_tables.specs.DroppedMessages.{AreDropped, is_flushed_at}
+use Rattle.smx_tables.specs.DroppedMessages.{AreDropped}
 -- filtering by two tests in turn is filtering by both at once
 pub use Rattle.smx_streams.proofs.ListLemmas.{filter_twice}
 

@@ -1,35 +1,27 @@
 -- The streams that exist are those in the table of streams: named by a descriptor, or held.
-use Rattle.std.proofs.Common.{◌≡◌, ℕ, zero, suc, ◌+◌, ◌<◌, ◌≤◌, Bool, true, false, ◌||◌, List, [], ◌∷◌, length, find}
-use Rattle.std.proofs.Common.{Option, Some, None, Ok, ◌++◌, refl, sym, ap, subst, ◌∙◌, arith, rules}
-use Rattle.std.proofs.Math.Bool.{or-false}
-use Rattle.std.specs.Prelude.{nat_lt}
+use Rattle.smx_tables.proofs.Common.{◌≡◌, ℕ, zero, suc, ◌+◌, ◌<◌, ◌≤◌, Bool, true, false, ◌||◌, List, [], ◌∷◌, find}
+use Rattle.smx_tables.proofs.Common.{Option, Some, None, ◌++◌, refl, sym, ap, subst, ◌∙◌, arith, rules, or-false}
+use Rattle.smx_tables.proofs.Common.{nat_lt, All, AllByRecursion, list_all, false≢true, nat_tests, list_any-append}
+use Rattle.smx_tables.proofs.Common.{recursion_from_All, DriverSpec, Link, Descriptor, StreamId, Configuration}
+use Rattle.smx_tables.proofs.Common.{same_stream, IsKnown, AreLowersApart, each_find, AreLinksSound, exists, is_below}
+use Rattle.smx_tables.proofs.Common.{is_named, is_persistent, stands_within, StreamTable, HasHolds, number_at}
+use Rattle.smx_tables.proofs.Common.{AreHeld, TellsExisting, is_held}
+use Rattle.std.proofs.Common.{length, Ok}
 use Rattle.std.specs.Option.{is_some, option_map, ok_or}
-use Rattle.std.specs.List.{All, AllByRecursion, list_all}
-use Rattle.std.proofs.lemmas.Bool.{false≢true}
-use Rattle.std.proofs.lemmas.Bool.Decides.{nat_tests}
 use Rattle.std.proofs.lemmas.List.{get_or_default}
-use Rattle.std.proofs.lemmas.List.Folds.{list_any-append}
 use Rattle.std.proofs.lemmas.Option.{same_Some}
-use Rattle.std.proofs.lemmas.List.Elements.{recursion_from_All}
-use Rattle.smx_types.specs.declared.driver.DriverSpec.{DriverSpec}
-use Rattle.smx_types.specs.declared.link.Link.{Link}
 use Rattle.smx_types.specs.declared.link.LinkKind.{LinkKind}
 use Rattle.smx_types.specs.declared.reply.Fault.TheVariants.{BadDescriptor}
-use Rattle.smx_types.specs.declared.stream.Descriptor.{Descriptor}
-use Rattle.smx_types.specs.declared.stream.StreamId.{StreamId}
-use Rattle.smx_model.specs.Configuration.{Configuration, is_fd, same_stream}
-use Rattle.smx_model.specs.KnownStreams.{IsKnown}
-use Rattle.smx_model.specs.Paths.{AreLowersApart, HasNoCycle, reaches}
-use Rattle.smx_model.proofs.EachLemmas.{each_both, each_find}
+use Rattle.smx_model.specs.Configuration.{is_fd}
+use Rattle.smx_model.specs.Paths.{HasNoCycle, reaches}
+use Rattle.smx_model.proofs.EachLemmas.{each_both}
 use Rattle.smx_model.proofs.TestLemmas.{find_passes}
 use Rattle.smx_links.proofs.LowerLemmas.{any_found}
-use Rattle.smx_model.specs.SoundLinks.{AreLinksSound}
-use Rattle.smx_model.specs.Standing.{exists, is_below, is_named, is_persistent, stands_within}
 use Rattle.smx_model.proofs.KeptLemmas.{exists_is_stands}
 use Rattle.smx_model.proofs.PathLemmas.{reaches_at}
 use Rattle.smx_model.proofs.SettlingLemmas.{count, up_less}
-use Rattle.smx_streams.specs.StreamTables.{StreamTable, HasHolds, number_at, stream_at, exists as is_there}
-use Rattle.smx_tables.specs.ExistingStreams.{AreHeld, TellsExisting, holds_of, is_held}
+use Rattle.smx_streams.specs.StreamTables.{stream_at, exists as is_there}
+use Rattle.smx_tables.specs.ExistingStreams.{holds_of}
 use Rattle.smx_links.specs.LinkLists.{LinkList, IsLinked, refusal, with_link}
 use Rattle.smx_links.specs.declared.link_fault.LinkFault.TheVariants as link_fault
 use Rattle.smx_tables.proofs.AboveLemmas.{stream_is, stream_self, stream_turned}

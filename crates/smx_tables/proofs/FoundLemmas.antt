@@ -1,7 +1,5 @@
 -- Results of look-ups.
-use Rattle.std.proofs.Common.{◌≡◌, Bool, true, List, find, Some}
-use Rattle.std.specs.List.{AllByRecursion}
-use Rattle.smx_model.proofs.EachLemmas.{each_find}
+use Rattle.smx_tables.proofs.Common.{◌≡◌, Bool, true, List, find, Some, AllByRecursion, each_find}
 -- a result that was computed from another result, together with that other one
 pub use Rattle.smx_model.proofs.SettlingLemmas.{bound}
 -- the item that is found passes the test

@@ -1,20 +1,14 @@
 -- The hung-up streams that are left when streams cease to exist.
-use Rattle.std.proofs.Common.{◌≡◌, ℕ, ◌≤◌, Bool, true, List, [], ◌∷◌, filter, refl, sym, ap, ◌∙◌, arith, inl, inr, ◌&&◌}
-use Rattle.std.proofs.Common.{◌||◌, not, length, subst}
-use Rattle.std.specs.List.{list_all}
-use Rattle.std.proofs.lemmas.Bool.{and_parts, or_cases, or_left, or_right, false≢true}
-use Rattle.std.proofs.lemmas.Bool.Decides.{nat_tests}
-use Rattle.smx_types.specs.declared.driver.DriverSpec.{DriverSpec}
-use Rattle.smx_types.specs.declared.link.Link.{Link}
-use Rattle.smx_types.specs.declared.stream.Descriptor.{Descriptor}
-use Rattle.smx_types.specs.declared.stream.StreamId.{StreamId}
-use Rattle.smx_model.specs.Configuration.{Configuration, same_stream}
-use Rattle.smx_model.specs.Hangups.{is_hung}
-use Rattle.smx_model.specs.Removal.{after_sweep, without_dead_streams, without_links}
-use Rattle.smx_model.specs.Standing.{exists, is_below, is_named, is_persistent}
-use Rattle.smx_streams.specs.StreamTables.{StreamTable, AreHungsSound, HasHolds, LeavesHungs, number_at}
-use Rattle.smx_streams.specs.StreamTables.{exists as is_there}
-use Rattle.smx_tables.specs.ExistingStreams.{AreHeld, TellsExisting}
+use Rattle.smx_tables.proofs.Common.{◌≡◌, ℕ, ◌≤◌, Bool, true, List, [], ◌∷◌, filter, refl, sym, ap, ◌∙◌, arith, inl}
+use Rattle.smx_tables.proofs.Common.{inr, ◌&&◌, ◌||◌, not, subst, list_all, and_parts, or_cases, or_left, false≢true}
+use Rattle.smx_tables.proofs.Common.{nat_tests, DriverSpec, Link, Descriptor, StreamId, Configuration, same_stream}
+use Rattle.smx_tables.proofs.Common.{is_hung, without_dead_streams, without_links, exists, is_below, is_named}
+use Rattle.smx_tables.proofs.Common.{is_persistent, StreamTable, HasHolds, LeavesHungs, number_at, AreHeld}
+use Rattle.smx_tables.proofs.Common.{TellsExisting}
+use Rattle.std.proofs.Common.{length}
+use Rattle.std.proofs.lemmas.Bool.{or_right}
+use Rattle.smx_model.specs.Removal.{after_sweep}
+use Rattle.smx_streams.specs.StreamTables.{AreHungsSound, exists as is_there}
 use Rattle.smx_tables.proofs.AboveLemmas.{stream_is, stream_self}
 use Rattle.smx_tables.proofs.ExistingLemmas.{any_weaker, stands_there, there_is}
 use Rattle.smx_tables.proofs.RemovalLemmas.{any_kept}

@@ -1,9 +1,6 @@
 -- Holds in equal tables and in empty tables.
-use Rattle.std.proofs.Common.{◌≡◌, List, [], sym, subst, arith}
-use Rattle.smx_types.specs.declared.link.Link.{Link}
-use Rattle.smx_types.specs.declared.stream.StreamId.{StreamId}
-use Rattle.smx_streams.specs.StreamTables.{StreamTable, number_at}
-use Rattle.smx_tables.specs.ExistingStreams.{AreHeld}
+use Rattle.smx_tables.proofs.Common.{◌≡◌, List, [], sym, subst, arith, Link, StreamId, StreamTable, number_at}
+use Rattle.smx_tables.proofs.Common.{AreHeld}
 
 -- equal links and equal streams have the same holds
 pub held_again : (links same : List Link) (t u : StreamTable) → AreHeld links t → same ≡ links → u ≡ t → AreHeld same u

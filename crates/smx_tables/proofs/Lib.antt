@@ -1,3 +1,4 @@
+pub mod Common
 pub mod AboveLemmas
 pub mod HungLemmas
 pub mod FoundLemmas

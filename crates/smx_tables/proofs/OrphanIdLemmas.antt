@@ -1,17 +1,10 @@
 -- Collecting the ids of links whose lower streams are released.
-use Rattle.std.proofs.Common.{◌≡◌, ℕ, ◌-◌, ◌<◌, ◌≤◌, Bool, true, false, ◌||◌, not, eqb, List, [], ◌∷◌, ◌++◌, length}
-use Rattle.std.proofs.Common.{length-append, find, Option, Some, None, refl, sym, ap, ◌∙◌, arith}
-use Rattle.std.specs.Prelude.{slice_get}
-use Rattle.std.specs.Option.{option_map_or}
-use Rattle.std.proofs.lemmas.Option.{slice_get_within}
-use Rattle.smx_types.specs.declared.link.Link.{Link}
-use Rattle.smx_types.specs.declared.stream.StreamId.{StreamId}
-use Rattle.smx_model.specs.Configuration.{same_stream}
-use Rattle.smx_model.specs.Paths.{AreLowersApart}
-use Rattle.smx_streams.specs.StreamTables.{StreamTable, HasHolds, number_at}
-use Rattle.smx_tables.specs.ExistingStreams.{AreHeld, IsReleasing, holds_below, is_held, is_loose}
-use Rattle.smx_tables.specs.ListedLinks.{AreIdsOf}
-use Rattle.smx_tables.specs.TouchedStreams.{AreReleased}
+use Rattle.smx_tables.proofs.Common.{◌≡◌, ℕ, ◌-◌, ◌<◌, ◌≤◌, Bool, true, false, ◌||◌, not, eqb, List, [], ◌∷◌, ◌++◌}
+use Rattle.smx_tables.proofs.Common.{length-append, find, Option, Some, None, refl, sym, ap, ◌∙◌, arith, slice_get}
+use Rattle.smx_tables.proofs.Common.{option_map_or, slice_get_within, Link, StreamId, same_stream, AreLowersApart}
+use Rattle.smx_tables.proofs.Common.{StreamTable, HasHolds, number_at, AreHeld, IsReleasing, holds_below, is_held}
+use Rattle.smx_tables.proofs.Common.{is_loose, AreIdsOf, AreReleased}
+use Rattle.std.proofs.Common.{length}
 use Rattle.smx_tables.proofs.AboveLemmas.{above_with_id, eqb_swap, found_itself, once_below, stream_self, IsIdsRising}
 use Rattle.smx_tables.proofs.ExistingLemmas.{holds_few}
 use Rattle.smx_tables.proofs.ReleaseLemmas.{loose_held, this_one}

@@ -1,25 +1,14 @@
 -- If no link is loose, the links whose lower streams are not held are the orphaned ones.
-use Rattle.std.proofs.Common.{◌≡◌, ℕ, true, false, ◌&&◌, ◌||◌, not, List, [], ◌∷◌, length, filter, refl, sym, ap, subst}
-use Rattle.std.proofs.Common.{◌∙◌, arith, inl, inr}
-use Rattle.std.proofs.Math.Bool.{not-not}
-use Rattle.std.specs.Prelude.{nat_lt}
-use Rattle.std.specs.List.{All, AllByRecursion, list_any, list_all}
+use Rattle.smx_tables.proofs.Common.{◌≡◌, ℕ, true, false, ◌&&◌, ◌||◌, not, List, [], ◌∷◌, filter, refl, sym, ap}
+use Rattle.smx_tables.proofs.Common.{subst, ◌∙◌, arith, inl, inr, not-not, nat_lt, All, AllByRecursion, list_any}
+use Rattle.smx_tables.proofs.Common.{list_all, nat_tests, filter_agree, recursion_from_All, DriverSpec, Link}
+use Rattle.smx_tables.proofs.Common.{Descriptor, StreamId, Configuration, same_stream, IsKnown, AreLinksSound}
+use Rattle.smx_tables.proofs.Common.{is_below, is_persistent, stands_within, StreamTable, number_at, AreHeld}
+use Rattle.smx_tables.proofs.Common.{IsReleasing, is_held, is_loose, is_orphaned, AreIdsOf, is_one_of}
+use Rattle.std.proofs.Common.{length}
 use Rattle.std.proofs.lemmas.Bool.{cases_Bool}
-use Rattle.std.proofs.lemmas.Bool.Decides.{nat_tests}
-use Rattle.std.proofs.lemmas.List.Elements.{filter_agree, recursion_from_All}
-use Rattle.smx_types.specs.declared.driver.DriverSpec.{DriverSpec}
-use Rattle.smx_types.specs.declared.link.Link.{Link}
-use Rattle.smx_types.specs.declared.stream.Descriptor.{Descriptor}
-use Rattle.smx_types.specs.declared.stream.StreamId.{StreamId}
-use Rattle.smx_model.specs.Configuration.{Configuration, same_stream}
-use Rattle.smx_model.specs.KnownStreams.{IsKnown}
 use Rattle.smx_model.proofs.EachLemmas.{each_both, each_map}
-use Rattle.smx_model.specs.SoundLinks.{AreLinksSound}
-use Rattle.smx_model.specs.Standing.{is_below, is_persistent, stands_within}
-use Rattle.smx_streams.specs.StreamTables.{StreamTable, number_at, exists as is_there}
-use Rattle.smx_tables.specs.ExistingStreams.{AreHeld, IsReleasing, is_held, is_loose}
-use Rattle.smx_tables.specs.ListedLinks.{is_orphaned, AreIdsOf}
-use Rattle.smx_links.specs.LinkLists.{is_one_of}
+use Rattle.smx_streams.specs.StreamTables.{exists as is_there}
 use Rattle.smx_tables.proofs.AboveLemmas.{stream_is, IsIdsRising}
 use Rattle.smx_tables.proofs.ExistingLemmas.{IsTight, there_exists}
 use Rattle.smx_tables.proofs.RemovalLemmas.{any_kept, links_stay, listed_any}

@@ -1,22 +1,16 @@
 -- Releasing the lower streams of loose links.
-use Rattle.std.proofs.Common.{◌≡◌, ℕ, zero, suc, ◌-◌, ◌<◌, ◌≤◌, Bool, true, false, not, List, [], ◌∷◌, length, get_or}
-use Rattle.std.proofs.Common.{find, Option, Some, None, if◌then◌else◌, refl, sym, ap, subst, ◌∙◌, arith, ◌&&◌}
-use Rattle.std.specs.Prelude.{nat_lt, slice_get}
-use Rattle.std.proofs.lemmas.Bool.{and_parts, or_parts, false_from_ne_true, false≢true, not-true}
-use Rattle.std.proofs.lemmas.Bool.Decides.{nat_tests}
-use Rattle.std.proofs.lemmas.List.Elements.{recursion_from_All}
-use Rattle.std.proofs.lemmas.Option.{get_or_from_slice_get, slice_get-get_or, slice_get_within}
-use Rattle.smx_types.specs.declared.link.Link.{Link}
+use Rattle.smx_tables.proofs.Common.{◌≡◌, ℕ, zero, suc, ◌-◌, ◌<◌, ◌≤◌, Bool, true, false, not, List, [], ◌∷◌, get_or}
+use Rattle.smx_tables.proofs.Common.{find, Option, Some, None, refl, sym, ap, subst, ◌∙◌, arith, ◌&&◌, nat_lt}
+use Rattle.smx_tables.proofs.Common.{slice_get, and_parts, false≢true, nat_tests, recursion_from_All}
+use Rattle.smx_tables.proofs.Common.{slice_get_within, Link, StreamId, same_stream, AreLowersApart, each_find}
+use Rattle.smx_tables.proofs.Common.{is_named, is_persistent, stands_within, StreamTable, HasHolds, number_at}
+use Rattle.smx_tables.proofs.Common.{AreHeld, IsReleasing, holds_below, is_held, is_loose, is_orphaned}
+use Rattle.std.proofs.Common.{length, if◌then◌else◌}
+use Rattle.std.proofs.lemmas.Bool.{or_parts, false_from_ne_true, not-true}
+use Rattle.std.proofs.lemmas.Option.{get_or_from_slice_get, slice_get-get_or}
 use Rattle.smx_types.specs.declared.link.LinkKind.TheVariants as kind
-use Rattle.smx_types.specs.declared.stream.StreamId.{StreamId}
-use Rattle.smx_model.specs.Configuration.{same_stream}
-use Rattle.smx_model.specs.Paths.{AreLowersApart}
-use Rattle.smx_model.proofs.EachLemmas.{each_find}
 use Rattle.smx_model.proofs.TestLemmas.{find_passes}
-use Rattle.smx_model.specs.Standing.{is_named, is_persistent, stands_within}
-use Rattle.smx_streams.specs.StreamTables.{StreamTable, HasHolds, number_at, exists as is_there}
-use Rattle.smx_tables.specs.ExistingStreams.{AreHeld, IsReleasing, holds_below, is_held, is_loose}
-use Rattle.smx_tables.specs.ListedLinks.{is_orphaned}
+use Rattle.smx_streams.specs.StreamTables.{exists as is_there}
 use Rattle.smx_tables.proofs.AboveLemmas.{below_at, one_link, stream_is, stream_self}
 use Rattle.smx_tables.proofs.ClimbLemmas.{one_climb_more, stands_by, stands_is}
 use Rattle.smx_tables.proofs.ExistingLemmas.{held_is_below}

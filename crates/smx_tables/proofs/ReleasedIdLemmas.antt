@@ -1,19 +1,10 @@
 -- Releasing the lower streams of links by the ids of the links.
-use Rattle.std.proofs.Common.{◌≡◌, ℕ, ◌-◌, ◌<◌, ◌≤◌, false, ◌&&◌, ◌||◌, not, eqb, List, [], ◌∷◌, ◌++◌, find, Option}
-use Rattle.std.proofs.Common.{Some, None, refl, ◌∙◌, arith}
-use Rattle.std.proofs.Math.Bool.{and-true, or-false}
-use Rattle.std.specs.Option.{option_map_or}
-use Rattle.std.proofs.lemmas.List.Folds.{list_any-append}
-use Rattle.std.proofs.lemmas.Bool.Decides.{nat_tests}
-use Rattle.smx_types.specs.declared.link.Link.{Link}
-use Rattle.smx_types.specs.declared.stream.StreamId.{StreamId}
-use Rattle.smx_model.specs.Configuration.{same_stream}
-use Rattle.smx_model.specs.Paths.{AreLowersApart}
-use Rattle.smx_model.specs.Standing.{is_below}
-use Rattle.smx_streams.specs.StreamTables.{StreamTable, AreHungsSound, HasHolds, number_at}
-use Rattle.smx_tables.specs.ExistingStreams.{AreHeld}
-use Rattle.smx_tables.specs.ListedLinks.{is_listed}
-use Rattle.smx_links.specs.LinkLists.{is_one_of, others_of}
+use Rattle.smx_tables.proofs.Common.{◌≡◌, ℕ, ◌-◌, ◌<◌, ◌≤◌, false, ◌&&◌, ◌||◌, not, eqb, List, [], ◌∷◌, ◌++◌, find}
+use Rattle.smx_tables.proofs.Common.{Option, Some, None, refl, ◌∙◌, arith, and-true, or-false, option_map_or}
+use Rattle.smx_tables.proofs.Common.{list_any-append, nat_tests, Link, StreamId, same_stream, AreLowersApart}
+use Rattle.smx_tables.proofs.Common.{is_below, StreamTable, HasHolds, number_at, AreHeld, is_listed, is_one_of}
+use Rattle.smx_tables.proofs.Common.{others_of}
+use Rattle.smx_streams.specs.StreamTables.{AreHungsSound}
 use Rattle.smx_tables.proofs.AboveLemmas.{above_with_id, any_once, once_below, stream_turned, IsIdsRising}
 use Rattle.smx_tables.proofs.HungLemmas.{none_went}
 use Rattle.smx_tables.proofs.RemovalLemmas.{any_kept}

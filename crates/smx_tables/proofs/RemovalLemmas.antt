@@ -1,24 +1,17 @@
 -- Removing links by their ids removes the links that pass the test by which the ids were listed.
-use Rattle.std.proofs.Common.{◌≡◌, ℕ, Bool, true, false, ◌&&◌, not, eqb, List, [], ◌∷◌, length, map, filter, find}
-use Rattle.std.proofs.Common.{get_or, refl, sym, ap, subst, ◌∙◌, arith, rules}
-use Rattle.std.proofs.Math.Bool.{and-false, and-true}
-use Rattle.std.specs.List.{list_any, AllByRecursion}
-use Rattle.std.specs.Option.{option_map_or}
-use Rattle.std.proofs.lemmas.Bool.{eqb-true, eq-eqb}
+use Rattle.smx_tables.proofs.Common.{◌≡◌, ℕ, Bool, true, false, ◌&&◌, not, eqb, List, [], ◌∷◌, map, filter, find}
+use Rattle.smx_tables.proofs.Common.{get_or, refl, sym, ap, subst, ◌∙◌, arith, rules, and-false, and-true, list_any}
+use Rattle.smx_tables.proofs.Common.{AllByRecursion, option_map_or, eq-eqb, filter_agree, recursion_from_All, Link}
+use Rattle.smx_tables.proofs.Common.{Place, StreamId, Configuration, QueuedMessage, same_stream, AreLowersApart}
+use Rattle.smx_tables.proofs.Common.{without_links, is_below, is_one_of, is_listed, is_read_below_listed, AreIdsOf}
+use Rattle.std.proofs.Common.{length}
+use Rattle.std.proofs.lemmas.Bool.{eqb-true}
 use Rattle.std.proofs.lemmas.List.{nil_from_length}
-use Rattle.std.proofs.lemmas.List.Elements.{filter_agree, recursion_from_All}
-use Rattle.smx_types.specs.declared.link.Link.{Link}
 use Rattle.smx_types.specs.declared.link.Route.{Route}
-use Rattle.smx_types.specs.declared.stream.Place.{Place}
-use Rattle.smx_types.specs.declared.stream.StreamId.{StreamId}
 use Rattle.smx_types.specs.declared.stream.Side.TheVariants as side
-use Rattle.smx_model.specs.Configuration.{Configuration, QueuedMessage, same_side, same_stream}
-use Rattle.smx_model.specs.Paths.{AreLowersApart}
+use Rattle.smx_model.specs.Configuration.{same_side}
 use Rattle.smx_model.proofs.EachLemmas.{each_map}
-use Rattle.smx_model.specs.Removal.{without_links, is_read_below}
-use Rattle.smx_model.specs.Standing.{is_below}
-use Rattle.smx_links.specs.LinkLists.{is_one_of}
-use Rattle.smx_tables.specs.ListedLinks.{is_listed, is_read_below_listed, AreIdsOf}
+use Rattle.smx_model.specs.Removal.{is_read_below}
 use Rattle.smx_tables.proofs.AboveLemmas.{any_once, any_with_id, eqb_swap, found_itself, once_below, once_id}
 use Rattle.smx_tables.proofs.AboveLemmas.{IsIdsRising}
 

@@ -1,23 +1,16 @@
 -- The streams that a change touches: those that ceased to exist, and what is left of the others.
-use Rattle.std.proofs.Common.{◌≡◌, ℕ, suc, ◌+◌, ◌≤◌, Bool, true, false, ◌||◌, not, List, [], ◌∷◌, ◌++◌, length, map}
-use Rattle.std.proofs.Common.{filter, get_or, refl, sym, ap, ◌∙◌, arith, inl, inr}
-use Rattle.std.specs.List.{All, list_any, list_all}
-use Rattle.std.proofs.lemmas.Bool.{and_parts, or_cases, false≢true}
+use Rattle.smx_tables.proofs.Common.{◌≡◌, ℕ, suc, ◌+◌, ◌≤◌, Bool, true, false, ◌||◌, not, List, [], ◌∷◌, ◌++◌, map}
+use Rattle.smx_tables.proofs.Common.{filter, get_or, refl, sym, ap, ◌∙◌, arith, inl, inr, All, list_any, list_all}
+use Rattle.smx_tables.proofs.Common.{and_parts, or_cases, false≢true, nat_tests, DriverSpec, Link, Descriptor, Place}
+use Rattle.smx_tables.proofs.Common.{StreamId, Configuration, same_stream, is_hung, without_links, exists}
+use Rattle.smx_tables.proofs.Common.{is_persistent, StreamTable, HasHolds, AreHeld, TellsExisting, holds_below}
+use Rattle.smx_tables.proofs.Common.{is_held, is_loose, IsTouched, is_there_or_touched, is_watched}
+use Rattle.std.proofs.Common.{length}
 use Rattle.std.proofs.lemmas.List.{length-map}
-use Rattle.std.proofs.lemmas.Bool.Decides.{nat_tests}
-use Rattle.smx_types.specs.declared.driver.DriverSpec.{DriverSpec}
-use Rattle.smx_types.specs.declared.link.Link.{Link}
-use Rattle.smx_types.specs.declared.stream.Descriptor.{Descriptor}
-use Rattle.smx_types.specs.declared.stream.Place.{Place}
-use Rattle.smx_types.specs.declared.stream.StreamId.{StreamId}
-use Rattle.smx_model.specs.Configuration.{Configuration, same_stream}
-use Rattle.smx_model.specs.Hangups.{is_hung}
-use Rattle.smx_model.specs.Removal.{without_links, without_queues_at}
-use Rattle.smx_model.specs.Standing.{exists, is_persistent}
+use Rattle.smx_model.specs.Removal.{without_queues_at}
 use Rattle.smx_model.specs.Swept.{IsSwept}
-use Rattle.smx_streams.specs.StreamTables.{StreamTable, HasHolds, exists as is_there}
-use Rattle.smx_tables.specs.ExistingStreams.{AreHeld, TellsExisting, holds_below, is_held, is_loose}
-use Rattle.smx_tables.specs.TouchedStreams.{IsCascade, IsTouched, is_there_or_touched, is_watched}
+use Rattle.smx_streams.specs.StreamTables.{exists as is_there}
+use Rattle.smx_tables.specs.TouchedStreams.{IsCascade}
 use Rattle.smx_tables.proofs.AboveLemmas.{below_at, stream_is}
 use Rattle.smx_tables.proofs.ExistingLemmas.{all_fewer, all_weaker, held_is_below, holds_few, linked_weaker}
 use Rattle.smx_tables.proofs.HungLemmas.{pass_all}

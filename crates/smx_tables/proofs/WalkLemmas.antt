@@ -1,11 +1,9 @@
 -- A walk over the descriptors of a table, from the first on.
-use Rattle.std.proofs.Common.{◌≡◌, ℕ, ◌+◌, ◌<◌, not, List, [], ◌∷◌, ◌++◌, length, map, Option, Some, None, refl, sym}
-use Rattle.std.proofs.Common.{ap, subst, ◌∙◌, arith, append_assoc}
-use Rattle.std.specs.List.{All}
-use Rattle.std.proofs.lemmas.Bool.Decides.{nat_tests}
+use Rattle.smx_tables.proofs.Common.{◌≡◌, ℕ, ◌+◌, ◌<◌, not, List, [], ◌∷◌, ◌++◌, map, Option, Some, None, refl, sym}
+use Rattle.smx_tables.proofs.Common.{ap, subst, ◌∙◌, arith, All, nat_tests, Descriptor}
+use Rattle.std.proofs.Common.{length, append_assoc}
 use Rattle.std.proofs.lemmas.List.Elements.{All-filter}
 use Rattle.smx_types.specs.declared.limits.TheConstants.{MAX_DESCRIPTORS}
-use Rattle.smx_types.specs.declared.stream.Descriptor.{Descriptor}
 use Rattle.smx_model.specs.Configuration.{pair_before}
 use Rattle.smx_streams.specs.StreamTables.{IsNext, fds_from}
 

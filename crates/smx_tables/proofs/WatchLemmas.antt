@@ -1,22 +1,15 @@
 -- Loose links, and the streams that may have ceased to exist.
-use Rattle.std.proofs.Common.{◌≡◌, ℕ, ◌+◌, ◌-◌, ◌≤◌, Bool, true, false, ◌&&◌, ◌||◌, not, eqb, List, []}
-use Rattle.std.proofs.Common.{◌∷◌, ◌++◌, take, Some, refl, sym, ap, subst, ◌∙◌, arith, inl, inr}
-use Rattle.std.proofs.Math.Bool.{or-false}
-use Rattle.std.specs.Prelude.{nat_lt, slice_get}
-use Rattle.std.specs.List.{list_any, list_all}
-use Rattle.std.proofs.lemmas.Bool.{cases_Bool, and_parts, and_from, or_cases, or_left, or_right, eq-eqb, false≢true}
-use Rattle.std.proofs.lemmas.List.Folds.{list_all_at, list_all_more, list_any-append}
-use Rattle.std.proofs.lemmas.Bool.Decides.{nat_tests}
-use Rattle.std.proofs.lemmas.Option.{slice_get_within}
-use Rattle.smx_types.specs.declared.link.Link.{Link}
-use Rattle.smx_types.specs.declared.stream.Descriptor.{Descriptor}
-use Rattle.smx_types.specs.declared.stream.StreamId.{StreamId}
-use Rattle.smx_model.specs.Configuration.{same_stream}
-use Rattle.smx_model.specs.Standing.{is_named}
+use Rattle.smx_tables.proofs.Common.{◌≡◌, ℕ, ◌+◌, ◌-◌, ◌≤◌, Bool, true, false, ◌&&◌, ◌||◌, not, eqb, List, [], ◌∷◌}
+use Rattle.smx_tables.proofs.Common.{◌++◌, take, Some, refl, sym, ap, subst, ◌∙◌, arith, inl, inr, or-false, nat_lt}
+use Rattle.smx_tables.proofs.Common.{slice_get, list_any, list_all, and_parts, or_cases, or_left, eq-eqb, false≢true}
+use Rattle.smx_tables.proofs.Common.{list_any-append, nat_tests, slice_get_within, Link, Descriptor, StreamId}
+use Rattle.smx_tables.proofs.Common.{same_stream, is_named, StreamTable, HasHolds, number_at, is_held, is_loose}
+use Rattle.smx_tables.proofs.Common.{is_watched}
+use Rattle.std.proofs.lemmas.Bool.{cases_Bool, and_from, or_right}
+use Rattle.std.proofs.lemmas.List.Folds.{list_all_at, list_all_more}
 use Rattle.smx_links.specs.LinkLists.{is_upper}
-use Rattle.smx_streams.specs.StreamTables.{StreamTable, HasHolds, number_at, exists as is_there}
-use Rattle.smx_tables.specs.ExistingStreams.{holds_of, is_held, is_loose}
-use Rattle.smx_tables.specs.TouchedStreams.{is_watched}
+use Rattle.smx_streams.specs.StreamTables.{exists as is_there}
+use Rattle.smx_tables.specs.ExistingStreams.{holds_of}
 use Rattle.smx_tables.proofs.AboveLemmas.{stream_is, stream_self}
 use Rattle.smx_tables.proofs.ExistingLemmas.{all_weaker, holds_few}
 use Rattle.smx_tables.proofs.ReleaseLemmas.{not_more_held, this_one}

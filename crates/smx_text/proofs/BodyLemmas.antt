@@ -1,13 +1,9 @@
 -- How the lines of some programs grow by one line, or by the lines of one more program.
-use Rattle.std.proofs.Common.{◌≡◌, ℕ, suc, ◌+◌, ◌-◌, ◌<◌, List, [], ◌∷◌, ◌++◌, length, get_or, map, sym, ap}
-use Rattle.std.proofs.Common.{◌∙◌, append_assoc, arith, refl, add-zero}
-use Rattle.std.proofs.Math.ListN.{set}
-use Rattle.std.proofs.lemmas.List.{append-nil, get_or_read, map_push}
-use Rattle.smx_types.specs.declared.command.Command.{Command}
-use Rattle.smx_types.specs.declared.driver.DriverSpec.{DriverSpec}
-use Rattle.smx_text.specs.ProgramLines.{Line}
+use Rattle.smx_text.proofs.Common.{suc, ◌+◌, ◌-◌, ◌<◌, get_or, map, sym, ap, ◌∙◌, append_assoc, arith, refl, set}
+use Rattle.smx_text.proofs.Common.{append-nil, Command, DriverSpec, Line, program_lines}
+use Rattle.std.proofs.Common.{◌≡◌, ℕ, List, [], ◌∷◌, ◌++◌, length, add-zero}
+use Rattle.std.proofs.lemmas.List.{get_or_read, map_push}
 use Rattle.smx_text.specs.ProgramLines as line
-use Rattle.smx_text.specs.ProgramsText.{program_lines}
 
 -- the lines of one more program follow those of the others: the line of its process, then its commands
 pub lines_add : (n : ℕ) (ps : List (List Command)) (cs : List Command)

@@ -1,18 +1,13 @@
 -- Some lines of a value, and the bytes after them, have one result, for any kind of text in which a line's text
 -- determines the line.
-use Rattle.std.proofs.Common.{◌≡◌, ℕ, ◌+◌, ◌≤◌, List, [], ◌∷◌, ◌++◌, length, map, Result, Ok, Err, refl, sym}
-use Rattle.std.proofs.Common.{ap, subst, ◌∙◌, append_assoc, arith, inl, inr}
-use Rattle.std.specs.List.{AllByRecursion}
-use Rattle.std.specs.Prelude.{◌⊎◌}
-use Rattle.std.proofs.lemmas.List.{length-append}
-use Rattle.smx_words.specs.Words.{AreWords, LINE_FEED, text_of}
+use Rattle.smx_text.proofs.Common.{◌+◌, map, refl, sym, ap, subst, ◌∙◌, append_assoc, arith, inl, inr, AllByRecursion}
+use Rattle.smx_text.proofs.Common.{◌⊎◌, length-append, AreWords, LINE_FEED, text_of, Cause, TextFault, Grammar}
+use Rattle.smx_text.proofs.Common.{IsOneLine, header, line_text, beginning, IsBegun, IsNoLine, Refuses}
+use Rattle.std.proofs.Common.{◌≡◌, ℕ, ◌≤◌, List, [], ◌∷◌, ◌++◌, length, Result, Ok, Err}
 use Rattle.smx_words.proofs.LineLemmas.{same_words}
-use Rattle.smx_text.specs.declared.text_fault.Cause.{Cause}
 use Rattle.smx_text.specs.declared.text_fault.Cause.TheVariants as cause
-use Rattle.smx_text.specs.declared.text_fault.TextFault.{TextFault}
-use Rattle.smx_text.specs.Grammar.{Grammar, IsOneLine, header, line_text, beginning}
-use Rattle.smx_text.specs.Grammar.{IsBegun, GoesOn, MayFollow, IsNoLine, IsOneTooMany, last_line}
-use Rattle.smx_text.specs.Reading.{AnswersLine, AnswersText, Refuses, RefusesLine}
+use Rattle.smx_text.specs.Grammar.{GoesOn, MayFollow, IsOneTooMany, last_line}
+use Rattle.smx_text.specs.Reading.{AnswersLine, AnswersText, RefusesLine}
 use Rattle.smx_text.proofs.EachLemmas.{all_left, all_right}
 use Rattle.smx_text.proofs.LineWordLemmas.{one_line_of}
 use Rattle.smx_text.proofs.LineLemmas.{not_one, one_cut}

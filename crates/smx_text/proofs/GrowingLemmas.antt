@@ -1,25 +1,17 @@
 -- A transcript whose history was written piece by piece.
-use Rattle.std.proofs.Common.{◌≡◌, ℕ, List, [], ◌∷◌, ◌++◌, length, take, drop, map, refl, sym, ap, ◌∙◌, append_assoc}
-use Rattle.std.proofs.Common.{arith}
+use Rattle.smx_text.proofs.Common.{take, map, refl, sym, ap, ◌∙◌, append_assoc, arith, append-nil, map-append}
+use Rattle.smx_text.proofs.Common.{AllByRecursion, Entry, DriverSpec, ConfigView, entry_words, FitsDriver, FitsEntry}
+use Rattle.smx_text.proofs.Common.{LINE_FEED, line_of, text_of, beginning, transcript_grammar, view_body, Version}
+use Rattle.std.proofs.Common.{◌≡◌, ℕ, List, [], ◌∷◌, ◌++◌, length, drop}
 use Rattle.std.proofs.Math.Seq.{take-append_seam, drop-append_seam}
-use Rattle.std.proofs.lemmas.List.{append-nil, map-append}
 use Rattle.std.proofs.lemmas.Simd.{map-map}
-use Rattle.std.specs.List.{AllByRecursion}
 use Rattle.std.specs.Prelude.{codes}
-use Rattle.smx_types.specs.declared.command.Entry.{Entry}
-use Rattle.smx_types.specs.declared.driver.DriverSpec.{DriverSpec}
-use Rattle.smx_types.specs.declared.view.ConfigView.{ConfigView}
-use Rattle.smx_words.specs.Spelling.{entry_words}
-use Rattle.smx_words.specs.Spellable.{FitsDriver, FitsEntry}
-use Rattle.smx_words.specs.Words.{LINE_FEED, line_of, text_of}
-use Rattle.smx_text.specs.Grammar.{beginning}
 use Rattle.smx_text.specs.GrowingTranscripts.{opening_text, transcript_with, AreEntryLines, BeginsTranscript}
 use Rattle.smx_text.specs.TranscriptLines as row
-use Rattle.smx_text.specs.TranscriptText.{transcript_grammar, transcript_text, view_body, IsSpellable, IsSpellableView}
+use Rattle.smx_text.specs.TranscriptText.{transcript_text, IsSpellable, IsSpellableView}
 use Rattle.smx_text.specs.TranscriptText.{line_words as transcript_words, view_lines}
 use Rattle.smx_text.proofs.EachLemmas.{all_append}
 use Rattle.smx_text.proofs.ReadingLemmas.{beginning_append, beginning_is, full_is, texts_append}
-use Rattle.smx_types.specs.declared.version.Version.{Version}
 
 -- the header and the driver lines begin a transcript with these drivers and no entry yet
 pub begun : (version : Version) (drivers : List DriverSpec) (text : List ℕ) → text ≡ opening_text version drivers

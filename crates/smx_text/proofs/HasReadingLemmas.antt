@@ -1,17 +1,13 @@
 -- Each text has a reading, for any kind of text in which every line is decided.
-use Rattle.std.proofs.Common.{◌≡◌, ◌≢◌, ℕ, zero, suc, ◌+◌, ◌<◌, Bool, true, false, List, [], ◌∷◌, ◌++◌}
-use Rattle.std.proofs.Common.{length, Option, Some, None, Result, Ok, Err, refl, ap, ◌∙◌, arith, inl, inr}
-use Rattle.std.specs.Prelude.{◌⊎◌, IfErr}
-use Rattle.std.proofs.lemmas.List.{length-append}
+use Rattle.smx_text.proofs.Common.{◌≢◌, suc, ◌+◌, ◌<◌, refl, ap, ◌∙◌, arith, inl, inr, ◌⊎◌, IfErr, length-append}
+use Rattle.smx_text.proofs.Common.{bytes_eq, LINE_FEED, line_of, Cause, TextFault, Grammar, IsOneLine, header}
+use Rattle.smx_text.proofs.Common.{line_text, IsBegun, IsNoLine, IsFault, Reads}
+use Rattle.std.proofs.Common.{◌≡◌, ℕ, zero, Bool, true, false, List, [], ◌∷◌, ◌++◌, length, Option, Some, None}
+use Rattle.std.proofs.Common.{Result, Ok, Err}
 use Rattle.std.proofs.lemmas.Slice.Eq.{bytes_eq-Decides}
-use Rattle.std.specs.Str.{bytes_eq}
 use Rattle.smx_words.specs.LineReading.{IsReadAs}
-use Rattle.smx_words.specs.Words.{LINE_FEED, line_of}
-use Rattle.smx_text.specs.declared.text_fault.Cause.{Cause}
 use Rattle.smx_text.specs.declared.text_fault.Cause.TheVariants as cause
-use Rattle.smx_text.specs.declared.text_fault.TextFault.{TextFault}
-use Rattle.smx_text.specs.Grammar.{Grammar, IsOneLine, header, line_text, IsBegun, IsNoLine, IsOneTooMany}
-use Rattle.smx_text.specs.Grammar.{IsOneMore, IsFault, Reads}
+use Rattle.smx_text.specs.Grammar.{IsOneTooMany, IsOneMore}
 use Rattle.smx_text.proofs.ReadingLemmas.{IsBetween, started, cut_at, refused, one_more, read_to_end}
 use Rattle.smx_text.proofs.LineLemmas.{first_line}
 use Rattle.smx_text.proofs.GrammarLemmas.{IsWellMade}

@@ -1,9 +1,7 @@
 -- The earliest version that can express something.
-use Rattle.std.proofs.Common.{◌≡◌, ◌≤◌, Bool, true, false, List, length, refl, arith}
-use Rattle.std.proofs.lemmas.Bool.Decides.{nat_tests}
-use Rattle.smx_types.specs.Versions.{are_more_drivers, most_drivers, version_2_where}
-use Rattle.smx_types.specs.declared.driver.DriverSpec.{DriverSpec}
-use Rattle.smx_types.specs.declared.version.Version.TheVariants.{V1}
+use Rattle.smx_text.proofs.Common.{refl, arith, nat_tests, most_drivers, DriverSpec, V1}
+use Rattle.std.proofs.Common.{◌≡◌, ◌≤◌, Bool, true, false, List, length}
+use Rattle.smx_types.specs.Versions.{are_more_drivers, version_2_where}
 
 -- if version 1 is the earliest version, the reason for version 2 does not hold
 pub is_first : (b : Bool) → version_2_where b ≡ V1 → b ≡ false

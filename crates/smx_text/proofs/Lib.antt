@@ -1,3 +1,4 @@
+pub mod Common
 pub mod EachLemmas
 pub mod BodyLemmas
 pub mod LineWordLemmas

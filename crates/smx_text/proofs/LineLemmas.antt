@@ -1,10 +1,7 @@
 -- Lines of bytes, and the first line.
-use Rattle.std.proofs.Common.{◌≡◌, ℕ, Bool, true, false, eqb, List, [], ◌∷◌, ◌++◌, refl, ap, arith, inl, inr}
-use Rattle.std.specs.Prelude.{◌⊎◌}
-use Rattle.std.proofs.lemmas.Bool.Decides.{nat_tests}
-use Rattle.smx_words.specs.Words.{LINE_FEED}
+use Rattle.smx_text.proofs.Common.{refl, ap, arith, inl, inr, ◌⊎◌, nat_tests, LINE_FEED, IsOneLine}
+use Rattle.std.proofs.Common.{◌≡◌, ℕ, Bool, true, false, eqb, List, [], ◌∷◌, ◌++◌}
 use Rattle.smx_words.proofs.CutLemmas.{apart}
-use Rattle.smx_text.specs.Grammar.{IsOneLine}
 
 -- bytes that contain a line feed are not one line
 pub not_one : (xs after : List ℕ) → IsOneLine (xs ++ LINE_FEED ∷ after) → ⊥

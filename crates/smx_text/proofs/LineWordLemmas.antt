@@ -1,12 +1,10 @@
 -- Facts about the words of lines that both texts use.
-use Rattle.std.proofs.Common.{◌≡◌, ◌≢◌, ℕ, ◌<◌, false, List, [], ◌∷◌, length, ap, arith, rules}
+use Rattle.smx_text.proofs.Common.{◌≢◌, ◌<◌, ap, arith, rules, bytes_eq, AreWords, IsFree, LINE_FEED, SPACE, line_of}
+use Rattle.smx_text.proofs.Common.{AllByRecursion, IsOneLine}
+use Rattle.std.proofs.Common.{◌≡◌, ℕ, false, List, [], ◌∷◌, length}
 use Rattle.std.specs.Prelude.{codes}
-use Rattle.std.specs.Str.{bytes_eq}
 use Rattle.std.proofs.lemmas.Slice.Eq.{bytes_eq-Decides}
-use Rattle.smx_words.specs.Words.{AreWords, IsFree, LINE_FEED, SPACE, line_of}
 use Rattle.smx_words.proofs.LineLemmas.{line_free, same_free_words, words_free}
-use Rattle.std.specs.List.{AllByRecursion}
-use Rattle.smx_text.specs.Grammar.{IsOneLine}
 
 -- the first of some words, or no bytes if there are no words
 abbrev pub first_word : List (List ℕ) → List ℕ

@@ -1,13 +1,10 @@
 -- A text is read by a machine that accepts one line after another. The lemmas below hold for any kind of text.
-use Rattle.std.proofs.Common.{◌≡◌, ◌≢◌, ℕ, Bool, true, false, List, [], ◌∷◌, ◌++◌, refl, sym, ap, subst, ◌∙◌, map}
-use Rattle.std.proofs.Common.{append_assoc, inl, inr}
-use Rattle.std.specs.List.{AllByRecursion}
-use Rattle.std.specs.Prelude.{◌⊎◌}
-use Rattle.std.proofs.lemmas.List.{append-nil}
-use Rattle.smx_words.specs.Words.{AreWords}
+use Rattle.smx_text.proofs.Common.{◌≢◌, refl, sym, ap, subst, ◌∙◌, map, append_assoc, inl, inr, AllByRecursion, ◌⊎◌}
+use Rattle.smx_text.proofs.Common.{append-nil, AreWords, Grammar, IsOneLine, header, line_text, IsBegun, IsNoLine}
+use Rattle.std.proofs.Common.{◌≡◌, ℕ, Bool, true, false, List, [], ◌∷◌, ◌++◌}
 use Rattle.smx_words.proofs.DecidedLemmas.{same_or_not}
 use Rattle.smx_text.specs.declared.text_fault.Cause.TheVariants as cause
-use Rattle.smx_text.specs.Grammar.{Grammar, IsOneLine, header, line_text, IsBegun, GoesOn, IsNoLine}
+use Rattle.smx_text.specs.Grammar.{GoesOn}
 use Rattle.smx_text.specs.Reading.{AddsLine, RefusesLine}
 use Rattle.smx_text.proofs.EachLemmas.{all_left, all_push}
 use Rattle.smx_text.proofs.GrammarLemmas.{IsWellMade, refuses}

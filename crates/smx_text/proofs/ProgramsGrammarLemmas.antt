@@ -1,17 +1,14 @@
 -- In a programs text, a line's text determines the line.
-use Rattle.std.proofs.Common.{◌≡◌, ◌≢◌, ℕ, false, List, refl, sym, arith, rules, inl, inr}
+use Rattle.smx_text.proofs.Common.{◌≢◌, refl, sym, arith, rules, inl, inr, bytes_eq, Command, DriverSpec, line_of}
+use Rattle.smx_text.proofs.Common.{AreWords, command_words, driver_words, FitsDriver, IsNoLine, IsOneLine, header}
+use Rattle.smx_text.proofs.Common.{line_text, Line, programs_grammar, Version, V1, V2}
+use Rattle.std.proofs.Common.{◌≡◌, ℕ, false, List}
 use Rattle.std.specs.Prelude.{codes}
-use Rattle.std.specs.Str.{bytes_eq}
-use Rattle.smx_types.specs.declared.command.Command.{Command}
 use Rattle.smx_types.specs.declared.command.Command.TheVariants as command
-use Rattle.smx_types.specs.declared.driver.DriverSpec.{DriverSpec}
-use Rattle.smx_words.specs.Words.{line_of, AreWords}
-use Rattle.smx_words.specs.Spelling.{command_words, driver_words, process_words}
-use Rattle.smx_words.specs.Spellable.{FitsNumber, FitsDriver, FitsCommandIn}
-use Rattle.smx_text.specs.Grammar.{IsNoLine, IsOneLine, header, line_text}
-use Rattle.smx_text.specs.ProgramLines.{Line}
+use Rattle.smx_words.specs.Spelling.{process_words}
+use Rattle.smx_words.specs.Spellable.{FitsNumber, FitsCommandIn}
 use Rattle.smx_text.specs.ProgramLines as line
-use Rattle.smx_text.specs.ProgramsText.{line_words, FitsLine, programs_grammar}
+use Rattle.smx_text.specs.ProgramsText.{line_words, FitsLine}
 use Rattle.smx_text.proofs.GrammarLemmas.{IsWellMade}
 use Rattle.smx_text.proofs.HasReadingLemmas.{HasReading, by_reading}
 use Rattle.smx_text.proofs.MachineLemmas.{IsLineOrNot, well_made as made_by, reads}
@@ -24,8 +21,6 @@ use Rattle.smx_words.proofs.PlainLemmas.{some_command}
 use Rattle.smx_text.proofs.VersionLemmas.{AreVersions}
 use Rattle.smx_text.proofs.LineWordLemmas.{differ, end_spelled, first_word, other_first}
 use Rattle.smx_types.specs.Versions.{is_hangup}
-use Rattle.smx_types.specs.declared.version.Version.{Version}
-use Rattle.smx_types.specs.declared.version.Version.TheVariants.{V1, V2}
 
 -- ---- lines
 

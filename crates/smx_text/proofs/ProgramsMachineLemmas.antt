@@ -1,23 +1,16 @@
 -- A programs text is read by a machine that accepts one line after another.
-use Rattle.std.proofs.Common.{◌≡◌, ◌≢◌, ◌+◌, ◌-◌, ◌≤◌, ◌==◌, Bool, true, false, nat_le, nat_lt, List, [], ◌∷◌, ◌++◌}
-use Rattle.std.proofs.Common.{length, get_or, refl, sym, ap, subst, append_assoc, arith, rules}
+use Rattle.smx_text.proofs.Common.{◌≢◌, ◌+◌, ◌-◌, get_or, refl, sym, ap, subst, append_assoc, arith, rules, set}
+use Rattle.smx_text.proofs.Common.{nat_tests, append-nil, length-append, nil_from_length, ProgramLists}
+use Rattle.smx_text.proofs.Common.{AreWithinLimits, most_drivers, Command, DriverSpec, MAX_COMMANDS, Version, V1, V2}
+use Rattle.smx_text.proofs.Common.{IsBegun, Line, program_lines, programs_grammar}
+use Rattle.std.proofs.Common.{◌≡◌, ◌≤◌, ◌==◌, Bool, true, false, nat_le, nat_lt, List, [], ◌∷◌, ◌++◌, length}
 use Rattle.std.specs.List.{sum_by}
-use Rattle.std.proofs.Math.ListN.{set}
 use Rattle.std.proofs.Math.Seq.{get_or-append_seam, set-append_seam}
-use Rattle.std.proofs.lemmas.Bool.Decides.{nat_tests}
-use Rattle.std.proofs.lemmas.List.{append-nil, length-append, length-set, map_push, nil_from_length}
+use Rattle.std.proofs.lemmas.List.{length-set, map_push}
 use Rattle.std.proofs.lemmas.List.Sums.{sum_by-append, sum_by-set}
-use Rattle.smx_types.specs.ProgramLists.{ProgramLists, AreWithinLimits}
-use Rattle.smx_types.specs.Versions.{most_drivers}
-use Rattle.smx_types.specs.declared.command.Command.{Command}
-use Rattle.smx_types.specs.declared.driver.DriverSpec.{DriverSpec}
-use Rattle.smx_types.specs.declared.limits.TheConstants.{MAX_DRIVERS, MAX_PROCESSES, MAX_COMMANDS}
-use Rattle.smx_types.specs.declared.version.Version.{Version}
-use Rattle.smx_types.specs.declared.version.Version.TheVariants.{V1, V2}
-use Rattle.smx_text.specs.Grammar.{IsBegun}
-use Rattle.smx_text.specs.ProgramLines.{Line}
+use Rattle.smx_types.specs.declared.limits.TheConstants.{MAX_DRIVERS, MAX_PROCESSES}
 use Rattle.smx_text.specs.ProgramLines as line
-use Rattle.smx_text.specs.ProgramsText.{program_lines, body, IsAllowed, programs_grammar}
+use Rattle.smx_text.specs.ProgramsText.{body, IsAllowed}
 use Rattle.smx_text.proofs.BodyLemmas.{added_process, lines_more}
 use Rattle.smx_text.proofs.MachineLemmas.{Machine, IsReader, IsAt, Leads, group, finished}
 use Rattle.smx_text.proofs.ProgramsVersionLemmas.{least_is_first}

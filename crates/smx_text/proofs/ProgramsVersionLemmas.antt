@@ -1,16 +1,12 @@
 -- The programs that a version can express, as a whole and line by line.
-use Rattle.std.proofs.Common.{◌≡◌, ℕ, ◌+◌, ◌≤◌, false, List, [], ◌∷◌, ◌++◌, length, map, refl, arith}
-use Rattle.std.specs.List.{AllByRecursion, list_any}
-use Rattle.smx_types.specs.ProgramLists.{ProgramLists}
-use Rattle.smx_types.specs.Versions.{is_hangup, least_of_programs, most_drivers}
-use Rattle.smx_types.specs.declared.command.Command.{Command}
-use Rattle.smx_types.specs.declared.driver.DriverSpec.{DriverSpec}
+use Rattle.smx_text.proofs.Common.{◌+◌, map, refl, arith, AllByRecursion, ProgramLists, most_drivers, Command}
+use Rattle.smx_text.proofs.Common.{DriverSpec, Version, V1, V2, Line, program_lines}
+use Rattle.std.proofs.Common.{◌≡◌, ℕ, ◌≤◌, false, List, [], ◌∷◌, ◌++◌, length}
+use Rattle.std.specs.List.{list_any}
+use Rattle.smx_types.specs.Versions.{is_hangup, least_of_programs}
 use Rattle.smx_types.specs.declared.limits.TheConstants.{MAX_DRIVERS}
-use Rattle.smx_types.specs.declared.version.Version.{Version}
-use Rattle.smx_types.specs.declared.version.Version.TheVariants.{V1, V2}
-use Rattle.smx_text.specs.ProgramLines.{Line}
 use Rattle.smx_text.specs.ProgramLines as line
-use Rattle.smx_text.specs.ProgramsText.{FitsLine, IsAllowed, program_lines}
+use Rattle.smx_text.specs.ProgramsText.{FitsLine, IsAllowed}
 use Rattle.smx_text.proofs.LeastVersionLemmas.{few_drivers, is_first, not_more}
 
 -- ---- programs whose lines fit version 1 need no later version

@@ -1,18 +1,13 @@
 -- The position of a reader between two lines, and the results possible there, for any kind of text.
-use Rattle.std.proofs.Common.{◌≡◌, ◌≢◌, ℕ, ◌+◌, ◌<◌, List, [], ◌∷◌, ◌++◌, length, map, Result, Ok, Err, refl, sym}
-use Rattle.std.proofs.Common.{ap, subst, ◌∙◌, append_assoc, arith, inl, inr}
-use Rattle.std.specs.Prelude.{IfErr}
-use Rattle.std.proofs.lemmas.List.{append-nil, map-append, length-append, nil_from_length}
+use Rattle.smx_text.proofs.Common.{◌≢◌, ◌+◌, ◌<◌, map, refl, sym, ap, subst, ◌∙◌, append_assoc, arith, inl, inr}
+use Rattle.smx_text.proofs.Common.{IfErr, append-nil, map-append, length-append, nil_from_length, Version, V1}
+use Rattle.smx_text.proofs.Common.{LINE_FEED, line_of, text_of, Cause, TextFault, Grammar, IsOneLine, header}
+use Rattle.smx_text.proofs.Common.{line_text, beginning, IsBegun, IsNoLine, IsFault, Reads, ReadsAny, Refuses}
+use Rattle.std.proofs.Common.{◌≡◌, ℕ, List, [], ◌∷◌, ◌++◌, length, Result, Ok, Err}
 use Rattle.std.proofs.lemmas.List.Concat.{flat_map-append}
-use Rattle.smx_types.specs.declared.version.Version.{Version}
-use Rattle.smx_types.specs.declared.version.Version.TheVariants.{V1}
-use Rattle.smx_words.specs.Words.{LINE_FEED, line_of, text_of}
-use Rattle.smx_text.specs.declared.text_fault.Cause.{Cause}
 use Rattle.smx_text.specs.declared.text_fault.Cause.TheVariants as cause
-use Rattle.smx_text.specs.declared.text_fault.TextFault.{TextFault}
-use Rattle.smx_text.specs.Grammar.{Grammar, IsOneLine, header, line_text, beginning, full_text, IsBegun}
-use Rattle.smx_text.specs.Grammar.{IsNoLine, Reaches, IsFault, Reads, ReadsAny}
-use Rattle.smx_text.specs.Reading.{Continues, Refuses, EndsText}
+use Rattle.smx_text.specs.Grammar.{full_text, Reaches}
+use Rattle.smx_text.specs.Reading.{Continues, EndsText}
 
 -- the text of two joined lists of lines is the text of the first followed by that of the second
 pub texts_append : (ls ks : List (List (List ℕ))) → text_of (ls ++ ks) ≡ text_of ls ++ text_of ks

@@ -1,18 +1,12 @@
 -- A transcript that is being read, as a machine that accepts line after line.
+use Rattle.smx_text.proofs.Common.{MAX_COMMANDS, Transcript, ConfigView, Stage, TranscriptDraft, lines}
+use Rattle.smx_text.proofs.Common.{TranscriptLine, most_drivers, Version}
 use Rattle.std.specs.Prelude.{◌≡◌, ◌≤◌, ℕ, Bool, true, false, ◌&&◌, ◌==◌, nat_le, List, [], ◌∷◌, ◌++◌, length}
-use Rattle.smx_types.specs.declared.limits.TheConstants.{MAX_COMMANDS}
-use Rattle.smx_types.specs.declared.transcript.Transcript.{Transcript}
-use Rattle.smx_types.specs.declared.view.ConfigView.{ConfigView}
-use Rattle.smx_text.specs.declared.transcript.draft.Stage.{Stage}
 use Rattle.smx_text.specs.declared.transcript.draft.Stage.TheVariants as stage
-use Rattle.smx_text.specs.declared.transcript.draft.TranscriptDraft.{TranscriptDraft}
-use Rattle.smx_text.specs.Drafts.{lines, is_view, takes_fds, takes_links, takes_binds, takes_routes, takes_msgs}
-use Rattle.smx_text.specs.Drafts.{takes_fulls, takes_hungs}
-use Rattle.smx_text.specs.TranscriptLines.{TranscriptLine}
+use Rattle.smx_text.specs.Drafts.{is_view, takes_fds, takes_links, takes_binds, takes_routes, takes_msgs, takes_fulls}
+use Rattle.smx_text.specs.Drafts.{takes_hungs}
 use Rattle.smx_text.specs.TranscriptLines as line
 use Rattle.smx_text.proofs.MachineLemmas.{Machine}
-use Rattle.smx_types.specs.Versions.{most_drivers}
-use Rattle.smx_types.specs.declared.version.Version.{Version}
 
 -- a view with empty groups
 abbrev pub new_view : ℕ → ℕ → ConfigView

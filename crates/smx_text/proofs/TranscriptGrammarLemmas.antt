@@ -1,39 +1,32 @@
 -- In a transcript text, a line's text determines the line.
-use Rattle.std.proofs.Common.{◌∙◌, true, false, ◌≡◌, ◌≢◌, ℕ, List, refl, sym, ap, arith, rules, inl, inr}
-use Rattle.std.specs.Prelude.{codes, Result, Ok, Err, OnOk, IfErr, if◌then◌else◌, Bool, ◌++◌, ◌∷◌, []}
+use Rattle.smx_text.proofs.Common.{◌∙◌, ◌≢◌, refl, sym, ap, arith, rules, inl, inr, IfErr, Entry, DriverSpec, Version}
+use Rattle.smx_text.proofs.Common.{V1, V2, HungLine, line_of, AreWords, driver_words, entry_words, next_words}
+use Rattle.smx_text.proofs.Common.{FitsDriver, FitsEntry, IsNoLine, IsOneLine, header, line_text, IsBegun}
+use Rattle.smx_text.proofs.Common.{TranscriptLine, transcript_grammar, grammar_of, lines, Cause, TranscriptDraft}
+use Rattle.smx_text.proofs.Common.{ConfigView, is_of_hangup}
+use Rattle.std.proofs.Common.{true, false, ◌≡◌, ℕ, List}
+use Rattle.std.specs.Prelude.{codes, Result, Ok, Err, OnOk, if◌then◌else◌, Bool, ◌++◌, ◌∷◌, []}
 use Rattle.std.specs.Str.{all_ascii_digits}
 use Rattle.std.proofs.lemmas.Fmt.{digits_decimal}
-use Rattle.smx_types.specs.declared.command.Entry.{Entry}
-use Rattle.smx_types.specs.declared.driver.DriverSpec.{DriverSpec}
 use Rattle.smx_types.specs.declared.view.BindingLine.{BindingLine}
 use Rattle.smx_types.specs.declared.view.DescriptorLine.{DescriptorLine}
-use Rattle.smx_types.specs.declared.version.Version.{Version}
-use Rattle.smx_types.specs.declared.version.Version.TheVariants.{V1, V2}
 use Rattle.smx_types.specs.declared.view.FullLine.{FullLine}
-use Rattle.smx_types.specs.declared.view.HungLine.{HungLine}
 use Rattle.smx_types.specs.declared.view.LinkLine.{LinkLine}
 use Rattle.smx_types.specs.declared.view.MessageLine.{MessageLine}
 use Rattle.smx_types.specs.declared.view.RouteLine.{RouteLine}
-use Rattle.smx_words.specs.Words.{line_of, AreWords}
-use Rattle.smx_words.specs.Spelling.{driver_words, entry_words, descriptor_words, link_words, bind_words, route_words}
-use Rattle.smx_words.specs.Spelling.{message_words, full_words, hung_words, next_words}
-use Rattle.smx_words.specs.Spellable.{FitsDriver, FitsEntry, FitsEntryIn, FitsDescriptor, FitsLink, FitsBinding}
-use Rattle.smx_words.specs.Spellable.{FitsRoute, FitsMessage, FitsFull, FitsNext}
-use Rattle.smx_text.specs.Grammar.{IsNoLine, IsOneLine, header, line_text, IsBegun}
-use Rattle.smx_text.specs.TranscriptLines.{TranscriptLine}
+use Rattle.smx_words.specs.Spelling.{descriptor_words, link_words, bind_words, route_words, message_words, full_words}
+use Rattle.smx_words.specs.Spelling.{hung_words}
+use Rattle.smx_words.specs.Spellable.{FitsEntryIn, FitsDescriptor, FitsLink, FitsBinding, FitsRoute, FitsMessage}
+use Rattle.smx_words.specs.Spellable.{FitsFull, FitsNext}
 use Rattle.smx_text.specs.TranscriptLines as line
-use Rattle.smx_text.specs.TranscriptText.{line_words, FitsHungIn, FitsLine, transcript_grammar}
+use Rattle.smx_text.specs.TranscriptText.{line_words, FitsHungIn, FitsLine}
 use Rattle.smx_text.proofs.GrammarLemmas.{IsWellMade, answers}
 use Rattle.smx_text.proofs.HasReadingLemmas.{HasReading, by_reading}
 use Rattle.smx_text.proofs.MachineLemmas.{IsLineOrNot, adds, longer_begun, misplaced, reads, well_made as made_by}
 use Rattle.smx_text.proofs.TranscriptMachineLemmas.{reader, stands}
 use Rattle.smx_text.proofs.TranscriptDrafts.{new_view, is_full, takes, with_line, with_view}
-use Rattle.smx_text.specs.Drafts.{grammar_of, lines}
 use Rattle.smx_text.specs.Reading.{AnswersLine, AnswersText}
-use Rattle.smx_text.specs.declared.text_fault.Cause.{Cause}
 use Rattle.smx_text.specs.declared.text_fault.Cause.TheVariants as cause
-use Rattle.smx_text.specs.declared.transcript.draft.TranscriptDraft.{TranscriptDraft}
-use Rattle.smx_types.specs.declared.view.ConfigView.{ConfigView}
 use Rattle.smx_text.proofs.VersionLemmas.{AreVersions}
 use Rattle.smx_text.proofs.LineWordLemmas.{config_spelled, differ, end_spelled, first_word, other_first}
 use Rattle.smx_words.proofs.NumberLemmas.{own}
@@ -43,7 +36,6 @@ use Rattle.smx_words.proofs.DecidedLineLemmas.{bind_has_words, descriptor_has_wo
 use Rattle.smx_words.proofs.DecidedLineLemmas.{hung_has_words, link_has_words, message_has_words, next_has_words}
 use Rattle.smx_words.proofs.DecidedLineLemmas.{route_has_words}
 use Rattle.smx_words.proofs.InVersionLemmas.{reading_in}
-use Rattle.smx_types.specs.Versions.{is_of_hangup}
 
 -- ---- lines
 

@@ -1,28 +1,19 @@
 -- A transcript text is read by a machine that accepts one line after another.
-use Rattle.std.proofs.Common.{◌≡◌, ◌≢◌, true, false, eqb, List, [], ◌∷◌, ◌++◌, length, map, refl, sym, ap, append_assoc}
-use Rattle.std.proofs.Common.{arith, rules}
-use Rattle.std.specs.List.{AllByRecursion}
-use Rattle.std.proofs.lemmas.Bool.Decides.{nat_tests}
-use Rattle.std.proofs.lemmas.List.{append-nil, length-append, map-append, nil_from_length}
-use Rattle.smx_types.specs.declared.command.Entry.{Entry}
-use Rattle.smx_types.specs.declared.driver.DriverSpec.{DriverSpec}
-use Rattle.smx_types.specs.declared.transcript.Transcript.{Transcript}
-use Rattle.smx_types.specs.declared.version.Version.{Version}
+use Rattle.smx_text.proofs.Common.{◌≢◌, map, refl, sym, ap, append_assoc, arith, rules, AllByRecursion, nat_tests}
+use Rattle.smx_text.proofs.Common.{append-nil, length-append, map-append, nil_from_length, Entry, DriverSpec}
+use Rattle.smx_text.proofs.Common.{Transcript, Version, ConfigView, HungLine, Stage, TranscriptDraft, grammar_of}
+use Rattle.smx_text.proofs.Common.{lines, TranscriptLine, transcript_grammar, view_body}
+use Rattle.std.proofs.Common.{◌≡◌, true, false, eqb, List, [], ◌∷◌, ◌++◌, length}
 use Rattle.smx_types.specs.declared.view.BindingLine.{BindingLine}
-use Rattle.smx_types.specs.declared.view.ConfigView.{ConfigView}
 use Rattle.smx_types.specs.declared.view.DescriptorLine.{DescriptorLine}
 use Rattle.smx_types.specs.declared.view.FullLine.{FullLine}
-use Rattle.smx_types.specs.declared.view.HungLine.{HungLine}
 use Rattle.smx_types.specs.declared.view.LinkLine.{LinkLine}
 use Rattle.smx_types.specs.declared.view.MessageLine.{MessageLine}
 use Rattle.smx_types.specs.declared.view.RouteLine.{RouteLine}
-use Rattle.smx_text.specs.declared.transcript.draft.Stage.{Stage}
 use Rattle.smx_text.specs.declared.transcript.draft.Stage.TheVariants as stage
-use Rattle.smx_text.specs.declared.transcript.draft.TranscriptDraft.{TranscriptDraft}
-use Rattle.smx_text.specs.Drafts.{grammar_of, lines, is_view}
-use Rattle.smx_text.specs.TranscriptLines.{TranscriptLine}
+use Rattle.smx_text.specs.Drafts.{is_view}
 use Rattle.smx_text.specs.TranscriptLines as line
-use Rattle.smx_text.specs.TranscriptText.{FitsLine, body, transcript_grammar, view_body}
+use Rattle.smx_text.specs.TranscriptText.{FitsLine, body}
 use Rattle.smx_text.proofs.EachLemmas.{all_append}
 use Rattle.smx_text.proofs.MachineLemmas.{IsReader, IsAt, Leads, each, group}
 use Rattle.smx_text.proofs.TranscriptDrafts.{draft, takes, is_full, with_line, IsWithin, completed, still, machine}

@@ -1,13 +1,9 @@
 -- The transcripts that a version can express, as a whole and line by line.
-use Rattle.std.proofs.Common.{◌≡◌, ◌≤◌, true, false, nat_lt, List, [], ◌∷◌, length, refl, arith}
-use Rattle.std.specs.List.{AllByRecursion, list_any}
-use Rattle.std.proofs.lemmas.Bool.Decides.{nat_tests}
-use Rattle.smx_types.specs.Versions.{is_of_hangup, least_of_transcript, most_drivers}
-use Rattle.smx_types.specs.declared.command.Entry.{Entry}
-use Rattle.smx_types.specs.declared.transcript.Transcript.{Transcript}
-use Rattle.smx_types.specs.declared.version.Version.{Version}
-use Rattle.smx_types.specs.declared.version.Version.TheVariants.{V1, V2}
-use Rattle.smx_types.specs.declared.view.HungLine.{HungLine}
+use Rattle.smx_text.proofs.Common.{refl, arith, AllByRecursion, nat_tests, is_of_hangup, most_drivers, Entry}
+use Rattle.smx_text.proofs.Common.{Transcript, Version, V1, V2, HungLine}
+use Rattle.std.proofs.Common.{◌≡◌, ◌≤◌, true, false, nat_lt, List, [], ◌∷◌, length}
+use Rattle.std.specs.List.{list_any}
+use Rattle.smx_types.specs.Versions.{least_of_transcript}
 use Rattle.smx_words.specs.Spellable.{CanTell}
 use Rattle.smx_text.proofs.LeastVersionLemmas.{few_drivers, is_first}
 

@@ -1,16 +1,11 @@
 -- A transcript is allowed exactly if it is within the limits, can be spelled, and needs no later version.
-use Rattle.std.proofs.Common.{◌≡◌, ◌≤◌, List, ◌++◌, length, map, true}
-use Rattle.std.specs.List.{AllByRecursion}
-use Rattle.smx_types.specs.Versions.{is_of_hangup, least_of_transcript, most_drivers}
-use Rattle.smx_types.specs.declared.limits.TheConstants.{MAX_COMMANDS}
-use Rattle.smx_types.specs.declared.transcript.Transcript.{Transcript}
-use Rattle.smx_types.specs.declared.version.Version.{Version}
-use Rattle.smx_types.specs.declared.version.Version.TheVariants.{V1}
-use Rattle.smx_types.specs.declared.view.ConfigView.{ConfigView}
-use Rattle.smx_words.specs.Spellable.{CanTell, FitsEntry, FitsHung}
-use Rattle.smx_text.specs.TranscriptLines.{TranscriptLine}
+use Rattle.smx_text.proofs.Common.{map, AllByRecursion, is_of_hangup, most_drivers, MAX_COMMANDS, Transcript, Version}
+use Rattle.smx_text.proofs.Common.{V1, ConfigView, FitsEntry, TranscriptLine, view_body}
+use Rattle.std.proofs.Common.{◌≡◌, ◌≤◌, List, ◌++◌, length, true}
+use Rattle.smx_types.specs.Versions.{least_of_transcript}
+use Rattle.smx_words.specs.Spellable.{CanTell, FitsHung}
 use Rattle.smx_text.specs.TranscriptLines as line
-use Rattle.smx_text.specs.TranscriptText.{IsSpellable, IsSpellableView, FitsLine, view_body, body, IsAllowed}
+use Rattle.smx_text.specs.TranscriptText.{IsSpellable, IsSpellableView, FitsLine, body, IsAllowed}
 use Rattle.smx_text.proofs.EachLemmas.{all_left, all_right, all_append, all_map, of_map, all_both, all_parts}
 use Rattle.smx_text.proofs.TranscriptVersionLemmas.{AreHungsIn, entries_expressed, hungs_expressed, needs_no_later}
 

@@ -1,16 +1,11 @@
 -- Readings of a text of any version, for any kind of text whose versions have different headers.
-use Rattle.std.proofs.Common.{◌≡◌, ◌≢◌, ℕ, ◌+◌, ◌<◌, List, [], ◌∷◌, ◌++◌, length, Result, Ok, Err, refl, sym}
-use Rattle.std.proofs.Common.{ap, subst, ◌∙◌, arith, inl, inr}
-use Rattle.std.specs.Prelude.{◌⊎◌, IfErr, MatchResult}
-use Rattle.std.proofs.lemmas.List.{append-nil}
-use Rattle.smx_types.specs.declared.version.Version.{Version}
-use Rattle.smx_types.specs.declared.version.Version.TheVariants.{V1, V2}
-use Rattle.smx_words.specs.Words.{LINE_FEED}
-use Rattle.smx_text.specs.declared.text_fault.Cause.{Cause}
+use Rattle.smx_text.proofs.Common.{◌≢◌, ◌+◌, ◌<◌, refl, sym, ap, subst, ◌∙◌, arith, inl, inr, ◌⊎◌, IfErr, append-nil}
+use Rattle.smx_text.proofs.Common.{Version, V1, V2, LINE_FEED, Cause, TextFault, Grammar, IsOneLine, IsBegun, header}
+use Rattle.smx_text.proofs.Common.{line_text, beginning, IsFault, Reads, ReadsAny}
+use Rattle.std.proofs.Common.{◌≡◌, ℕ, List, [], ◌∷◌, ◌++◌, length, Result, Ok, Err}
+use Rattle.std.specs.Prelude.{MatchResult}
 use Rattle.smx_text.specs.declared.text_fault.Cause.TheVariants as cause
-use Rattle.smx_text.specs.declared.text_fault.TextFault.{TextFault}
-use Rattle.smx_text.specs.Grammar.{Grammar, IsOneLine, IsBegun, header, line_text, beginning, full_text, Reaches}
-use Rattle.smx_text.specs.Grammar.{IsFault, Reads, ReadsAny, last_line}
+use Rattle.smx_text.specs.Grammar.{full_text, Reaches, last_line}
 use Rattle.smx_text.proofs.GrammarLemmas.{IsWellMade, Answers, Stops, Behind, refused, ended, beginning_and}
 use Rattle.smx_text.proofs.GrammarLemmas.{both_behind, line_behind, one_line}
 use Rattle.smx_text.proofs.HasReadingLemmas.{HasReading}

@@ -1,16 +1,10 @@
 -- Worked examples of texts with a fault, for any kind of text.
-use Rattle.std.proofs.Common.{◌≡◌, ◌≢◌, ℕ, ◌+◌, ◌<◌, Bool, true, false, List, ◌∷◌, ◌++◌, length, Result, Ok, Err}
-use Rattle.std.proofs.Common.{refl, sym, subst, ◌∙◌}
-use Rattle.smx_types.specs.declared.version.Version.{Version}
-use Rattle.std.specs.List.{AllByRecursion}
-use Rattle.std.specs.Str.{bytes_eq}
-use Rattle.smx_types.specs.declared.version.Version.TheVariants.{V1, V2}
-use Rattle.smx_words.specs.Words.{IsFree, LINE_FEED, SPACE, line_of}
-use Rattle.smx_text.specs.declared.text_fault.Cause.{Cause}
+use Rattle.smx_text.proofs.Common.{◌≢◌, ◌+◌, ◌<◌, refl, sym, subst, ◌∙◌, Version, AllByRecursion, bytes_eq, V1, V2}
+use Rattle.smx_text.proofs.Common.{IsFree, LINE_FEED, SPACE, line_of, Cause, TextFault, Grammar, IsBegun, IsFault}
+use Rattle.smx_text.proofs.Common.{IsOneLine, ReadsAny, beginning, header, line_text, Refuses}
+use Rattle.std.proofs.Common.{◌≡◌, ℕ, Bool, true, false, List, ◌∷◌, ◌++◌, length, Result, Ok, Err}
 use Rattle.smx_text.specs.declared.text_fault.Cause.TheVariants as cause
-use Rattle.smx_text.specs.declared.text_fault.TextFault.{TextFault}
-use Rattle.smx_text.specs.Grammar.{Grammar, IsBegun, IsFault, IsOneLine, ReadsAny, Spells, beginning, header, line_text}
-use Rattle.smx_text.specs.Reading.{Refuses}
+use Rattle.smx_text.specs.Grammar.{Spells}
 use Rattle.smx_text.proofs.GrammarLemmas.{one_line, refuses, tells_apart}
 use Rattle.smx_text.proofs.LineWordLemmas.{differ, told}
 use Rattle.smx_text.proofs.MachineLemmas.{IsAt, Machine, misplaced, too_many}

@@ -1,23 +1,19 @@
 -- Bytes written group by group are the lines of the whole text.
-use Rattle.std.proofs.Common.{◌≡◌, ℕ, ◌+◌, ◌<◌, List, [], ◌∷◌, ◌++◌, length, get_or, take, map, refl, sym, ap, ◌∙◌}
-use Rattle.std.proofs.Common.{append_assoc, arith}
-use Rattle.std.proofs.lemmas.List.{append-nil, length-take-le, map-append, take_more}
+use Rattle.smx_text.proofs.Common.{◌+◌, ◌<◌, get_or, take, map, refl, sym, ap, ◌∙◌, append_assoc, arith, append-nil}
+use Rattle.smx_text.proofs.Common.{map-append, AllByRecursion, AreWithinLimits, ProgramLists, Command, V2, ConfigView}
+use Rattle.smx_text.proofs.Common.{program_lines, programs_grammar, command_words, driver_words, next_words}
+use Rattle.smx_text.proofs.Common.{FitsDriver, header, view_body, LINE_FEED, line_of, text_of}
+use Rattle.std.proofs.Common.{◌≡◌, ℕ, List, [], ◌∷◌, ◌++◌, length}
+use Rattle.std.proofs.lemmas.List.{length-take-le, take_more}
 use Rattle.std.proofs.lemmas.Simd.{map-map}
 use Rattle.std.specs.Fmt.{decimal}
-use Rattle.std.specs.List.{AllByRecursion}
 use Rattle.std.specs.Prelude.{codes}
-use Rattle.smx_types.specs.ProgramLists.{AreWithinLimits, ProgramLists}
-use Rattle.smx_types.specs.declared.command.Command.{Command}
-use Rattle.smx_types.specs.declared.version.Version.TheVariants.{V2}
-use Rattle.smx_types.specs.declared.view.ConfigView.{ConfigView}
 use Rattle.smx_text.specs.ProgramLines as line
-use Rattle.smx_text.specs.ProgramsText.{line_words, program_lines, programs_grammar, programs_text, FitsLine, IsAllowed}
-use Rattle.smx_words.specs.Spelling.{bind_words, command_words, descriptor_words, driver_words, full_words, hung_words}
-use Rattle.smx_words.specs.Spelling.{link_words, message_words, next_words, route_words}
-use Rattle.smx_words.specs.Spellable.{FitsCommand, FitsCommandIn, FitsDriver, FitsNumber}
-use Rattle.smx_text.specs.Grammar.{header}
-use Rattle.smx_text.specs.TranscriptText.{view_body, line_words as transcript_words}
-use Rattle.smx_words.specs.Words.{LINE_FEED, line_of, text_of}
+use Rattle.smx_text.specs.ProgramsText.{line_words, programs_text, FitsLine, IsAllowed}
+use Rattle.smx_words.specs.Spelling.{bind_words, descriptor_words, full_words, hung_words, link_words, message_words}
+use Rattle.smx_words.specs.Spelling.{route_words}
+use Rattle.smx_words.specs.Spellable.{FitsCommand, FitsCommandIn, FitsNumber}
+use Rattle.smx_text.specs.TranscriptText.{line_words as transcript_words}
 use Rattle.smx_text.proofs.EachLemmas.{all_append, all_map}
 use Rattle.smx_text.proofs.BodyLemmas.{lines_add}
 use Rattle.smx_text.proofs.ReadingLemmas.{beginning_append, full_is, texts_append}

@@ -1,23 +1,17 @@
 -- Lines that are misspelled commands, after the line of a process.
-use Rattle.std.proofs.Common.{◌≡◌, ◌≢◌, ℕ, ◌<◌, false, List, [], ◌∷◌, length, refl, ap, arith, rules}
-use Rattle.std.specs.List.{AllByRecursion}
+use Rattle.smx_text.proofs.Common.{◌≢◌, ◌<◌, refl, ap, arith, rules, AllByRecursion, bytes_eq, ProgramLists}
+use Rattle.smx_text.proofs.Common.{DriverSpec, V1, V2, command_words, IsFree, SPACE, line_of, IsOneLine, Line}
+use Rattle.std.proofs.Common.{◌≡◌, ℕ, false, List, [], ◌∷◌, length}
 use Rattle.std.specs.Fmt.{digits}
 use Rattle.std.specs.Prelude.{codes}
-use Rattle.std.specs.Str.{bytes_eq}
-use Rattle.smx_types.specs.ProgramLists.{ProgramLists, program_lists}
+use Rattle.smx_types.specs.ProgramLists.{program_lists}
 use Rattle.smx_types.specs.declared.command.Command.TheVariants as command
 use Rattle.smx_types.specs.declared.driver.DriverKind.TheVariants as kind
-use Rattle.smx_types.specs.declared.driver.DriverSpec.{DriverSpec}
-use Rattle.smx_types.specs.declared.version.Version.TheVariants.{V1, V2}
-use Rattle.smx_words.specs.Spelling.{command_words}
-use Rattle.smx_words.specs.Words.{IsFree, SPACE, line_of}
 use Rattle.smx_words.proofs.DecidedCommandLemmas.{command_has_words}
 use Rattle.smx_words.proofs.DecidedLemmas.{by_line, refused}
 use Rattle.smx_words.proofs.LineLemmas.{words_in}
 use Rattle.smx_words.proofs.PlainLemmas.{some_command}
 use Rattle.smx_text.specs.declared.text_fault.Cause.TheVariants as cause
-use Rattle.smx_text.specs.Grammar.{IsOneLine}
-use Rattle.smx_text.specs.ProgramLines.{Line}
 use Rattle.smx_text.specs.ProgramLines as line
 use Rattle.smx_text.specs.ProgramsText.{FitsLine, IsAllowed, body, line_words}
 use Rattle.smx_text.specs.WorkedFaults.{AreWrongPrograms, with_line_4}

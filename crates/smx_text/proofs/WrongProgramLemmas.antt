@@ -1,21 +1,15 @@
 -- Programs texts with a misplaced line, a missing line, or a line over the limit.
-use Rattle.std.proofs.Common.{length, map, ◌≤◌, ℕ, zero, suc, List, [], ◌∷◌, ◌++◌, refl, sym, arith, rules, inl}
+use Rattle.smx_text.proofs.Common.{map, suc, refl, sym, arith, rules, inl, AllByRecursion, append-nil, ProgramLists}
+use Rattle.smx_text.proofs.Common.{DriverSpec, most_drivers, Version, V1, V2, FitsDriver, IsBegun, programs_grammar}
+use Rattle.std.proofs.Common.{length, ◌≤◌, ℕ, zero, List, [], ◌∷◌, ◌++◌}
 use Rattle.std.specs.Fmt.{digits}
-use Rattle.std.specs.List.{AllByRecursion}
 use Rattle.std.specs.Prelude.{codes}
-use Rattle.std.proofs.lemmas.List.{append-nil}
-use Rattle.smx_types.specs.ProgramLists.{ProgramLists, program_lists}
+use Rattle.smx_types.specs.ProgramLists.{program_lists}
 use Rattle.smx_types.specs.declared.command.Command.TheVariants as command
 use Rattle.smx_types.specs.declared.driver.DriverKind.TheVariants as kind
-use Rattle.smx_types.specs.declared.driver.DriverSpec.{DriverSpec}
-use Rattle.smx_types.specs.Versions.{most_drivers}
-use Rattle.smx_types.specs.declared.version.Version.{Version}
-use Rattle.smx_types.specs.declared.version.Version.TheVariants.{V1, V2}
-use Rattle.smx_words.specs.Spellable.{FitsDriver}
 use Rattle.smx_text.specs.declared.text_fault.Cause.TheVariants as cause
-use Rattle.smx_text.specs.Grammar.{IsBegun}
 use Rattle.smx_text.specs.ProgramLines as line
-use Rattle.smx_text.specs.ProgramsText.{FitsLine, IsAllowed, body, programs_grammar}
+use Rattle.smx_text.specs.ProgramsText.{FitsLine, IsAllowed, body}
 use Rattle.smx_text.specs.WorkedFaults.{AreWrongPrograms, with_drivers, with_line_4, with_processes}
 use Rattle.smx_text.proofs.EachLemmas.{all_map, all_push}
 use Rattle.smx_text.proofs.MachineLemmas.{nothing_begun}

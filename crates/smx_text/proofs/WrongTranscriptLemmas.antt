@@ -1,6 +1,8 @@
 -- Transcripts with a misplaced line, a line that spells nothing, or a missing line.
-use Rattle.std.proofs.Common.{◌≤◌, ◌≡◌, ◌≢◌, ℕ, ◌<◌, List, [], ◌∷◌, length, map, refl, ap, arith, rules}
-use Rattle.std.specs.List.{AllByRecursion}
+use Rattle.smx_text.proofs.Common.{◌≢◌, ◌<◌, map, refl, ap, arith, rules, AllByRecursion, Transcript, most_drivers}
+use Rattle.smx_text.proofs.Common.{Version, V1, V2, FitsDriver, FitsEntry, entry_words, IsFree, SPACE, line_of}
+use Rattle.smx_text.proofs.Common.{TranscriptDraft, lines, IsBegun, IsOneLine, TranscriptLine, transcript_grammar}
+use Rattle.std.proofs.Common.{◌≤◌, ◌≡◌, ℕ, List, [], ◌∷◌, length}
 use Rattle.std.specs.Fmt.{digits}
 use Rattle.std.specs.Prelude.{codes}
 use Rattle.smx_types.specs.declared.command.Command.TheVariants as command
@@ -9,24 +11,13 @@ use Rattle.smx_types.specs.declared.link.LinkKind.TheVariants as link
 use Rattle.smx_types.specs.declared.reply.Fault.TheVariants as fault
 use Rattle.smx_types.specs.declared.reply.Reply.TheVariants as reply
 use Rattle.smx_types.specs.declared.stream.Side.TheVariants as side
-use Rattle.smx_types.specs.declared.transcript.Transcript.{Transcript}
-use Rattle.smx_types.specs.Versions.{most_drivers}
-use Rattle.smx_types.specs.declared.version.Version.{Version}
-use Rattle.smx_types.specs.declared.version.Version.TheVariants.{V1, V2}
-use Rattle.smx_words.specs.Spellable.{FitsDriver, FitsEntry}
-use Rattle.smx_words.specs.Spelling.{entry_words}
-use Rattle.smx_words.specs.Words.{IsFree, SPACE, line_of}
 use Rattle.smx_words.proofs.DecidedCommandLemmas.{command_has_words, entry_has_words, reply_has_words}
 use Rattle.smx_words.proofs.DecidedLemmas.{by_line, refused}
 use Rattle.smx_words.proofs.DecidedWordLemmas.{name, number, process}
 use Rattle.smx_text.specs.declared.text_fault.Cause.TheVariants as cause
 use Rattle.smx_text.specs.declared.transcript.draft.Stage.TheVariants as stage
-use Rattle.smx_text.specs.declared.transcript.draft.TranscriptDraft.{TranscriptDraft}
-use Rattle.smx_text.specs.Drafts.{lines}
-use Rattle.smx_text.specs.Grammar.{IsBegun, IsOneLine}
-use Rattle.smx_text.specs.TranscriptLines.{TranscriptLine}
 use Rattle.smx_text.specs.TranscriptLines as line
-use Rattle.smx_text.specs.TranscriptText.{FitsLine, line_words, transcript_grammar}
+use Rattle.smx_text.specs.TranscriptText.{FitsLine, line_words}
 use Rattle.smx_text.specs.WorkedFaults.{IsWrongTranscript, with_drivers, with_line_3, with_line_5}
 use Rattle.smx_text.proofs.EachLemmas.{all_append, all_map}
 use Rattle.smx_text.proofs.MachineLemmas.{nothing_begun}

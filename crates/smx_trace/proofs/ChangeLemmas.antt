@@ -1,11 +1,10 @@
 -- The text of changes, group by group, and texts that are written in parts.
-use Rattle.std.proofs.Common.{◌≡◌, ℕ, Bool, List, ◌++◌, append_assoc}
-use Rattle.std.specs.List.{flat_map}
-use Rattle.std.specs.Prelude.{codes}
-use Rattle.std.proofs.lemmas.Grind.{flat_map-append}
+use Rattle.smx_trace.proofs.Common.{Bool, append_assoc, flat_map, codes, flat_map-append, Change, group_changes}
+use Rattle.smx_trace.proofs.Common.{missing_from, changes_text, marked}
+use Rattle.std.proofs.Common.{◌≡◌, ℕ, List, ◌++◌}
 use Rattle.std.proofs.lemmas.List.Folds.{flat_map-map}
-use Rattle.smx_model.specs.Changes.{Change, ViewLine, group_changes, missing_from}
-use Rattle.smx_trace.specs.TraceWords.{changes_text, marked, view_line_words}
+use Rattle.smx_model.specs.Changes.{ViewLine}
+use Rattle.smx_trace.specs.TraceWords.{view_line_words}
 
 -- a group: the lines that are gone, and then those that are new
 pub group_written : {X : Type 0} (line : X → ViewLine) (same : X → X → Bool) (before after : List X) (out new : List ℕ)

@@ -1,11 +1,12 @@
 -- Laws of traces.
-use Rattle.std.proofs.Common.{rules, ◌≡◌, Bool, true, List, [], ◌∷◌, ◌++◌, ℕ, map, refl, sym, ap, ◌∙◌}
-use Rattle.std.proofs.Common.{append_assoc, arith, false, inl, inr, Some, None, Option}
-use Rattle.std.specs.Bool.{Decides}
-use Rattle.std.specs.List.{list_any}
-use Rattle.std.specs.Prelude.{if◌then◌else◌}
-use Rattle.std.proofs.lemmas.Bool.{cases_Bool}
-use Rattle.std.proofs.lemmas.Bool.Decides.{nat_tests}
+use Rattle.smx_trace.proofs.Common.{rules, Bool, true, refl, sym, ap, ◌∙◌, append_assoc, arith, false, inl, inr, Some}
+use Rattle.smx_trace.proofs.Common.{None, Option, Decides, list_any, if◌then◌else◌, cases_Bool, nat_tests, Entry}
+use Rattle.smx_trace.proofs.Common.{DriverSpec, Transcript, ConfigView, MessageLine, Change, group_changes}
+use Rattle.smx_trace.proofs.Common.{missing_from, same_serial, step, Configuration, QueuedMessage, empty, is_at}
+use Rattle.smx_trace.proofs.Common.{after, after_from, view, view_of_bind, view_of_fd, view_of_full, view_of_hung}
+use Rattle.smx_trace.proofs.Common.{view_of_link, view_of_message, view_of_route, Wait, wait_at, waits}
+use Rattle.smx_trace.proofs.Common.{TranscriptLine, IsReplayOf, same_line, TraceLine, queue_lines}
+use Rattle.std.proofs.Common.{◌≡◌, List, [], ◌∷◌, ◌++◌, ℕ, map}
 use Rattle.std.proofs.lemmas.List.Elements.{filter_map-append}
 use Rattle.smx_types.specs.contracts.view.BindingLinePartialEq.TheImpl as of_bind
 use Rattle.smx_types.specs.contracts.view.DescriptorLinePartialEq.TheImpl as of_fd
@@ -13,33 +14,18 @@ use Rattle.smx_types.specs.contracts.view.FullLinePartialEq.TheImpl as of_full
 use Rattle.smx_types.specs.contracts.view.HungLinePartialEq.TheImpl as of_hung
 use Rattle.smx_types.specs.contracts.view.LinkLinePartialEq.TheImpl as of_link
 use Rattle.smx_types.specs.contracts.view.RouteLinePartialEq.TheImpl as of_route
-use Rattle.smx_types.specs.declared.command.Entry.{Entry}
-use Rattle.smx_types.specs.declared.driver.DriverSpec.{DriverSpec}
-use Rattle.smx_types.specs.declared.transcript.Transcript.{Transcript}
 use Rattle.smx_types.specs.declared.view.BindingLine.{BindingLine}
-use Rattle.smx_types.specs.declared.view.ConfigView.{ConfigView}
 use Rattle.smx_types.specs.declared.view.DescriptorLine.{DescriptorLine}
 use Rattle.smx_types.specs.declared.view.FullLine.{FullLine}
 use Rattle.smx_types.specs.declared.view.HungLine.{HungLine}
 use Rattle.smx_types.specs.declared.view.LinkLine.{LinkLine}
-use Rattle.smx_types.specs.declared.view.MessageLine.{MessageLine}
 use Rattle.smx_types.specs.declared.view.RouteLine.{RouteLine}
-use Rattle.smx_model.specs.Changes.{Change, ViewLine, changes, group_changes, missing_from, same_serial}
+use Rattle.smx_model.specs.Changes.{ViewLine, changes}
 use Rattle.smx_model.specs.Changes as change
-use Rattle.smx_model.specs.Commands.{step}
-use Rattle.smx_model.specs.Configuration.{Configuration, QueuedMessage, empty, is_at}
-use Rattle.smx_model.specs.Histories.{after, after_from}
-use Rattle.smx_model.specs.Views.{view, view_of_bind, view_of_fd, view_of_full, view_of_hung, view_of_link}
-use Rattle.smx_model.specs.Views.{view_of_message}
-use Rattle.smx_model.specs.Views.{view_of_route}
-use Rattle.smx_model.specs.Waits.{Wait, wait_at, waits}
-use Rattle.smx_text.specs.TranscriptLines.{TranscriptLine}
 use Rattle.smx_text.specs.TranscriptLines as line
 use Rattle.smx_text.specs.TranscriptText.{body, view_body}
-use Rattle.smx_trace.specs.Replays.{IsReplayOf}
-use Rattle.smx_trace.specs.Serials.{same_line}
-use Rattle.smx_trace.specs.Traces.{IsTraceText, TraceLine, config_lines, entry_lines_from, lines_below, plain_lines}
-use Rattle.smx_trace.specs.Traces.{queue_lines, trace_lines, trace_text, wait_line}
+use Rattle.smx_trace.specs.Traces.{IsTraceText, config_lines, entry_lines_from, lines_below, plain_lines, trace_lines}
+use Rattle.smx_trace.specs.Traces.{trace_text, wait_line}
 use Rattle.smx_trace.specs.Traces as trace
 
 -- a transcript has one trace

@@ -1,3 +1,4 @@
+pub mod Common
 pub mod ReplayLemmas
 pub mod QuietLemmas
 pub mod MissingLemmas

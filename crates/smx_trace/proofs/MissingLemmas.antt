@@ -1,19 +1,17 @@
 -- The merge of two lists that rise finds the elements of one that the other doesn't have.
-use Rattle.std.proofs.Common.{◌≡◌, ◌≢◌, ℕ, ◌+◌, ◌<◌, Bool, true, false, not, List, [], ◌∷◌, ◌++◌, Some, length, get_or}
-use Rattle.std.proofs.Common.{take, drop, refl, sym, ap, ◌∙◌, subst, arith, append_assoc, inl, inr}
-use Rattle.std.specs.Bool.{Decides}
-use Rattle.std.specs.List.{AllByRecursion, filter, flat_map, list_any}
+use Rattle.smx_trace.proofs.Common.{◌≢◌, ◌+◌, ◌<◌, Bool, true, false, not, Some, get_or, refl, sym, ap, ◌∙◌, subst}
+use Rattle.smx_trace.proofs.Common.{arith, append_assoc, inl, inr, Decides, AllByRecursion, flat_map, list_any}
+use Rattle.smx_trace.proofs.Common.{cases_Bool, false_from_ne_true, or_from, nat_tests, flat_map-append, append-nil}
+use Rattle.smx_trace.proofs.Common.{take_more, missing_from, ComesTo, is_before}
+use Rattle.std.proofs.Common.{◌≡◌, ℕ, List, [], ◌∷◌, ◌++◌, length, take, drop}
+use Rattle.std.specs.List.{filter}
 use Rattle.std.specs.Prelude.{slice_get}
-use Rattle.std.proofs.lemmas.Bool.{cases_Bool, false_from_ne_true, or_from}
-use Rattle.std.proofs.lemmas.Bool.Decides.{nat_tests}
-use Rattle.std.proofs.lemmas.Grind.{flat_map-append}
-use Rattle.std.proofs.lemmas.List.{append-nil, drop_more, take-append-drop, take_more}
+use Rattle.std.proofs.lemmas.List.{drop_more, take-append-drop}
 use Rattle.std.proofs.lemmas.List.Elements.{filter-append}
 use Rattle.std.proofs.lemmas.List.Folds.{list_any-append}
-use Rattle.smx_model.specs.Changes.{missing_from}
 use Rattle.smx_model.specs.Configuration.{pair_before}
-use Rattle.smx_trace.specs.Missing.{AreBefore, ComesTo, StartsAt, StepsTo}
-use Rattle.smx_trace.specs.Ranks.{IsRanked, is_before}
+use Rattle.smx_trace.specs.Missing.{AreBefore, StartsAt, StepsTo}
+use Rattle.smx_trace.specs.Ranks.{IsRanked}
 
 -- no pair comes before itself
 pair_not_before : (a b : ℕ) → pair_before a b a b ≡ false

@@ -1,21 +1,13 @@
 -- The first entries of a transcript, and their replay.
-use Rattle.std.proofs.Common.{◌≡◌, ℕ, zero, suc, List, [], ◌∷◌, ◌++◌, map, take, drop, refl, sym, ap, subst, ◌∙◌}
-use Rattle.std.proofs.Common.{arith, length-take}
-use Rattle.std.specs.List.{AllByRecursion}
+use Rattle.smx_trace.proofs.Common.{refl, sym, ap, subst, ◌∙◌, arith, AllByRecursion, Command, Entry, DriverSpec}
+use Rattle.smx_trace.proofs.Common.{Transcript, IsLegal, after, call_of, view, TranscriptLine, IsReplayOf}
+use Rattle.std.proofs.Common.{◌≡◌, ℕ, zero, suc, List, [], ◌∷◌, ◌++◌, map, take, drop, length-take}
 use Rattle.std.proofs.lemmas.List.{map-append, take-append-drop}
-use Rattle.smx_types.specs.declared.command.Command.{Command}
-use Rattle.smx_types.specs.declared.command.Entry.{Entry}
-use Rattle.smx_types.specs.declared.driver.DriverSpec.{DriverSpec}
-use Rattle.smx_types.specs.declared.transcript.Transcript.{Transcript}
-use Rattle.smx_model.specs.Histories.{IsLegal, after, call_of}
-use Rattle.smx_model.specs.Views.{view}
-use Rattle.smx_text.specs.TranscriptLines.{TranscriptLine}
 use Rattle.smx_text.specs.TranscriptLines as line
 use Rattle.smx_text.specs.TranscriptText.{FitsLine, IsAllowed, view_body}
 use Rattle.smx_text.proofs.EachLemmas.{all_append, all_left, all_right}
 use Rattle.smx_trace.proofs.ReplayLemmas.{AreDetermined}
 use Rattle.smx_trace.specs.Prefixes.{first_entries}
-use Rattle.smx_trace.specs.Replays.{IsReplayOf}
 
 -- the first entries of a transcript within the limits of its version are within them
 pub first_allowed : (count : ℕ) (t : Transcript) → IsAllowed t.version t → IsAllowed t.version (first_entries count t)

@@ -1,48 +1,42 @@
 -- Queued messages that are left to be written, and their waits.
-use Rattle.std.proofs.Common.{◌≡◌, ℕ, ◌<◌, Bool, true, false, ◌&&◌, ◌||◌, eqb, List, [], ◌∷◌, ◌++◌, length, get_or, map}
-use Rattle.std.proofs.Common.{◌≤◌, not, Ok, Err, Result, Option, Some, None, refl, sym, ap, ◌∙◌, arith, append_assoc}
-use Rattle.std.proofs.Common.{inl, inr}
-use Rattle.std.specs.List.{AllByRecursion, cons_option, filter_map, list_any}
+use Rattle.smx_trace.proofs.Common.{◌<◌, Bool, true, false, ◌||◌, eqb, get_or, not, Result, Option, Some, None, refl}
+use Rattle.smx_trace.proofs.Common.{sym, ap, ◌∙◌, arith, append_assoc, inl, inr, AllByRecursion, list_any, codes}
+use Rattle.smx_trace.proofs.Common.{if◌then◌else◌, nat_lt, cases_Bool, false_from_ne_true, or_from, or_parts}
+use Rattle.smx_trace.proofs.Common.{nat_tests, flat_map-append, append-nil, DriverSpec, Place, MessageLine}
+use Rattle.smx_trace.proofs.Common.{Configuration, QueuedMessage, is_at, IsDriverList, view_of_message, Wait, wait_at}
+use Rattle.smx_trace.proofs.Common.{LINE_FEED, line_of, IsLeft, queues_left, waits_left, TraceLine, queue_lines}
+use Rattle.std.proofs.Common.{◌≡◌, ℕ, ◌&&◌, List, [], ◌∷◌, ◌++◌, length, map, ◌≤◌, Ok, Err}
+use Rattle.std.specs.List.{cons_option, filter_map}
 use Rattle.std.specs.Fmt.{decimal}
 use Rattle.std.specs.Option.{is_some, ok_or, option_map_or}
-use Rattle.std.specs.Prelude.{codes, if◌then◌else◌, nat_lt}
 use Rattle.std.specs.Result.{result_ok}
 use Rattle.std.specs.Str.{bytes_eq}
-use Rattle.std.proofs.lemmas.Bool.{cases_Bool, false_from_ne_true, or_from, or_parts}
-use Rattle.std.proofs.lemmas.Bool.Decides.{nat_tests}
-use Rattle.std.proofs.lemmas.Grind.{flat_map-append}
-use Rattle.std.proofs.lemmas.List.{append-nil}
 use Rattle.std.proofs.lemmas.List.Elements.{recursion_from_All}
 use Rattle.std.proofs.lemmas.Option.{slice_get-get_or}
 use Rattle.std.proofs.lemmas.Slice.Eq.{bytes_eq-Decides}
 use Rattle.smx_types.specs.Drivers.{spec_check}
-use Rattle.smx_types.specs.declared.driver.DriverSpec.{DriverSpec}
 use Rattle.smx_types.specs.declared.driver.SpecFault.TheVariants.{BadMinors}
 use Rattle.smx_types.specs.declared.message.Message.{Message}
 use Rattle.smx_types.specs.declared.reply.Fault.{Fault}
 use Rattle.smx_types.specs.declared.reply.Fault.TheVariants.{NoDriver}
-use Rattle.smx_types.specs.declared.stream.Place.{Place}
 use Rattle.smx_types.specs.declared.stream.StreamId.{StreamId}
-use Rattle.smx_types.specs.declared.view.MessageLine.{MessageLine}
-use Rattle.smx_model.specs.Configuration.{Configuration, QueuedMessage, is_at, place_before, same_place, same_side}
-use Rattle.smx_model.specs.DriverList.{IsDriverList, minors_of, name_of}
+use Rattle.smx_model.specs.Configuration.{place_before, same_place, same_side}
+use Rattle.smx_model.specs.DriverList.{minors_of, name_of}
 use Rattle.smx_model.specs.KeptConfigurations.{IsKept}
 use Rattle.smx_model.specs.KnownStreams.{IsKnown}
 use Rattle.smx_model.specs.Lookups.{driver_of}
 use Rattle.smx_model.specs.Queues.{first_message, is_full}
 use Rattle.smx_model.specs.Settling.{◌>>=◌, IsSettled, is_movable, next_place}
-use Rattle.smx_model.specs.Views.{view_of_message}
-use Rattle.smx_model.specs.Waits.{Reason, Wait, places_in, reason_at, reason_of_end, wait_at}
+use Rattle.smx_model.specs.Waits.{Reason, places_in, reason_at, reason_of_end}
 use Rattle.smx_model.specs.Waits as reason
 use Rattle.smx_tables.proofs.DriverNameLemmas.{found_by_name, number_of, some_driver}
 use Rattle.smx_words.specs.Spelling.{side_word}
-use Rattle.smx_words.specs.Words.{LINE_FEED, SPACE, line_of}
+use Rattle.smx_words.specs.Words.{SPACE}
 use Rattle.smx_text.specs.TranscriptLines as line
 use Rattle.smx_trace.proofs.ChangeLemmas.{after_two}
-use Rattle.smx_trace.specs.Queues.{AreQueued, IsLeft, begins_with_place, place_with, queues_left, wait_below}
-use Rattle.smx_trace.specs.Queues.{waits_left}
+use Rattle.smx_trace.specs.Queues.{AreQueued, begins_with_place, place_with, wait_below}
 use Rattle.smx_trace.specs.TraceWords.{reason_words, wait_text, waits_text, words_of_place}
-use Rattle.smx_trace.specs.Traces.{TraceLine, queue_lines, trace_line_text, trace_lines_text, wait_line}
+use Rattle.smx_trace.specs.Traces.{trace_line_text, trace_lines_text, wait_line}
 use Rattle.smx_trace.specs.Traces as trace
 
 -- ---- the last message of a queue

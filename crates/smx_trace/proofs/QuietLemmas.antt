@@ -1,21 +1,14 @@
 -- A replay needs no later version than its transcript.
-use Rattle.std.proofs.Common.{◌≡◌, ℕ, Bool, false, ◌||◌, List, [], ◌∷◌, length, map, refl, sym, ap, ◌∙◌, arith}
-use Rattle.std.proofs.lemmas.Bool.{or_from, or_parts}
+use Rattle.smx_trace.proofs.Common.{Bool, false, ◌||◌, refl, sym, ap, ◌∙◌, arith, or_from, or_parts, list_any, nat_lt}
+use Rattle.smx_trace.proofs.Common.{Command, Entry, DriverSpec, Transcript, after, call_of, IsLegal, IsReplayOf}
+use Rattle.std.proofs.Common.{◌≡◌, ℕ, List, [], ◌∷◌, length, map}
 use Rattle.std.proofs.lemmas.List.{length-map}
-use Rattle.std.specs.List.{list_any}
-use Rattle.std.specs.Prelude.{nat_lt}
 use Rattle.smx_types.specs.Versions.{are_more_drivers, is_hangup, is_of_hangup, least_of_transcript, tells_of_hangup}
 use Rattle.smx_types.specs.Versions.{version_2_where}
-use Rattle.smx_types.specs.declared.command.Command.{Command}
-use Rattle.smx_types.specs.declared.command.Entry.{Entry}
-use Rattle.smx_types.specs.declared.driver.DriverSpec.{DriverSpec}
-use Rattle.smx_types.specs.declared.transcript.Transcript.{Transcript}
 use Rattle.smx_types.specs.declared.version.Version.TheVariants.{V1}
-use Rattle.smx_model.specs.Histories.{after, call_of, IsLegal}
 use Rattle.smx_text.specs.TranscriptText.{IsAllowed, IsSpellable}
 use Rattle.smx_text.proofs.TranscriptWholeLemmas.{allowed_spellable, spellable_allowed}
 use Rattle.smx_text.proofs.LeastVersionLemmas.{is_first}
-use Rattle.smx_trace.specs.Replays.{IsReplayOf}
 
 -- ---- what the laws of hangups say of a history without one
 

@@ -1,32 +1,27 @@
 -- The lists of a view rise, and the serials of its messages are apart.
-use Rattle.std.proofs.Common.{◌≡◌, ◌≢◌, ℕ, ◌+◌, ◌*◌, ◌<◌, Bool, true, ◌&&◌, ◌||◌, eqb, List, [], ◌∷◌, length, map}
-use Rattle.std.proofs.Common.{Option}
-use Rattle.std.proofs.Common.{Result, refl, ap, arith}
-use Rattle.std.specs.List.{AllByRecursion}
+use Rattle.smx_trace.proofs.Common.{◌≢◌, ◌+◌, ◌<◌, Bool, true, ◌||◌, eqb, Option, Result, refl, ap, arith}
+use Rattle.smx_trace.proofs.Common.{AllByRecursion, nat_lt, nat_tests, DriverSpec, Place, ConfigView, Configuration}
+use Rattle.smx_trace.proofs.Common.{QueuedMessage, IsDriverList, view_of_bind, view_of_fd, view_of_full, view_of_hung}
+use Rattle.smx_trace.proofs.Common.{view_of_link, view_of_message, view_of_route, is_before}
+use Rattle.std.proofs.Common.{◌≡◌, ℕ, ◌*◌, ◌&&◌, List, [], ◌∷◌, length, map}
 use Rattle.std.specs.Option.{ok_or}
-use Rattle.std.specs.Prelude.{Ok, Err, nat_lt}
-use Rattle.std.proofs.lemmas.Bool.Decides.{nat_tests}
+use Rattle.std.specs.Prelude.{Ok, Err}
 use Rattle.std.proofs.lemmas.List.Elements.{recursion_from_All}
-use Rattle.smx_types.specs.declared.driver.DriverSpec.{DriverSpec}
 use Rattle.smx_types.specs.declared.link.Binding.{Binding}
 use Rattle.smx_types.specs.declared.link.Route.{Route}
 use Rattle.smx_types.specs.declared.reply.Fault.{Fault}
 use Rattle.smx_types.specs.declared.reply.Fault.TheVariants.{NoDriver}
-use Rattle.smx_types.specs.declared.stream.Place.{Place}
 use Rattle.smx_types.specs.declared.stream.Side.{Side}
 use Rattle.smx_types.specs.declared.stream.Side.TheVariants as side
-use Rattle.smx_types.specs.declared.view.ConfigView.{ConfigView}
-use Rattle.smx_model.specs.Configuration.{Configuration, QueuedMessage, bind_before, fd_before, pair_before}
-use Rattle.smx_model.specs.Configuration.{place_before, route_before, side_number, stream_before}
-use Rattle.smx_model.specs.DriverList.{IsDriverList, name_of}
+use Rattle.smx_model.specs.Configuration.{bind_before, fd_before, pair_before, place_before, route_before}
+use Rattle.smx_model.specs.Configuration.{side_number, stream_before}
+use Rattle.smx_model.specs.DriverList.{name_of}
 use Rattle.smx_model.specs.KnownStreams.{IsKnown}
 use Rattle.smx_model.specs.Ordered.{AllLater, IsRising}
 use Rattle.smx_model.specs.Removal.{serials}
-use Rattle.smx_model.specs.Views.{view_of_bind, view_of_fd, view_of_full, view_of_hung, view_of_link}
-use Rattle.smx_model.specs.Views.{view_of_message, view_of_route}
 use Rattle.smx_model.proofs.EachLemmas.{later_pairs}
 use Rattle.smx_tables.proofs.DriverNameLemmas.{found_by_name}
-use Rattle.smx_trace.specs.Ranks.{IsRanked, bind_rank, fd_rank, full_rank, hung_rank, is_before, link_rank, number_of}
+use Rattle.smx_trace.specs.Ranks.{IsRanked, bind_rank, fd_rank, full_rank, hung_rank, link_rank, number_of}
 use Rattle.smx_trace.specs.Ranks.{route_rank}
 use Rattle.smx_trace.specs.Serials.{AreSerialsApart}
 use Rattle.smx_trace.specs.ShownViews.{IsShown}

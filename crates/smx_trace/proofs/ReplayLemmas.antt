@@ -1,23 +1,17 @@
 -- The replay of a transcript: there is exactly one, and this is its text.
-use Rattle.std.proofs.Common.{◌≡◌, ℕ, List, [], ◌∷◌, ◌++◌, map, refl, sym, ap, subst, ◌∙◌}
-use Rattle.smx_types.specs.declared.command.Command.{Command}
-use Rattle.smx_types.specs.declared.command.Entry.{Entry}
-use Rattle.smx_types.specs.declared.driver.DriverSpec.{DriverSpec}
+use Rattle.smx_trace.proofs.Common.{refl, sym, ap, subst, ◌∙◌, Command, Entry, DriverSpec, Transcript, ConfigView}
+use Rattle.smx_trace.proofs.Common.{step, Configuration, empty, IsDriverList, after, after_from, call_of, IsLegal}
+use Rattle.smx_trace.proofs.Common.{view, transcript_with, HasCome, IsReplayOf}
+use Rattle.std.proofs.Common.{◌≡◌, ℕ, List, [], ◌∷◌, ◌++◌, map}
 use Rattle.smx_types.specs.declared.reply.Reply.{Reply}
-use Rattle.smx_types.specs.declared.transcript.Transcript.{Transcript}
 use Rattle.smx_types.specs.declared.version.Version.{Version}
-use Rattle.smx_types.specs.declared.view.ConfigView.{ConfigView}
-use Rattle.smx_model.specs.Commands.{step}
-use Rattle.smx_model.specs.Configuration.{Configuration, empty}
-use Rattle.smx_model.specs.DriverList.{IsDriverList}
-use Rattle.smx_model.specs.Histories.{after, after_from, call_of, IsLegal, IsLegalFrom}
-use Rattle.smx_model.specs.Views.{view}
+use Rattle.smx_model.specs.Histories.{IsLegalFrom}
 use Rattle.smx_config.specs.Machine.{Machine}
-use Rattle.smx_text.specs.GrowingTranscripts.{transcript_with, AreEntryLines}
+use Rattle.smx_text.specs.GrowingTranscripts.{AreEntryLines}
 use Rattle.smx_text.specs.TranscriptText.{IsSpellable, transcript_text}
 use Rattle.smx_model.proofs.HistoryLemmas.{after_push}
-use Rattle.smx_trace.specs.Answers.{answered, answers_from, answers, HasCome}
-use Rattle.smx_trace.specs.Replays.{IsReplayOf, IsReplayText}
+use Rattle.smx_trace.specs.Answers.{answered, answers_from, answers}
+use Rattle.smx_trace.specs.Replays.{IsReplayText}
 
 -- ---- what the laws of histories say
 

@@ -1,23 +1,20 @@
 -- Queued messages by their serials.
-use Rattle.std.proofs.Common.{rules, ◌≡◌, ◌≢◌, ℕ, suc, ◌+◌, ◌<◌, Bool, true, false, cond, not, eqb, List, [], ◌∷◌, ◌++◌}
-use Rattle.std.proofs.Common.{Option, Some, None, Result, Ok, Err, length, get_or, take, drop, drop-cons, map, refl}
-use Rattle.std.proofs.Common.{sym, ap, ◌∙◌, subst}
-use Rattle.std.proofs.Common.{arith, append_assoc, inl, inr, add-one}
-use Rattle.std.specs.Bool.{Decides}
-use Rattle.std.specs.List.{AllByRecursion, filter, list_any}
+use Rattle.smx_trace.proofs.Common.{rules, ◌≢◌, ◌+◌, ◌<◌, Bool, true, false, not, eqb, Option, Some, None, Result}
+use Rattle.smx_trace.proofs.Common.{get_or, refl, sym, ap, ◌∙◌, subst, arith, append_assoc, inl, inr, Decides}
+use Rattle.smx_trace.proofs.Common.{AllByRecursion, list_any, cases_Bool, false_from_ne_true, or_from, nat_tests}
+use Rattle.smx_trace.proofs.Common.{flat_map-append, append-nil, take_more, MessageLine, Change, arrival_change}
+use Rattle.smx_trace.proofs.Common.{missing_from, same_serial, FindsBySerial, same_line, changes_text}
+use Rattle.std.proofs.Common.{◌≡◌, ℕ, suc, cond, List, [], ◌∷◌, ◌++◌, Ok, Err, length, take, drop, drop-cons, map}
+use Rattle.std.proofs.Common.{add-one}
+use Rattle.std.specs.List.{filter}
 use Rattle.std.specs.Prelude.{find, slice_get, OnOk}
-use Rattle.std.proofs.lemmas.Bool.{cases_Bool, false_from_ne_true, or_from}
-use Rattle.std.proofs.lemmas.Bool.Decides.{nat_tests}
-use Rattle.std.proofs.lemmas.Grind.{flat_map-append}
-use Rattle.std.proofs.lemmas.List.{append-nil, map-append, take_more}
+use Rattle.std.proofs.lemmas.List.{map-append}
 use Rattle.std.proofs.lemmas.List.Elements.{filter-append}
 use Rattle.std.proofs.lemmas.Option.{slice_get-get_or}
-use Rattle.smx_types.specs.declared.view.MessageLine.{MessageLine}
-use Rattle.smx_model.specs.Changes.{Change, arrival_change, missing_from, same_serial}
 use Rattle.smx_model.specs.Changes as change
 use Rattle.smx_model.specs.Settling.{◌>>=◌}
-use Rattle.smx_trace.specs.Serials.{AreSerialsApart, FindsBySerial, same_line}
-use Rattle.smx_trace.specs.TraceWords.{change_text, changes_text}
+use Rattle.smx_trace.specs.Serials.{AreSerialsApart}
+use Rattle.smx_trace.specs.TraceWords.{change_text}
 
 -- `==` decides equality of lines of messages
 message_tells : (m n : MessageLine) → Decides (same_line m n) (m ≡ n)

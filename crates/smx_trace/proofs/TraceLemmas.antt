@@ -1,38 +1,28 @@
 -- A trace that is being written.
-use Rattle.std.proofs.Common.{◌≡◌, ℕ, Bool, true, false, List, [], ◌∷◌, ◌++◌, map, sym, ap, ◌∙◌, subst}
-use Rattle.std.proofs.Common.{append_assoc}
-use Rattle.std.specs.Prelude.{if◌then◌else◌, codes}
-use Rattle.std.proofs.lemmas.Grind.{flat_map-append}
-use Rattle.std.proofs.lemmas.List.{append-nil}
+use Rattle.smx_trace.proofs.Common.{Bool, true, false, sym, ap, ◌∙◌, subst, append_assoc, if◌then◌else◌, codes}
+use Rattle.smx_trace.proofs.Common.{flat_map-append, append-nil, Entry, DriverSpec, Transcript, ConfigView, step}
+use Rattle.smx_trace.proofs.Common.{Configuration, empty, after, after_from, IsDriverList, view, view_of_bind}
+use Rattle.smx_trace.proofs.Common.{view_of_fd, view_of_full, view_of_hung, view_of_link, view_of_route, waits}
+use Rattle.smx_trace.proofs.Common.{LINE_FEED, line_of, transcript_with, TranscriptLine, changes_text, TraceLine}
+use Rattle.smx_trace.proofs.Common.{queue_lines}
+use Rattle.std.proofs.Common.{◌≡◌, ℕ, List, [], ◌∷◌, ◌++◌, map}
 use Rattle.std.proofs.lemmas.List.Folds.{flat_map-map}
-use Rattle.smx_types.specs.declared.command.Entry.{Entry}
-use Rattle.smx_types.specs.declared.driver.DriverSpec.{DriverSpec}
 use Rattle.smx_types.specs.declared.reply.Reply.{Reply}
-use Rattle.smx_types.specs.declared.transcript.Transcript.{Transcript}
 use Rattle.smx_types.specs.declared.version.Version.{Version}
-use Rattle.smx_types.specs.declared.view.ConfigView.{ConfigView}
 use Rattle.smx_model.specs.Changes.{changes}
-use Rattle.smx_model.specs.Commands.{step}
-use Rattle.smx_model.specs.Configuration.{Configuration, empty}
-use Rattle.smx_model.specs.Histories.{after, after_from}
-use Rattle.smx_model.specs.DriverList.{IsDriverList}
-use Rattle.smx_model.specs.Views.{view, view_of_bind, view_of_fd, view_of_full, view_of_hung, view_of_link}
-use Rattle.smx_model.specs.Views.{view_of_route}
-use Rattle.smx_model.specs.Waits.{waits}
 use Rattle.smx_model.proofs.HistoryLemmas.{after_push}
 use Rattle.smx_config.specs.Machine.{Machine}
 use Rattle.smx_words.specs.Spelling.{bind_words, descriptor_words, entry_words, full_words, hung_words, link_words}
 use Rattle.smx_words.specs.Spelling.{next_words, route_words}
-use Rattle.smx_words.specs.Words.{LINE_FEED, line_of, text_of}
+use Rattle.smx_words.specs.Words.{text_of}
 use Rattle.smx_text.specs.Grammar.{header}
-use Rattle.smx_text.specs.GrowingTranscripts.{BeginsTranscript, transcript_with}
-use Rattle.smx_text.specs.TranscriptLines.{TranscriptLine}
+use Rattle.smx_text.specs.GrowingTranscripts.{BeginsTranscript}
 use Rattle.smx_text.specs.TranscriptLines as line
 use Rattle.smx_text.specs.TranscriptText.{line_words, transcript_grammar}
 use Rattle.smx_trace.specs.Answers.{answered, answers}
-use Rattle.smx_trace.specs.TraceWords.{changes_text, waits_text}
-use Rattle.smx_trace.specs.Traces.{IsTraceText, TraceLine, config_lines, entry_lines_from, lines_below}
-use Rattle.smx_trace.specs.Traces.{lines_of_entry, queue_lines, trace_line_text, trace_lines_text}
+use Rattle.smx_trace.specs.TraceWords.{waits_text}
+use Rattle.smx_trace.specs.Traces.{IsTraceText, config_lines, entry_lines_from, lines_below, lines_of_entry}
+use Rattle.smx_trace.specs.Traces.{trace_line_text, trace_lines_text}
 use Rattle.smx_trace.specs.Traces as trace
 use Rattle.smx_trace.specs.Tracing.{HasTraced, TracesEntry}
 use Rattle.smx_trace.proofs.ChangeLemmas.{after_two}

@@ -1,19 +1,17 @@
 -- The queues of a flow, and their waits.
-use Rattle.std.proofs.Common.{◌≡◌, Bool, true, false, ◌||◌, not, List, [], ◌∷◌, map, Option, Some, None, refl, sym, ap}
-use Rattle.std.proofs.Common.{◌∙◌, arith, inl, inr}
-use Rattle.std.specs.List.{AllByRecursion, filter_map, list_any}
+use Rattle.smx_trace.proofs.Common.{Bool, true, false, ◌||◌, not, Option, Some, None, refl, sym, ap, ◌∙◌, arith, inl}
+use Rattle.smx_trace.proofs.Common.{inr, AllByRecursion, list_any, cases_Bool, or_parts, nat_tests, DriverSpec, Place}
+use Rattle.smx_trace.proofs.Common.{Configuration, QueuedMessage, is_at, Wait, wait_at, waits}
+use Rattle.std.proofs.Common.{◌≡◌, List, [], ◌∷◌, map}
+use Rattle.std.specs.List.{filter_map}
 use Rattle.std.specs.Option.{is_some, option_map}
 use Rattle.std.specs.Prelude.{find}
-use Rattle.std.proofs.lemmas.Bool.{cases_Bool, or_parts}
-use Rattle.std.proofs.lemmas.Bool.Decides.{nat_tests}
-use Rattle.smx_types.specs.declared.driver.DriverSpec.{DriverSpec}
 use Rattle.smx_types.specs.declared.message.Message.{Message}
-use Rattle.smx_types.specs.declared.stream.Place.{Place}
-use Rattle.smx_model.specs.Configuration.{Configuration, QueuedMessage, is_at, same_place}
+use Rattle.smx_model.specs.Configuration.{same_place}
 use Rattle.smx_model.specs.Ordered.{AllLater}
 use Rattle.smx_model.specs.Queues.{first_message}
 use Rattle.smx_model.specs.Settling.{IsSettled, is_movable, next_place}
-use Rattle.smx_model.specs.Waits.{Wait, places_in, reason_at, wait_at, waits}
+use Rattle.smx_model.specs.Waits.{places_in, reason_at}
 use Rattle.smx_model.proofs.EachLemmas.{each_map}
 use Rattle.smx_trace.proofs.QueueLemmas.{moves_by, reason_or_opens, settled_reason, wait_is}
 

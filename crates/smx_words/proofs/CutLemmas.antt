@@ -1,13 +1,12 @@
 -- Bytes split at a separator, and two ways to split the same bytes.
-use Rattle.std.proofs.Common.{◌≡◌, ◌≢◌, ℕ, zero, suc, ◌+◌, ◌-◌, ◌<◌, ◌≤◌, Bool, true, false, eqb, List, []}
-use Rattle.std.proofs.Common.{◌∷◌, ◌++◌, length, slice_index, take, drop, refl, sym, ap, ◌∙◌, arith}
+use Rattle.smx_words.proofs.Common.{◌≡◌, ◌≢◌, ℕ, zero, suc, ◌+◌, ◌-◌, ◌<◌, ◌≤◌, Bool, true, false, eqb, List, [], ◌∷◌}
+use Rattle.smx_words.proofs.Common.{◌++◌, length, slice_index, take, drop, refl, sym, ap, ◌∙◌, arith, nat_tests}
+use Rattle.smx_words.proofs.Common.{SPACE, IsFree}
 use Rattle.std.proofs.Common.{drop-cons, add-one}
 use Rattle.std.proofs.Math.Seq.{get_or-append_seam}
-use Rattle.std.proofs.lemmas.Bool.Decides.{nat_tests}
 use Rattle.std.proofs.lemmas.List.{length-append, take-append-drop, take_rest}
 use Rattle.std.specs.Prelude.{IsTrue, ◌↔◌}
 use Rattle.memchr.specs.Find.{Nowhere, Passes, is_byte}
-use Rattle.smx_words.specs.Words.{SPACE, IsFree}
 
 -- bytes that do not contain the separator are not split
 pub not_cut : (s : ℕ) (bytes : List ℕ) → Nowhere (Passes (is_byte s) bytes) 0 (length bytes)

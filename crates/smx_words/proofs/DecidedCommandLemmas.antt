@@ -1,24 +1,18 @@
 -- Commands, calls, replies and entries have words of their own.
-use Rattle.std.proofs.Common.{◌≡◌, ◌≢◌, ℕ, Bool, true, false, cond, if◌then◌else◌, ap, List, [], ◌∷◌, ◌++◌, map, get_or, drop}
-use Rattle.std.proofs.Common.{refl, rules, arith}
-use Rattle.std.specs.List.{AllByRecursion}
+use Rattle.smx_words.proofs.Common.{◌≡◌, ◌≢◌, ℕ, Bool, true, false, cond, ap, List, [], ◌∷◌, ◌++◌, map, get_or, drop}
+use Rattle.smx_words.proofs.Common.{refl, rules, arith, AllByRecursion, decimal, bytes_eq, nat_tests, Command, Fault}
+use Rattle.smx_words.proofs.Common.{Reply, FitsAlways, FitsNumber, FitsReply, call_words, command_words, entry_words}
+use Rattle.smx_words.proofs.Common.{fault_words, reply_words, EQUALS, IsFree, IsWord, SPACE, line_of}
+use Rattle.std.proofs.Common.{if◌then◌else◌}
 use Rattle.std.specs.Prelude.{codes}
-use Rattle.std.specs.Fmt.{decimal}
 use Rattle.std.specs.Cmp.Lexicographic.{pointwise}
-use Rattle.std.specs.Str.{bytes_eq}
-use Rattle.std.proofs.lemmas.Bool.Decides.{nat_tests}
-use Rattle.smx_types.specs.declared.command.Command.{Command}
 use Rattle.smx_types.specs.declared.command.Command.TheVariants as command
-use Rattle.smx_types.specs.declared.reply.Fault.{Fault}
 use Rattle.smx_types.specs.declared.reply.Fault.TheVariants as fault
-use Rattle.smx_types.specs.declared.reply.Reply.{Reply}
 use Rattle.smx_types.specs.declared.reply.Reply.TheVariants as reply
 use Rattle.smx_words.specs.declared.reading.verb.Verb.{Verb}
 use Rattle.smx_words.specs.declared.reading.verb.Verb.TheVariants as verb
-use Rattle.smx_words.specs.Spellable.{FitsAlways, FitsCall, FitsCommand, FitsEntry, FitsNumber, FitsReply}
-use Rattle.smx_words.specs.Spelling.{call_words, command_words, entry_words, fault_words, reply_words}
+use Rattle.smx_words.specs.Spellable.{FitsCall, FitsCommand, FitsEntry}
 use Rattle.smx_words.specs.Verbs.{verb_word}
-use Rattle.smx_words.specs.Words.{EQUALS, IsFree, IsWord, SPACE, line_of}
 use Rattle.smx_words.proofs.DecidedLemmas.{HasWords, first, first_of_these}
 use Rattle.smx_words.proofs.DecidedWordLemmas.{bytes, flush_sides, id_or_all, name, number, process}
 use Rattle.smx_words.proofs.LineLemmas.{all_append}

@@ -1,14 +1,12 @@
 -- Values that their words determine: a function gives each value back from its words. So no two values share their
 -- words, and it is decided whether some words belong to a value: those of the one value that the function gives.
-use Rattle.std.proofs.Common.{◌≡◌, ◌≢◌, ℕ, ◌<◌, Bool, true, false, cond, List, [], ◌∷◌, length, get_or, drop}
-use Rattle.std.proofs.Common.{Option, Some, None, refl, sym, ap, subst, ◌∙◌, arith, inl, inr}
+use Rattle.smx_words.proofs.Common.{◌≡◌, ◌≢◌, ℕ, ◌<◌, Bool, true, false, cond, List, [], ◌∷◌, length, get_or, drop}
+use Rattle.smx_words.proofs.Common.{Option, Some, None, refl, sym, ap, ◌∙◌, arith, AllByRecursion, bytes_eq, IsReadAs}
+use Rattle.smx_words.proofs.Common.{IsWord, SPACE, line_of}
+use Rattle.std.proofs.Common.{subst, inl, inr}
 use Rattle.std.specs.Prelude.{◌⊎◌}
-use Rattle.std.specs.List.{AllByRecursion}
-use Rattle.std.specs.Str.{bytes_eq}
 use Rattle.std.proofs.lemmas.Bool.Decides.{not_from_Decides}
 use Rattle.std.proofs.lemmas.Slice.Eq.{bytes_eq-Decides}
-use Rattle.smx_words.specs.LineReading.{IsReadAs}
-use Rattle.smx_words.specs.Words.{IsWord, SPACE, line_of}
 use Rattle.smx_words.proofs.LineLemmas.{same_words, words_again, words_free, words_in}
 
 -- `guess` gives each value that fits back from its spelling. From other spellings it gives any value that fits.

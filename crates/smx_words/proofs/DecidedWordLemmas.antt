@@ -1,10 +1,10 @@
 -- Each number, name, list of bytes, id and value of an enum has a word of its own.
-use Rattle.std.proofs.Common.{◌≡◌, ℕ, ◌<◌, ◌≤◌, ◌^◌, ◌%◌, Bool, true, false, cond, List, [], ◌∷◌}
-use Rattle.std.proofs.Common.{Result, Ok, Err, refl, ap, ◌∙◌, arith, rules}
+use Rattle.smx_words.proofs.Common.{◌≡◌, ℕ, ◌<◌, ◌≤◌, ◌^◌, Bool, true, false, cond, List, [], ◌∷◌, refl, ap, ◌∙◌}
+use Rattle.smx_words.proofs.Common.{arith, rules, decimal, bytes_eq, digits_value, hex_word, FitsAlways, FitsBytes}
+use Rattle.smx_words.proofs.Common.{FitsName, FitsNumber, FitsProcess, IsWord}
+use Rattle.std.proofs.Common.{◌%◌, Result, Ok, Err}
 use Rattle.std.specs.Prelude.{codes}
-use Rattle.std.specs.Fmt.{decimal}
-use Rattle.std.specs.Str.{all_ascii_digits, bytes_eq}
-use Rattle.std.specs.Str.Parse.{digits_value}
+use Rattle.std.specs.Str.{all_ascii_digits}
 use Rattle.std.proofs.Math.Nat.{mod-eq_of_lt, mod-lt}
 use Rattle.std.proofs.lemmas.Fmt.{digits_value-decimal}
 use Rattle.hex.specs.Hex.{decode_of}
@@ -21,10 +21,8 @@ use Rattle.smx_types.specs.declared.link.LinkKind.{LinkKind}
 use Rattle.smx_types.specs.declared.link.LinkKind.TheVariants as link
 use Rattle.smx_types.specs.declared.stream.Side.{Side}
 use Rattle.smx_types.specs.declared.stream.Side.TheVariants as side
-use Rattle.smx_words.specs.HexWords.{hex_word}
-use Rattle.smx_words.specs.Spellable.{FitsAlways, FitsBytes, FitsName, FitsNumber, FitsProcess, FitsWhich}
+use Rattle.smx_words.specs.Spellable.{FitsWhich}
 use Rattle.smx_words.specs.Spelling.{kind_word, link_kind_word, side_word, sides_word, which_word}
-use Rattle.smx_words.specs.Words.{IsWord}
 use Rattle.smx_words.proofs.DecidedLemmas.{HasWord, first_of_these}
 use Rattle.smx_words.proofs.HexLemmas.{are_bytes, fits_all}
 use Rattle.smx_words.proofs.NumberLemmas.{decimal_digits, own}

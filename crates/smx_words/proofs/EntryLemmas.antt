@@ -1,13 +1,11 @@
 -- A call, which is a process and its command; and an entry, which also has an equals sign and a reply.
-use Rattle.std.proofs.Common.{◌≡◌, ◌≢◌, ℕ, ◌<◌, List, [], ◌∷◌, ◌++◌, length, refl, sym, ap, ◌∙◌, append_assoc, arith}
+use Rattle.smx_words.proofs.Common.{◌≡◌, ◌≢◌, ℕ, ◌<◌, List, [], ◌∷◌, ◌++◌, length, refl, sym, ap, ◌∙◌, append_assoc}
+use Rattle.smx_words.proofs.Common.{arith, decimal, Command, FitsNumber, FitsProcess, call_words, command_words}
+use Rattle.smx_words.proofs.Common.{entry_words, reply_words, EQUALS, SPACE, IsFree, line_of}
 use Rattle.std.specs.Prelude.{codes}
-use Rattle.std.specs.Fmt.{decimal}
 use Rattle.std.proofs.lemmas.List.{append_cancel_right}
-use Rattle.smx_types.specs.declared.command.Command.{Command}
 use Rattle.smx_types.specs.declared.command.Entry.{Entry}
-use Rattle.smx_words.specs.Spellable.{FitsCall, FitsEntry, FitsNumber, FitsProcess}
-use Rattle.smx_words.specs.Spelling.{call_words, command_words, entry_words, reply_words}
-use Rattle.smx_words.specs.Words.{EQUALS, SPACE, IsFree, line_of}
+use Rattle.smx_words.specs.Spellable.{FitsCall, FitsEntry}
 use Rattle.smx_words.proofs.CutLemmas.{apart}
 use Rattle.smx_words.proofs.NumberLemmas.{number_free, same_number}
 use Rattle.smx_words.proofs.PlainLemmas.{command_plain, number_plain, plain_words_free, some_command, some_reply}

@@ -1,17 +1,15 @@
 -- Bytes as words of hexadecimal digits.
+use Rattle.smx_words.proofs.Common.{◌≡◌, ◌≢◌, ℕ, zero, suc, ◌+◌, ◌*◌, ◌<◌, Bool, true, eqb, ◌&&◌, ◌||◌, List, [], ◌∷◌}
+use Rattle.smx_words.proofs.Common.{◌++◌, length, slice_index, get_or, take, refl, sym, ap, ◌∙◌, arith, list_all}
+use Rattle.smx_words.proofs.Common.{and_parts, nat_tests, hex_word, is_digit, FitsBytes}
 use lib.Seq.{take-append_seam}
-use Rattle.std.proofs.Common.{◌≡◌, ◌≢◌, ℕ, zero, suc, ◌+◌, ◌*◌, ◌/◌, ◌%◌, ◌<◌, Bool, true, not, eqb, ltb}
-use Rattle.std.proofs.Common.{◌&&◌, ◌||◌, List, [], ◌∷◌, ◌++◌, length, slice_index, get_or, take, set, refl, sym, ap}
-use Rattle.std.proofs.Common.{◌∙◌, arith}
-use Rattle.std.specs.List.{list_all}
+use Rattle.std.proofs.Common.{◌/◌, ◌%◌, not, ltb, set}
 use Rattle.std.specs.Prelude.{codes}
-use Rattle.std.proofs.lemmas.Bool.{and_parts}
-use Rattle.std.proofs.lemmas.Bool.Decides.{Decides-below_and, nat_tests}
+use Rattle.std.proofs.lemmas.Bool.Decides.{Decides-below_and}
 use Rattle.std.proofs.lemmas.List.{take_more, take_more_set}
 use Rattle.hex.specs.Hex.{IsBytes, encode_lower, encode_with, lower_digits}
-use Rattle.smx_words.specs.HexWords.{digit_value, hex_word, is_digit}
+use Rattle.smx_words.specs.HexWords.{digit_value}
 use Rattle.smx_words.specs.LineReading.{IsSpelled}
-use Rattle.smx_words.specs.Spellable.{FitsBytes}
 
 -- ---- digits
 

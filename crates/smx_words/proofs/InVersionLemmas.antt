@@ -1,16 +1,15 @@
 -- The commands, replies and entries that a version can express.
-use Rattle.std.proofs.Common.{◌≡◌, ◌≢◌, Bool, true, false, ◌||◌, ℕ, List, Option, Some, None, ◌++◌, ◌∷◌, codes, refl}
-use Rattle.std.proofs.Common.{ap, subst, sym, ◌∙◌, ◌<◌, length}
-use Rattle.std.specs.Fmt.{decimal}
-use Rattle.smx_types.specs.Versions.{is_hangup, tells_of_hangup}
-use Rattle.smx_types.specs.declared.command.Command.{Command}
+use Rattle.smx_words.proofs.Common.{◌≡◌, ◌≢◌, Bool, true, false, ◌||◌, ℕ, List, Option, Some, None, ◌++◌, ◌∷◌, refl}
+use Rattle.smx_words.proofs.Common.{ap, sym, ◌∙◌, ◌<◌, length, decimal, is_hangup, Command, V1, IsReadAs, FitsProcess}
+use Rattle.smx_words.proofs.Common.{call_words, command_words, entry_words, reply_words, EQUALS, SPACE, IsFree}
+use Rattle.smx_words.proofs.Common.{line_of}
+use Rattle.std.proofs.Common.{codes, subst}
+use Rattle.smx_types.specs.Versions.{tells_of_hangup}
 use Rattle.smx_types.specs.declared.command.Entry.{Entry}
 use Rattle.smx_types.specs.declared.version.Version.{Version}
-use Rattle.smx_types.specs.declared.version.Version.TheVariants.{V1, V2}
-use Rattle.smx_words.specs.LineReading.{IsCallLine, IsEntryLine, IsLineOf, IsReadAs}
-use Rattle.smx_words.specs.Spellable.{CanTell, FitsCallIn, FitsCommandIn, FitsEntryIn, FitsProcess, FitsReplyIn}
-use Rattle.smx_words.specs.Spelling.{call_words, command_words, entry_words, reply_words}
-use Rattle.smx_words.specs.Words.{EQUALS, SPACE, IsFree, line_of}
+use Rattle.smx_types.specs.declared.version.Version.TheVariants.{V2}
+use Rattle.smx_words.specs.LineReading.{IsCallLine, IsEntryLine, IsLineOf}
+use Rattle.smx_words.specs.Spellable.{CanTell, FitsCallIn, FitsCommandIn, FitsEntryIn, FitsReplyIn}
 use Rattle.smx_words.proofs.EntryLemmas.{call_line, each_side, entry_line}
 use Rattle.smx_words.proofs.DecidedLemmas.{HasWords, one_line, reading}
 

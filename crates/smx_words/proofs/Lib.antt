@@ -1,3 +1,4 @@
+pub mod Common
 pub mod WritingLemmas
 pub mod CutLemmas
 pub mod LineLemmas

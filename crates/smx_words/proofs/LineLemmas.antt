@@ -1,10 +1,8 @@
 -- The words of a line: no word contains a space, and the line determines them.
-use Rattle.std.proofs.Common.{◌≡◌, ◌≢◌, ℕ, zero, suc, ◌<◌, ◌≤◌, false, eqb, List, [], ◌∷◌, ◌++◌, length}
-use Rattle.std.proofs.Common.{refl, sym, ap, ◌∙◌, arith}
-use Rattle.std.specs.List.{All, AllByRecursion, slice_split}
-use Rattle.std.proofs.lemmas.Bool.Decides.{nat_tests}
+use Rattle.smx_words.proofs.Common.{◌≡◌, ◌≢◌, ℕ, zero, suc, ◌<◌, ◌≤◌, false, eqb, List, [], ◌∷◌, ◌++◌, length, refl}
+use Rattle.smx_words.proofs.Common.{sym, ap, ◌∙◌, arith, AllByRecursion, nat_tests, IsFree, IsWord, SPACE, line_of}
+use Rattle.std.specs.List.{All, slice_split}
 use Rattle.std.proofs.lemmas.List.Splits.{slice_split_at, slice_split_none}
-use Rattle.smx_words.specs.Words.{IsFree, IsWord, SPACE, line_of}
 
 -- ---- properties of all elements
 

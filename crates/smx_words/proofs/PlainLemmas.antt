@@ -1,28 +1,20 @@
 -- The words of values are visible bytes, and only an entry has an equals sign.
-use Rattle.std.proofs.Common.{◌≡◌, ◌≢◌, ℕ, ◌<◌, ◌≤◌, Bool, true, false, ◌&&◌, List, [], ◌∷◌}
-use Rattle.std.proofs.Common.{length, map, arith, rules}
-use Rattle.std.specs.List.{list_all, AllByRecursion}
-use Rattle.std.specs.Fmt.{decimal}
-use Rattle.std.specs.Char.{is_ascii_digit}
-use Rattle.std.proofs.lemmas.Bool.{and_parts}
-use Rattle.std.proofs.lemmas.Bool.Decides.{nat_tests}
+use Rattle.smx_words.proofs.Common.{◌≡◌, ◌≢◌, ℕ, ◌<◌, ◌≤◌, Bool, true, false, ◌&&◌, List, [], ◌∷◌, length, map, arith}
+use Rattle.smx_words.proofs.Common.{rules, list_all, AllByRecursion, decimal, is_ascii_digit, and_parts, nat_tests}
+use Rattle.smx_words.proofs.Common.{Command, Fault, Reply, hex_word, is_digit, FitsBytes, FitsName, FitsNumber}
+use Rattle.smx_words.proofs.Common.{FitsReply, command_words, fault_words, reply_words, EQUALS, IsFree, IsWord}
 use Rattle.std.proofs.lemmas.Fmt.{decimal_nonempty}
 use Rattle.hex.specs.Hex.{encode_lower}
 use Rattle.smx_types.specs.Names.{is_name_byte}
-use Rattle.smx_types.specs.declared.command.Command.{Command}
 use Rattle.smx_types.specs.declared.command.Command.TheVariants as command
 use Rattle.smx_types.specs.declared.command.Sides.{Sides}
 use Rattle.smx_types.specs.declared.command.Sides.TheVariants as sides
 use Rattle.smx_types.specs.declared.command.Which.{Which}
 use Rattle.smx_types.specs.declared.command.Which.TheVariants as which
-use Rattle.smx_types.specs.declared.reply.Fault.{Fault}
 use Rattle.smx_types.specs.declared.reply.Fault.TheVariants as fault
-use Rattle.smx_types.specs.declared.reply.Reply.{Reply}
 use Rattle.smx_types.specs.declared.reply.Reply.TheVariants as reply
-use Rattle.smx_words.specs.HexWords.{hex_word, is_digit}
-use Rattle.smx_words.specs.Spellable.{FitsBytes, FitsCommand, FitsName, FitsNumber, FitsReply, FitsWhich}
-use Rattle.smx_words.specs.Spelling.{command_words, fault_words, reply_words, which_word, sides_word}
-use Rattle.smx_words.specs.Words.{EQUALS, IsFree, IsWord}
+use Rattle.smx_words.specs.Spellable.{FitsCommand, FitsWhich}
+use Rattle.smx_words.specs.Spelling.{which_word, sides_word}
 use Rattle.smx_words.proofs.HexLemmas.{encoded_digits, encoded_long}
 use Rattle.smx_words.proofs.LineLemmas.{all_weaker}
 use Rattle.smx_words.proofs.NumberLemmas.{decimal_digits}

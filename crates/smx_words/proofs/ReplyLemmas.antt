@@ -1,23 +1,17 @@
 -- The serials of a reply, and replies without a verb.
-use Rattle.std.proofs.Common.{◌≡◌, ◌≢◌, Bool, ℕ, List, [], ◌∷◌, ◌++◌, map, Option, Some, None, refl, sym, ap, ◌∙◌}
-use Rattle.std.proofs.Common.{append_assoc, arith}
-use Rattle.std.specs.List.{AllByRecursion}
-use Rattle.std.specs.Fmt.{decimal}
+use Rattle.smx_words.proofs.Common.{◌≡◌, ◌≢◌, Bool, ℕ, List, [], ◌∷◌, ◌++◌, map, Option, Some, None, refl, sym, ap}
+use Rattle.smx_words.proofs.Common.{◌∙◌, append_assoc, arith, AllByRecursion, decimal, Fault, Reply, IsReadAs}
+use Rattle.smx_words.proofs.Common.{FitsAlways, FitsNumber, FitsReply, fault_words, reply_words, reply_verb_word}
+use Rattle.smx_words.proofs.Common.{SPACE, line_of, V1}
 use Rattle.std.specs.Prelude.{codes, is_some, MatchBool, MatchOption}
-use Rattle.smx_types.specs.declared.reply.Fault.{Fault}
-use Rattle.smx_types.specs.declared.reply.Reply.{Reply}
 use Rattle.smx_types.specs.declared.reply.Reply.TheVariants as reply
 use Rattle.smx_words.specs.declared.reading.verb.ReplyVerb.{ReplyVerb}
 use Rattle.smx_words.specs.declared.reading.verb.ReplyVerb.TheVariants as reply_verb
-use Rattle.smx_words.specs.LineReading.{IsFoundIn, IsLineOf, IsReadAs}
-use Rattle.smx_words.specs.Spellable.{FitsAlways, FitsNumber, FitsReply, FitsReplyIn, FitsSerials}
-use Rattle.smx_words.specs.Spelling.{fault_words, reply_words}
-use Rattle.smx_words.specs.Verbs.{reply_verb_word}
-use Rattle.smx_words.specs.Words.{SPACE, line_of}
+use Rattle.smx_words.specs.LineReading.{IsFoundIn, IsLineOf}
+use Rattle.smx_words.specs.Spellable.{FitsReplyIn, FitsSerials}
 use Rattle.smx_words.proofs.CutLemmas.{apart, no_space_in}
 use Rattle.smx_words.proofs.LineLemmas.{all_append}
 use Rattle.smx_words.proofs.NumberLemmas.{number_free, same_number}
-use Rattle.smx_types.specs.declared.version.Version.TheVariants.{V1}
 
 -- the words of these serials, of which there is at least one
 abbrev pub Spell : List ℕ → List ℕ → Type 0

@@ -1,10 +1,8 @@
 -- Words contain no spaces.
-use Rattle.std.proofs.Common.{◌≡◌, ℕ, List, ◌∷◌, ◌++◌, sym, ap, ◌∙◌, arith, rules}
+use Rattle.smx_words.proofs.Common.{◌≡◌, ℕ, List, ◌∷◌, ◌++◌, sym, ap, ◌∙◌, arith, rules, FitsAlways, FitsName}
+use Rattle.smx_words.proofs.Common.{reply_verb_word, SPACE, IsFree}
 use Rattle.smx_words.specs.declared.reading.verb.ReplyVerb.{ReplyVerb}
 use Rattle.smx_words.specs.declared.reading.verb.ReplyVerb.TheVariants as reply_verb
-use Rattle.smx_words.specs.Spellable.{FitsAlways, FitsName}
-use Rattle.smx_words.specs.Verbs.{reply_verb_word}
-use Rattle.smx_words.specs.Words.{SPACE, IsFree}
 use Rattle.smx_words.proofs.CutLemmas.{apart}
 use Rattle.smx_words.proofs.DecidedLemmas.{HasWord}
 use Rattle.smx_words.proofs.DecidedWordLemmas.{name}

@@ -1,5 +1,4 @@
-use Rattle.std.proofs.Common.{◌∙◌, rules}
-use Rattle.smx_commands.specs.UnlinkTargets.{may_unlink}
+use Rattle.smx_commands.proofs.Common.{◌∙◌, rules, may_unlink}
 use Rattle.smx_tables.proofs.AboveLemmas.{some_with_id, none_with_id}
 use Rattle.smx_commands.proofs.commands_of_links.has_target.Goals as goal
 

@@ -1,9 +1,8 @@
-use Rattle.std.proofs.Common.{◌≡◌, ◌&&◌, eqb, subst}
+use Rattle.smx_commands.proofs.Common.{◌≡◌, ◌&&◌, eqb, subst, list_any, may_unlink}
 use Rattle.std.specs.Prelude.{Ok}
-use Rattle.std.specs.List.{list_any}
 use Rattle.smx_types.specs.declared.command.Which.{Which}
 use Rattle.smx_types.specs.declared.reply.Fault.TheVariants.{NoLink}
-use Rattle.smx_commands.specs.UnlinkTargets.{are_there, may_unlink}
+use Rattle.smx_commands.specs.UnlinkTargets.{are_there}
 use Rattle.smx_tables.proofs.AboveLemmas.{target_of_id}
 use Rattle.smx_commands.proofs.LookupLemmas.{is_there}
 use Rattle.smx_commands.proofs.commands_of_links.targets.Goals as goal

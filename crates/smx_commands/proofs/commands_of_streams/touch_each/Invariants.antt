@@ -1,8 +1,6 @@
-use Rattle.std.proofs.Common.{◌≡◌, ℕ, ◌+◌, ◌<◌, ◌≤◌, true, Some, length}
+use Rattle.smx_commands.proofs.Common.{◌≡◌, ℕ, ◌<◌, ◌≤◌, true, Some, length, list_any, StreamId, same_stream}
+use Rattle.std.proofs.Common.{◌+◌}
 use Rattle.std.specs.Prelude.{vec_capacity}
-use Rattle.std.specs.List.{list_any}
-use Rattle.smx_types.specs.declared.stream.StreamId.{StreamId}
-use Rattle.smx_model.specs.Configuration.{same_stream}
 use Rattle.smx_streams.specs.StreamTables.{stream_at}
 use Rattle.smx_commands.proofs.commands_of_streams.touch_each.Given as goal
 

@@ -1,5 +1,4 @@
-use Rattle.std.proofs.Common.{◌≡◌, ℕ, true, refl, subst}
-use Rattle.smx_queues.specs.Bits.{has_bit}
+use Rattle.smx_config.proofs.Common.{◌≡◌, ℕ, true, refl, subst, has_bit}
 use Rattle.smx_queues.proofs.PlacesOfLemmas.{same_number}
 use Rattle.smx_config.proofs.PlaceNumberLemmas.{none_found}
 use Rattle.smx_config.proofs.run_marks.mark_if_asked.Goals as goal

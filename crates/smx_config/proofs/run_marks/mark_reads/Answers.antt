@@ -1,5 +1,4 @@
-use Rattle.std.proofs.Common.{ℕ, subst, arith}
-use Rattle.smx_config.specs.Marking.{IsMarkedWhere}
+use Rattle.smx_config.proofs.Common.{ℕ, subst, arith, IsMarkedWhere}
 use Rattle.smx_config.proofs.RunMarkLemmas.{all_before, asks_before}
 use Rattle.smx_config.proofs.run_marks.mark_reads.Goals as goal
 

@@ -1,5 +1,4 @@
-use Rattle.std.proofs.Common.{subst, ℕ, arith}
-use Rattle.smx_config.specs.Marking.{IsMarkedWhere}
+use Rattle.smx_config.proofs.Common.{subst, ℕ, arith, IsMarkedWhere}
 use Rattle.smx_config.proofs.RunMarkLemmas.{all_minors, asks_below}
 use Rattle.smx_config.proofs.run_marks.mark_side.Goals as goal
 

@@ -1,5 +1,4 @@
-use Rattle.std.proofs.Common.{◌∙◌, ap, sym}
-use Rattle.smx_model.specs.RunMarks.{next_of}
+use Rattle.smx_config.proofs.Common.{◌∙◌, ap, sym, next_of}
 use Rattle.smx_config.proofs.NextMoveLemmas.{none_if_not_some, unmarked}
 use Rattle.smx_config.proofs.PlaceNumberLemmas.{place_of_number}
 use Rattle.smx_config.proofs.settling.clear_if_empty.Goals as goal

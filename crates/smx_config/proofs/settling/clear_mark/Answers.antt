@@ -1,6 +1,5 @@
-use Rattle.std.proofs.Common.{subst, Option, ℕ}
+use Rattle.smx_config.proofs.Common.{subst, Option, ℕ, IsFullAt, IsNextOf}
 use Rattle.std.specs.Prelude.{IfSome}
-use Rattle.smx_config.specs.Moves.{IsFullAt, IsNextOf}
 use Rattle.smx_config.proofs.NextMoveLemmas.{held_up, unmarked}
 use Rattle.smx_config.proofs.PlaceNumberLemmas.{place_of_number}
 use Rattle.smx_config.proofs.settling.clear_mark.Goals as goal

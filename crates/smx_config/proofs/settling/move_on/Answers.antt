@@ -1,14 +1,8 @@
-use Rattle.std.proofs.Common.{◌≡◌, ◌∙◌, true, sym, subst, inl, inr, ℕ, arith}
-use Rattle.std.proofs.lemmas.Bool.{false≢true}
-use Rattle.smx_types.specs.declared.stream.Place.{Place}
-use Rattle.smx_model.specs.Configuration.{same_place}
-use Rattle.smx_model.specs.Settling.{after_move}
-use Rattle.smx_model.specs.RunMarks.{turned_by_move}
+use Rattle.smx_config.proofs.Common.{◌≡◌, ◌∙◌, true, sym, subst, inl, inr, ℕ, arith, false≢true, Place, same_place}
+use Rattle.smx_config.proofs.Common.{after_move, turned_by_move, has_bit, Machine, Marks, AreMarks, IsAt}
+use Rattle.smx_config.proofs.Common.{IsMarkedWhere}
 use Rattle.smx_model.proofs.WaitingLemmas.{first_left}
-use Rattle.smx_queues.specs.Bits.{has_bit}
-use Rattle.smx_commands.specs.Machine.{Machine}
-use Rattle.smx_config.specs.declared.marks.Marks.{Marks}
-use Rattle.smx_config.specs.Marking.{AreMarks, AreOver, IsAt, IsMarkedWhere, IsNumber, IsReleased}
+use Rattle.smx_config.specs.Marking.{AreOver, IsNumber, IsReleased}
 use Rattle.smx_queues.proofs.PlaceLemmas.{place_self}
 use Rattle.smx_config.proofs.MoveLemmas.{moved_marks, moves_there}
 use Rattle.smx_config.proofs.NextMoveLemmas.{movable_marked, movable_to}

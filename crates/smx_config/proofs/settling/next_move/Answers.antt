@@ -1,8 +1,4 @@
-use Rattle.std.proofs.Common.{subst, arith, sym}
-use Rattle.smx_model.proofs.LeastMarkedLemmas.{none_is_least}
-use Rattle.smx_queues.specs.Bits.{BitTable}
-use Rattle.smx_config.specs.Marking.{AreMarks}
-use Rattle.smx_config.specs.Moves.{IsNextOf}
+use Rattle.smx_config.proofs.Common.{subst, arith, sym, none_is_least, BitTable, AreMarks, IsNextOf}
 use Rattle.smx_config.proofs.NextMoveLemmas.{least_is, movable_to, moves_to, none_marked, with_run}
 use Rattle.smx_config.proofs.PlaceNumberLemmas.{place_of_number}
 use Rattle.smx_config.proofs.settling.next_move.Goals as goal

@@ -1,6 +1,5 @@
+use Rattle.smx_config.proofs.Common.{AreMarks, AreHops}
 use Rattle.smx_queues.specs.Bits.{bit_count}
-use Rattle.smx_config.specs.Marking.{AreMarks}
-use Rattle.smx_config.specs.Ways.{AreHops}
 use Rattle.smx_config.proofs.settling.next_move.Given as goal
 
 abbrev pub decreases-loop-from : goal.decreases-loop-from

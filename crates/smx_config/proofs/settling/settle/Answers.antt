@@ -1,7 +1,5 @@
-use Rattle.std.proofs.Common.{sym, subst, arith}
-use Rattle.smx_queues.specs.Bits.{BitTable}
-use Rattle.smx_config.specs.Marking.{AreMarks}
-use Rattle.smx_model.proofs.LeastMarkedLemmas.{none_is_least, settling_stays}
+use Rattle.smx_config.proofs.Common.{sym, subst, arith, BitTable, AreMarks, none_is_least}
+use Rattle.smx_model.proofs.LeastMarkedLemmas.{settling_stays}
 use Rattle.smx_config.proofs.NextMoveLemmas.{if_none, none_marked, with_run}
 use Rattle.smx_config.proofs.settling.settle.Goals as goal
 

@@ -1,6 +1,5 @@
-use Rattle.std.proofs.Common.{◌∙◌, arith, ap, refl}
+use Rattle.smx_config.proofs.Common.{◌∙◌, arith, ap, refl, Machine}
 use Rattle.smx_model.proofs.KeptLemmas.{moved_sound, settled_kept}
-use Rattle.smx_commands.specs.Machine.{Machine}
 use Rattle.smx_config.proofs.SettleLemmas.{settled_one, settled_to, within_zero}
 use Rattle.smx_config.proofs.NextMoveLemmas.{none_left}
 use Rattle.smx_config.proofs.WayLemmas.{hops_kept, move_keeps}

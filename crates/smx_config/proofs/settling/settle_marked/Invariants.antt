@@ -1,8 +1,5 @@
-use Rattle.std.proofs.Common.{◌≡◌}
-use Rattle.smx_model.specs.KeptConfigurations.{IsSound}
+use Rattle.smx_config.proofs.Common.{◌≡◌, IsSound, AreMarks, AreHops}
 use Rattle.smx_model.specs.Settling.{after_settling, after_settling_within}
-use Rattle.smx_config.specs.Marking.{AreMarks}
-use Rattle.smx_config.specs.Ways.{AreHops}
 use Rattle.smx_config.proofs.settling.settle_marked.Given as goal
 
 abbrev pub decreases-loop-left : goal.decreases-loop-left

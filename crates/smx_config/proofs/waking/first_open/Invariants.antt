@@ -1,6 +1,5 @@
-use Rattle.std.proofs.Common.{◌≡◌, ◌-◌, ◌<◌, true, ℕ}
-use Rattle.smx_queues.specs.Bits.{has_bit}
-use Rattle.smx_config.specs.Moves.{IsFullAt}
+use Rattle.smx_config.proofs.Common.{◌≡◌, ◌<◌, true, ℕ, has_bit, IsFullAt}
+use Rattle.std.proofs.Common.{◌-◌}
 use Rattle.smx_config.proofs.waking.first_open.Given as goal
 
 abbrev pub decreases-loop-start : goal.decreases-loop-start

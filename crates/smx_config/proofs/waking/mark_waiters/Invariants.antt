@@ -1,6 +1,5 @@
-use Rattle.std.proofs.Common.{◌≡◌}
+use Rattle.smx_config.proofs.Common.{◌≡◌, AreKept}
 use Rattle.smx_queues.specs.Rings.{ring_count}
-use Rattle.smx_config.specs.Marking.{AreKept}
 use Rattle.smx_config.proofs.waking.mark_waiters.Given as goal
 
 abbrev pub decreases-loop-waiter : goal.decreases-loop-waiter

@@ -1,7 +1,6 @@
-use Rattle.std.proofs.Common.{Some, [], refl, subst, sym}
+use Rattle.smx_explain.proofs.Common.{Some, [], refl, subst, sym, IsColumn}
 use Rattle.smx_explain.proofs.ColumnLemmas.{HasCome, at_begin, at_end, one_more, stops_here}
 use Rattle.smx_explain.proofs.columns.column_of.Goals as goal
-use Rattle.smx_explain.specs.Columns.{IsColumn}
 
 pub words-init : goal.words-init
 words-init c = subst (λ next. HasCome c.args.kind c.args.version c.args.line.now 1 (Some c.args.line) [] next)

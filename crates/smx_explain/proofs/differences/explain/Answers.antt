@@ -1,11 +1,10 @@
-use Rattle.std.proofs.Common.{subst}
+use Rattle.smx_explain.proofs.Common.{subst, AreAlike}
 use Rattle.smx_model.proofs.QuietHistoryLemmas.{quiet_replies, quiet_streams}
 use Rattle.smx_text.proofs.TranscriptGrammarLemmas.{versions}
 use Rattle.smx_text.proofs.VersionLemmas.{one_reading_of_all}
 use Rattle.smx_text.specs.TranscriptText.{transcript_grammar}
 use Rattle.smx_trace.proofs.QuietLemmas.{can_be_expressed}
 use Rattle.smx_explain.proofs.ExplanationLemmas.{reports_nothing}
-use Rattle.smx_explain.specs.Differences.{AreAlike}
 use Rattle.smx_explain.proofs.differences.explain.Goals as goal
 
 pub returns-clause-told : goal.returns-clause-told

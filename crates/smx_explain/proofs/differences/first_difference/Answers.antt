@@ -1,6 +1,5 @@
-use Rattle.std.proofs.Common.{◌≡◌, ◌∷◌, length, rules, arith, ap}
+use Rattle.smx_explain.proofs.Common.{◌≡◌, ◌∷◌, length, rules, arith, ap, LINE_FEED}
 use Rattle.std.proofs.lemmas.List.{length-append}
-use Rattle.smx_words.specs.Words.{LINE_FEED}
 use Rattle.smx_explain.proofs.DifferenceLemmas.{one_more}
 use Rattle.smx_explain.proofs.differences.first_difference.Goals as goal
 

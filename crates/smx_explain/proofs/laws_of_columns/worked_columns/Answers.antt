@@ -1,5 +1,4 @@
-use Rattle.std.proofs.Common.{[], ◌∷◌, inl, inr, refl, arith, rules}
-use Rattle.std.specs.Prelude.{codes}
+use Rattle.smx_explain.proofs.Common.{[], ◌∷◌, inl, inr, refl, arith, rules, codes}
 use Rattle.smx_explain.proofs.WorkedColumnLemmas as worked
 use Rattle.smx_explain.proofs.laws_of_columns.worked_columns.Goals as goal
 

@@ -1,7 +1,6 @@
-use Rattle.std.proofs.Common.{refl, subst}
+use Rattle.smx_explain.proofs.Common.{refl, subst, IsFixed}
 use Rattle.smx_explain.proofs.RowLemmas.{equals_behind}
 use Rattle.smx_explain.proofs.rows.command.Goals as goal
-use Rattle.smx_explain.specs.Rows.{IsFixed}
 use Rattle.smx_explain.specs.declared.kinds.Choice.TheVariants.{Command}
 
 pub returns-in-Some : goal.returns-in-Some

@@ -1,5 +1,4 @@
-use Rattle.std.proofs.Common.{◌∙◌, ap, inr, refl, subst}
-use Rattle.smx_explain.specs.Columns.{IsPartAt, first_of}
+use Rattle.smx_explain.proofs.Common.{◌∙◌, ap, inr, refl, subst, IsPartAt, first_of}
 use Rattle.smx_explain.specs.Hints.{IsHintOn}
 use Rattle.smx_explain.proofs.session_line.explain_line.Goals as goal
 

@@ -1,8 +1,7 @@
-use Rattle.std.proofs.Common.{Err, subst}
+use Rattle.smx_filters.proofs.Common.{Err, subst, Answers}
 use Rattle.smx_filters.proofs.ExplainTextLemmas.{kept_so}
 use Rattle.smx_filters.proofs.draw.draw_text.Goals as goal
 use Rattle.smx_filters.specs.DrawText.{drawing}
-use Rattle.smx_filters.specs.Filters.{Answers}
 
 pub returns-in-Err : goal.returns-in-Err
 returns-in-Err g c =

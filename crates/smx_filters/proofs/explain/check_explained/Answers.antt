@@ -1,8 +1,7 @@
-use Rattle.std.proofs.Common.{Err, subst}
+use Rattle.smx_filters.proofs.Common.{Err, subst, Answers}
 use Rattle.smx_filters.proofs.ExplainTextLemmas.{kept_so}
 use Rattle.smx_filters.proofs.explain.check_explained.Goals as goal
 use Rattle.smx_filters.specs.ExplainText.{explaining}
-use Rattle.smx_filters.specs.Filters.{Answers}
 
 pub returns-in-Err : goal.returns-in-Err
 returns-in-Err g c =

@@ -1,8 +1,6 @@
-use Rattle.std.proofs.Common.{Err, subst}
+use Rattle.smx_filters.proofs.Common.{Err, subst, running, Answers}
 use Rattle.smx_filters.proofs.ExplainTextLemmas.{kept_so}
 use Rattle.smx_filters.proofs.explain.run_explained.Goals as goal
-use Rattle.smx_filters.specs.RunText.{running}
-use Rattle.smx_filters.specs.Filters.{Answers}
 
 pub returns-in-Err : goal.returns-in-Err
 returns-in-Err g c =

@@ -1,7 +1,6 @@
-use Rattle.std.proofs.Common.{◌≡◌, ◌+◌, ◌≤◌, take, length, arith, sym, subst, ap, ◌∙◌}
+use Rattle.smx_filters.proofs.Common.{◌≡◌, ◌+◌, ◌≤◌, take, length, arith, sym, subst, ap, ◌∙◌, Consumes}
 use Rattle.std.proofs.lemmas.List.{length-take-le}
 use Rattle.std.proofs.KnownBytes.{Consumes-trans}
-use Rattle.std.specs.Io.KnownBytes.{Consumes}
 use Rattle.smx_filters.proofs.InputLemmas.{with_piece, failed_with, too_long_with}
 use Rattle.smx_filters.proofs.input.read_all.Goals as goal
 

@@ -1,6 +1,5 @@
-use Rattle.std.proofs.Common.{◌≡◌, ◌+◌, ◌-◌, ◌≤◌, false, take, vec_len}
-use Rattle.std.specs.Io.KnownBytes.{Consumes}
-use Rattle.smx_filters.specs.declared.input.TheConstants.{MAX_INPUT}
+use Rattle.smx_filters.proofs.Common.{◌≡◌, ◌+◌, ◌-◌, ◌≤◌, false, take, Consumes, MAX_INPUT}
+use Rattle.std.proofs.Common.{vec_len}
 use Rattle.smx_filters.proofs.input.read_all.Given as goal
 
 abbrev pub invariant-reads : goal.invariant-reads

@@ -1,5 +1,4 @@
-use Rattle.std.proofs.Common.{◌≡◌, ◌-◌, ◌≤◌, length, take}
-use Rattle.std.specs.Io.KnownBytes.{Appends}
+use Rattle.smx_filters.proofs.Common.{◌≡◌, ◌-◌, ◌≤◌, length, take, Appends}
 use Rattle.smx_filters.proofs.output.write_all.Given as goal
 
 abbrev pub invariant-loop-at : goal.invariant-loop-at

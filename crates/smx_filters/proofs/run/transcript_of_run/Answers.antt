@@ -1,5 +1,4 @@
-use Rattle.std.proofs.Common.{◌≡◌, List, subst, ◌∙◌, inl}
-use Rattle.smx_types.specs.declared.command.Entry.{Entry}
+use Rattle.smx_filters.proofs.Common.{◌≡◌, List, subst, ◌∙◌, inl, Entry}
 use Rattle.smx_model.specs.Histories.{after}
 use Rattle.smx_model.specs.Views.{view}
 use Rattle.smx_text.specs.GrowingTranscripts.{AreEntryLines}

@@ -1,8 +1,7 @@
-use Rattle.std.proofs.Common.{Err, sym, subst}
+use Rattle.smx_filters.proofs.Common.{Err, sym, subst, Answers, GivesFor}
 use Rattle.smx_filters.proofs.ExplainTextLemmas.{kept_so, kept_when_cut_short, kept_when_written}
 use Rattle.smx_filters.proofs.steps.steps_text.Goals as goal
 use Rattle.smx_filters.specs.StepsText.{stepping}
-use Rattle.smx_filters.specs.Filters.{Answers, GivesFor}
 
 pub returns-in-Err : goal.returns-in-Err
 returns-in-Err g c =

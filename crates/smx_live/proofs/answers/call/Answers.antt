@@ -1,8 +1,5 @@
-use Rattle.std.proofs.Common.{refl, subst}
-use Rattle.smx_session.specs.Sessions.{State}
+use Rattle.smx_live.proofs.Common.{refl, subst, State, Progress, Entered}
 use Rattle.smx_live.specs.LiveTurns.{TakesTurn}
-use Rattle.smx_live.specs.declared.talk.Progress.{Progress}
-use Rattle.smx_live.specs.Turns.{Entered}
 use Rattle.smx_live.proofs.LiveStageLemmas.{answered_with}
 use Rattle.smx_live.proofs.answers.call.Goals as goal
 

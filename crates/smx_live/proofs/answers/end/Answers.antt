@@ -1,6 +1,4 @@
-use Rattle.std.proofs.Common.{refl}
-use Rattle.smx_live.specs.Turns.{NotDone}
-use Rattle.smx_live.specs.declared.turn_fault.TurnFault.TheVariants.{NoMemory}
+use Rattle.smx_live.proofs.Common.{refl, NotDone, NoMemory}
 use Rattle.smx_live.proofs.LiveStageLemmas.{answered_alone}
 use Rattle.smx_live.proofs.answers.end.Goals as goal
 

@@ -1,5 +1,4 @@
-use Rattle.std.proofs.Common.{◌∙◌, refl}
-use Rattle.smx_live.specs.Turns.{NotDone}
+use Rattle.smx_live.proofs.Common.{◌∙◌, refl, NotDone}
 use Rattle.smx_live.proofs.LiveStageLemmas.{answered_alone, answered_with, unexplained}
 use Rattle.smx_live.proofs.answers.refuse.Goals as goal
 

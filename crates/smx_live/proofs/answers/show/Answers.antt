@@ -1,8 +1,4 @@
-use Rattle.std.proofs.Common.{◌∙◌, refl}
-use Rattle.smx_model.specs.Views.{view}
-use Rattle.smx_live.specs.Turns.{NotDone, Shown}
-use Rattle.smx_live.specs.declared.talk.Progress.{Progress}
-use Rattle.smx_live.specs.declared.turn_fault.TurnFault.TheVariants.{NoMemory}
+use Rattle.smx_live.proofs.Common.{◌∙◌, refl, view, NotDone, Shown, Progress, NoMemory}
 use Rattle.smx_live.proofs.LiveStageLemmas.{answered_alone}
 use Rattle.smx_live.proofs.answers.show.Goals as goal
 

@@ -1,6 +1,5 @@
-use Rattle.std.proofs.Common.{Err, inl, inr}
-use Rattle.smx_text.specs.Grammar.{ReadsAny}
-use Rattle.smx_text.specs.ProgramsText.{programs_grammar}
+use Rattle.smx_live.proofs.Common.{inl, inr, ReadsAny, programs_grammar}
+use Rattle.std.proofs.Common.{Err}
 use Rattle.smx_live.specs.LiveText.{RefusesDriversOf}
 use Rattle.smx_live.proofs.TableFaultLemmas.{no_endless, one_fault, one_refusal, text_or_drivers}
 use Rattle.smx_live.proofs.laws_of_live.a_table_has_one_fault.Goals as goal

@@ -1,10 +1,5 @@
-use Rattle.std.proofs.Common.{[], ◌+◌, arith, drop, false, inl, inr, refl, rules, subst, take, true}
-use Rattle.std.specs.Prelude.{codes}
-use Rattle.smx_model.specs.Histories.{call_of}
-use Rattle.smx_text.proofs.LineLemmas.{not_one}
-use Rattle.smx_text.specs.Grammar.{IsOneLine}
-use Rattle.smx_types.specs.declared.version.Version.TheVariants.{V2}
-use Rattle.smx_live.specs.WorkedLives.{worked_table}
+use Rattle.smx_live.proofs.Common.{[], ◌+◌, arith, drop, false, inl, inr, refl, rules, subst, take, true, codes}
+use Rattle.smx_live.proofs.Common.{call_of, not_one, IsOneLine, V2, worked_table}
 use Rattle.smx_live.proofs.AskedLineLemmas.{neither, no_call_line}
 use Rattle.smx_live.proofs.OverTableLemmas.{table_once}
 use Rattle.smx_live.proofs.TableLemmas.{over_at_the_end, over_within}

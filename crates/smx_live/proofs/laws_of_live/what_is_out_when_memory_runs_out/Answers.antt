@@ -1,5 +1,4 @@
-use Rattle.std.proofs.Common.{◌≡◌, [], ap, drop}
-use Rattle.std.specs.Prelude.{codes}
+use Rattle.smx_live.proofs.Common.{◌≡◌, [], ap, drop, codes}
 use Rattle.smx_live.proofs.BrokenLiveLemmas.{answers_out, not_out, opening_out}
 use Rattle.smx_live.proofs.laws_of_live.what_is_out_when_memory_runs_out.Goals as goal
 

@@ -1,5 +1,4 @@
-use Rattle.std.proofs.Common.{[], ◌∷◌, arith, false, refl, rules}
-use Rattle.std.specs.Prelude.{codes}
+use Rattle.smx_live.proofs.Common.{[], ◌∷◌, arith, false, refl, rules, codes}
 use Rattle.smx_live.proofs.OverTableLemmas.{finished, table_once}
 use Rattle.smx_live.proofs.WorkedLiveLemmas.{behind_drivers, drivers_lines}
 use Rattle.smx_live.proofs.laws_of_live.where_a_table_is_over.Goals as goal

@@ -1,19 +1,16 @@
-use Rattle.std.proofs.Common.{◌≡◌, ◌∙◌, [], ◌∷◌, Err, Ok, Result, ap, arith, refl, rules, subst, sym}
+use Rattle.smx_live.proofs.Common.{◌≡◌, ◌∙◌, [], ◌∷◌, ap, arith, refl, rules, subst, sym, codes, V2, eth, Spells}
+use Rattle.smx_live.proofs.Common.{programs_grammar, table_text, worked_table}
+use Rattle.std.proofs.Common.{Err, Ok, Result}
 use Rattle.std.proofs.lemmas.Option.{same_Some}
-use Rattle.std.specs.Prelude.{codes}
 use Rattle.smx_types.specs.Drivers.{spec_check}
 use Rattle.smx_types.specs.declared.driver.SpecFault.{SpecFault}
 use Rattle.smx_types.specs.declared.driver.SpecFault.TheVariants.{BadMinors}
-use Rattle.smx_types.specs.declared.version.Version.TheVariants.{V2}
 use Rattle.smx_model.specs.DriverList.{IsDriverList}
-use Rattle.smx_model.specs.Worked.Common.{eth, leaf}
+use Rattle.smx_model.specs.Worked.Common.{leaf}
 use Rattle.smx_config.specs.declared.config_fault.ConfigFault.TheVariants as config
 use Rattle.smx_run.specs.RunFaults.{RefusesAlone}
 use Rattle.smx_run.specs.declared.run_fault.RunFault.TheVariants as run
-use Rattle.smx_text.specs.Grammar.{Spells}
-use Rattle.smx_text.specs.ProgramsText.{programs_grammar}
-use Rattle.smx_live.specs.Tables.{table_text}
-use Rattle.smx_live.specs.WorkedLives.{minorless_text, worked_table}
+use Rattle.smx_live.specs.WorkedLives.{minorless_text}
 use Rattle.smx_live.proofs.TableFaultLemmas.{drivers_of}
 use Rattle.smx_live.proofs.WorkedLiveLemmas.{minorless, of_one, worked}
 use Rattle.smx_live.proofs.laws_of_live.whose_drivers_are_refused.Goals as goal

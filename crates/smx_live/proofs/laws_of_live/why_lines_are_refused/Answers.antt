@@ -1,7 +1,6 @@
-use Rattle.std.proofs.Common.{arith, refl}
-use Rattle.std.specs.Prelude.{codes}
-use Rattle.smx_model.specs.Worked.Common.{OpenClone, eth}
-use Rattle.smx_types.specs.declared.version.Version.TheVariants.{V1, V2}
+use Rattle.smx_live.proofs.Common.{arith, refl, codes, eth, V2}
+use Rattle.smx_model.specs.Worked.Common.{OpenClone}
+use Rattle.smx_types.specs.declared.version.Version.TheVariants.{V1}
 use Rattle.smx_live.proofs.AskedLineLemmas.{neither, no_call_line}
 use Rattle.smx_live.proofs.WorkedLiveLemmas.{cloned}
 use Rattle.smx_live.proofs.laws_of_live.why_lines_are_refused.Goals as goal

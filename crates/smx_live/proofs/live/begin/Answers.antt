@@ -1,7 +1,5 @@
-use Rattle.std.proofs.Common.{◌≡◌, ◌∙◌, ℕ, List, Err, subst}
-use Rattle.smx_text.specs.Grammar.{ReadsAny}
-use Rattle.smx_text.specs.ProgramsText.{programs_grammar}
-use Rattle.smx_live.specs.Tables.{table_text}
+use Rattle.smx_live.proofs.Common.{◌≡◌, ◌∙◌, ℕ, List, subst, ReadsAny, programs_grammar, table_text}
+use Rattle.std.proofs.Common.{Err}
 use Rattle.smx_live.proofs.live.begin.Goals as goal
 
 pub returns-in-Err-Text : goal.returns-in-Err-Text

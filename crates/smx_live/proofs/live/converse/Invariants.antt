@@ -1,5 +1,4 @@
-use Rattle.std.proofs.Common.{◌≡◌, ℕ, true, List, length}
-use Rattle.smx_live.specs.LiveText.{IsLive}
+use Rattle.smx_live.proofs.Common.{◌≡◌, ℕ, true, List, length, IsLive}
 use Rattle.smx_live.proofs.LiveStageLemmas.{HasGone}
 use Rattle.smx_live.proofs.live.converse.Given as goal
 

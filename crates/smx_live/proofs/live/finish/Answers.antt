@@ -1,7 +1,6 @@
-use Rattle.std.proofs.Common.{◌++◌, ℕ, List, inr, refl}
-use Rattle.std.specs.Prelude.{⊤}
+use Rattle.smx_live.proofs.Common.{◌++◌, ℕ, List, inr, refl, ⊤, IsOver}
 use Rattle.smx_live.specs.LiveStages.{IsPossible}
-use Rattle.smx_live.specs.LiveText.{IsOver, cut_words}
+use Rattle.smx_live.specs.LiveText.{cut_words}
 use Rattle.smx_live.proofs.LiveLemmas.{at_its_end}
 use Rattle.smx_live.proofs.LiveStageLemmas.{said}
 use Rattle.smx_live.proofs.live.finish.Goals as goal

@@ -1,6 +1,4 @@
-use Rattle.std.proofs.Common.{◌++◌, ◌∙◌, ℕ, List, ap, subst, sym}
-use Rattle.smx_live.specs.Inboxes.{FailsToRead}
-use Rattle.smx_live.specs.Tables.{IsEndlessTable, IsUnfinished}
+use Rattle.smx_live.proofs.Common.{◌++◌, ◌∙◌, ℕ, List, ap, subst, sym, FailsToRead, IsEndlessTable, IsUnfinished}
 use Rattle.smx_live.proofs.LiveLemmas.{begun}
 use Rattle.smx_live.proofs.LiveTextLemmas.{answered_all, no_opening, no_session, no_table}
 use Rattle.smx_live.proofs.live.live_text.Goals as goal

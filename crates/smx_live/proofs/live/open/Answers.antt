@@ -1,6 +1,4 @@
-use Rattle.std.proofs.Common.{ℕ, List, []}
-use Rattle.std.specs.Prelude.{⊤}
-use Rattle.smx_text.specs.GrowingTranscripts.{BeginsTranscript}
+use Rattle.smx_live.proofs.Common.{ℕ, List, [], ⊤, BeginsTranscript}
 use Rattle.smx_live.proofs.LiveStageLemmas.{said}
 use Rattle.smx_live.proofs.live.open.Goals as goal
 

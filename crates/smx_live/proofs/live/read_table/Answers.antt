@@ -1,9 +1,8 @@
-use Rattle.std.proofs.Common.{◌≡◌, ◌⊎◌, ◌+◌, ◌++◌, ◌∙◌, ℕ, true, List, [], ◌∷◌, ap, arith, inl, inr, length, refl}
-use Rattle.std.proofs.Common.{sym, take}
-use Rattle.std.proofs.KnownBytes.{Consumes-nil, Consumes-trans}
+use Rattle.smx_live.proofs.Common.{◌≡◌, ◌+◌, ◌++◌, ◌∙◌, ℕ, true, List, [], ◌∷◌, ap, arith, inl, inr, length, refl}
+use Rattle.smx_live.proofs.Common.{sym, take, Consumes-trans, lines_text, begins_driver}
+use Rattle.std.proofs.Common.{◌⊎◌}
+use Rattle.std.proofs.KnownBytes.{Consumes-nil}
 use Rattle.std.proofs.lemmas.List.{append-nil}
-use Rattle.smx_words.specs.Words.{lines_text}
-use Rattle.smx_live.specs.Tables.{begins_driver}
 use Rattle.smx_live.proofs.InboxLemmas.{moved, unmoved}
 use Rattle.smx_live.proofs.TableLemmas.{fails_with, has_table, one_line_more, over_at_a_line, text_more}
 use Rattle.smx_live.proofs.live.read_table.Goals as goal

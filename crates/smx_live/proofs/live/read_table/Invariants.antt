@@ -1,8 +1,5 @@
-use Rattle.std.proofs.Common.{◌≡◌, ℕ, ◌+◌, ◌-◌, List, [], ◌++◌, length}
-use Rattle.std.specs.Io.KnownBytes.{Consumes}
-use Rattle.smx_filters.specs.declared.input.TheConstants.{MAX_INPUT}
-use Rattle.smx_words.specs.Words.{lines_text}
-use Rattle.smx_live.specs.Tables.{AreOfTable}
+use Rattle.smx_live.proofs.Common.{◌≡◌, ℕ, ◌+◌, List, [], ◌++◌, length, Consumes, MAX_INPUT, lines_text, AreOfTable}
+use Rattle.std.proofs.Common.{◌-◌}
 use Rattle.smx_live.proofs.live.read_table.Given as goal
 
 abbrev pub invariant-lines : goal.invariant-lines

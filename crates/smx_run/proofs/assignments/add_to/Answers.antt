@@ -1,7 +1,6 @@
-use Rattle.std.proofs.Common.{rules, ◌≡◌, ℕ, ◌%◌, ◌<◌, ap, refl, vec_len}
+use Rattle.smx_run.proofs.Common.{rules, ◌≡◌, ℕ, ◌%◌, ◌<◌, ap, refl, vec_len, given, known_at, assigned_calls, Calls}
+use Rattle.smx_run.proofs.Common.{calls_of}
 use Rattle.std.proofs.Math.Nat.{mod-lt}
-use Rattle.smx_run.specs.Assignments.{given, known_at, assigned_calls}
-use Rattle.smx_run.specs.ProgramOrder.{Calls, calls_of}
 use Rattle.smx_run.proofs.AssignmentLemmas.{pushed, put_more}
 use Rattle.smx_run.proofs.assignments.add_to.Goals as goal
 

@@ -1,10 +1,7 @@
-use Rattle.std.proofs.Common.{rules, ◌≡◌, ◌+◌, ◌++◌, ◌∷◌, [], ℕ, arith, length, map, ap, ◌∙◌}
-use Rattle.std.specs.Vec.Iter.{into_iter_items}
-use Rattle.std.proofs.lemmas.List.{length-append, length-map}
-use Rattle.smx_run.specs.Assignments.{assigned_calls, assignment_of, IsFresh}
-use Rattle.smx_run.specs.ProgramOrder.{numbered}
-use Rattle.smx_run.proofs.AssignmentLemmas.{assignments_are, none_assigned, none_left, all_assigned}
-use Rattle.smx_run.proofs.AssignmentLemmas.{next_seat, assign_next, take_off}
+use Rattle.smx_run.proofs.Common.{rules, ◌≡◌, ◌+◌, ◌++◌, ◌∷◌, [], ℕ, arith, length, map, ap, ◌∙◌, into_iter_items}
+use Rattle.smx_run.proofs.Common.{length-append, length-map, assigned_calls, assignment_of, IsFresh, numbered}
+use Rattle.smx_run.proofs.AssignmentLemmas.{assignments_are, none_assigned, none_left, all_assigned, next_seat}
+use Rattle.smx_run.proofs.AssignmentLemmas.{assign_next, take_off}
 use Rattle.smx_run.proofs.assignments.assign.Goals as goal
 
 pub loop-seat-init : goal.loop-seat-init

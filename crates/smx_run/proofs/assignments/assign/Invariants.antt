@@ -1,9 +1,6 @@
-use Rattle.std.proofs.Common.{◌≡◌, ◌<◌, ℕ, ◌++◌, [], All, length, map, get_or, vec_len}
-use Rattle.std.specs.List.{range_with_len}
-use Rattle.std.specs.Vec.Iter.{into_iter_items, into_iter_len}
-use Rattle.smx_shared.specs.Seats.{Seated, SharedId}
-use Rattle.smx_run.specs.Assignments.{assigned_calls, assignment_of, AreFresh, IsFresh}
-use Rattle.smx_run.specs.ProgramOrder.{numbered}
+use Rattle.smx_run.proofs.Common.{◌≡◌, ◌<◌, ℕ, ◌++◌, [], All, length, map, get_or, vec_len, range_with_len}
+use Rattle.smx_run.proofs.Common.{into_iter_items, into_iter_len, Seated, SharedId, assigned_calls, assignment_of}
+use Rattle.smx_run.proofs.Common.{AreFresh, IsFresh, numbered}
 use Rattle.smx_run.proofs.assignments.assign.Given as goal
 
 abbrev pub invariant-loop-seat : goal.invariant-loop-seat

@@ -1,8 +1,6 @@
-use Rattle.std.proofs.Common.{◌≡◌, ◌≤◌, ◌<◌, ℕ, ◌++◌, [], All, drop, map, get_or, vec_len}
-use Rattle.std.specs.Prelude.{vec_capacity}
-use Rattle.smx_shared.specs.Seats.{SharedId}
-use Rattle.smx_run.specs.Assignments.{made_calls, assignment_of, HaveEnded}
-use Rattle.smx_run.specs.ProgramOrder.{numbered}
+use Rattle.smx_run.proofs.Common.{◌≡◌, ◌≤◌, ◌<◌, ℕ, ◌++◌, [], All, drop, map, get_or, vec_len, vec_capacity, SharedId}
+use Rattle.smx_run.proofs.Common.{made_calls, assignment_of, numbered}
+use Rattle.smx_run.specs.Assignments.{HaveEnded}
 use Rattle.smx_run.proofs.assignments.collect.Given as goal
 
 abbrev pub invariant-loop-process : goal.invariant-loop-process

@@ -1,5 +1,4 @@
-use Rattle.std.proofs.Common.{rules, ap, map, sym, ◌∙◌}
-use Rattle.smx_run.specs.Assignments.{given, known_at, assigned_calls, AreFresh, IsFresh}
+use Rattle.smx_run.proofs.Common.{rules, ap, map, sym, ◌∙◌, given, known_at, assigned_calls, AreFresh, IsFresh}
 use Rattle.smx_run.proofs.AssignmentLemmas.{pushed, one_empty_more, all_more, all_of_none}
 use Rattle.smx_run.proofs.assignments.empty_assignments.Goals as goal
 

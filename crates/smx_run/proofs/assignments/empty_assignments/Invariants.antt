@@ -1,7 +1,5 @@
-use Rattle.std.proofs.Common.{◌≡◌, ◌≤◌, [], All, map, vec_len}
-use Rattle.std.specs.Prelude.{vec_capacity}
-use Rattle.smx_shared.specs.Seats.{SharedId}
-use Rattle.smx_run.specs.Assignments.{assigned_calls, assignments_of, AreFresh}
+use Rattle.smx_run.proofs.Common.{◌≡◌, ◌≤◌, [], All, map, vec_len, vec_capacity, SharedId, assigned_calls, AreFresh}
+use Rattle.smx_run.specs.Assignments.{assignments_of}
 use Rattle.smx_run.proofs.assignments.empty_assignments.Given as goal
 
 abbrev pub invariant-loop : goal.invariant-loop

@@ -1,5 +1,4 @@
-use Rattle.std.proofs.Common.{rules, ◌<◌, length}
-use Rattle.smx_run.specs.Assignments.{called, known_at, made_calls}
+use Rattle.smx_run.proofs.Common.{rules, ◌<◌, length, called, known_at, made_calls}
 use Rattle.smx_run.proofs.AssignmentLemmas.{first_and_rest, take_from, keep_others}
 use Rattle.smx_run.proofs.assignments.take_first.Goals as goal
 

@@ -1,5 +1,4 @@
-use Rattle.std.proofs.Common.{ℕ, ◌<◌}
-use Rattle.smx_run.specs.Gathering.{IsBorneOut}
+use Rattle.smx_run.proofs.Common.{ℕ, ◌<◌, IsBorneOut}
 use Rattle.smx_run.proofs.gathering.find_strange.Given as goal
 
 abbrev pub invariant-loop-number : goal.invariant-loop-number

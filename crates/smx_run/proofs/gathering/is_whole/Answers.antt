@@ -1,5 +1,4 @@
-use Rattle.std.proofs.Common.{None, subst}
-use Rattle.smx_run.specs.Gathering.{IsMet}
+use Rattle.smx_run.proofs.Common.{None, subst, IsMet}
 use Rattle.smx_run.proofs.GatheringLemmas.{not_whole}
 use Rattle.smx_run.proofs.gathering.is_whole.Goals as goal
 

@@ -1,9 +1,7 @@
-use Rattle.std.proofs.Common.{rules, ◌≡◌, ap, ◌∙◌, subst, sym, refl, arith, take, ◌<◌, ◌+◌, All, List, ◌++◌, ◌∷◌, []}
-use Rattle.std.proofs.Common.{None, get_or}
+use Rattle.smx_run.proofs.Common.{rules, ◌≡◌, ap, ◌∙◌, subst, sym, refl, arith, take, ◌<◌, ◌+◌, All, List, ◌++◌, ◌∷◌}
+use Rattle.smx_run.proofs.Common.{[], None, get_or, Entry, IsMet, MAX_PROCESSES}
 use Rattle.std.proofs.lemmas.List.{take_all, take_more}
-use Rattle.smx_types.specs.declared.command.Entry.{Entry}
-use Rattle.smx_run.specs.Gathering.{entries_of, IsMet}
-use Rattle.smx_types.specs.declared.limits.TheConstants.{MAX_PROCESSES}
+use Rattle.smx_run.specs.Gathering.{entries_of}
 use Rattle.smx_run.proofs.AssignmentLemmas.{all_more}
 use Rattle.smx_run.proofs.GatheringLemmas.{none_met_yet, one_more_met}
 use Rattle.smx_run.proofs.gathering.meet_all.Goals as goal

@@ -1,7 +1,6 @@
-use Rattle.std.proofs.Common.{◌<◌, ℕ, [], None, All, length, take, ◌≡◌, slice_index_or}
-use Rattle.smx_types.specs.declared.command.Entry.{Entry}
-use Rattle.smx_types.specs.declared.limits.TheConstants.{MAX_PROCESSES}
-use Rattle.smx_run.specs.Gathering.{entries_of, IsMet}
+use Rattle.smx_run.proofs.Common.{◌<◌, ℕ, [], None, All, length, take, ◌≡◌, Entry, MAX_PROCESSES, IsMet}
+use Rattle.std.proofs.Common.{slice_index_or}
+use Rattle.smx_run.specs.Gathering.{entries_of}
 use Rattle.smx_run.proofs.gathering.meet_all.Given as goal
 
 abbrev pub invariant-loop-entry : goal.invariant-loop-entry

@@ -1,11 +1,9 @@
-use Rattle.std.proofs.Common.{rules, ◌≡◌, ◌∷◌, ◌++◌, [], All, length, refl, subst, sym, ap, arith, ◌∙◌}
-use Rattle.std.proofs.lemmas.List.{length-append}
+use Rattle.smx_run.proofs.Common.{rules, ◌≡◌, ◌∷◌, ◌++◌, [], All, length, refl, subst, sym, ap, arith, ◌∙◌}
+use Rattle.smx_run.proofs.Common.{length-append, Seated, IsBorneOutBy, IsKnownTo, EndedProgram}
 use Rattle.std.proofs.lemmas.List.Elements.{All-cons}
-use Rattle.smx_shared.specs.Seats.{Seated}
-use Rattle.smx_run.specs.Meeting.{IsBorneOutBy, IsKnownTo}
-use Rattle.smx_run.specs.declared.worker.EndedProgram.{EndedProgram}
 use Rattle.smx_run.proofs.AssignmentLemmas.{all_more, first_then_rest}
-use Rattle.smx_run.proofs.RunLemmas.{still_more, bears_out_first, bears_out_next, map_behind, next_taken, all_taken_off}
+use Rattle.smx_run.proofs.RunLemmas.{still_more, bears_out_first, bears_out_next, map_behind, next_taken}
+use Rattle.smx_run.proofs.RunLemmas.{all_taken_off}
 use Rattle.smx_run.proofs.MeetingLemmas.{known_now, known_still}
 use Rattle.smx_run.proofs.meeting.meet_all.Goals as goal
 

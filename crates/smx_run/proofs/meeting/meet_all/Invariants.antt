@@ -1,10 +1,6 @@
-use Rattle.std.proofs.Common.{◌≡◌, ◌≤◌, ◌+◌, ◌++◌, All, drop, length, map, vec_len}
-use Rattle.std.specs.Prelude.{vec_capacity}
-use Rattle.std.specs.Vec.Iter.{into_iter_items, into_iter_len}
-use Rattle.smx_shared.specs.Recorded.{Recorded}
-use Rattle.smx_shared.specs.Seats.{Seated, AreMetBy}
-use Rattle.smx_run.specs.Meeting.{IsBorneOutBy, IsKnownTo}
-use Rattle.smx_run.specs.declared.worker.EndedProgram.{EndedProgram}
+use Rattle.smx_run.proofs.Common.{◌≡◌, ◌≤◌, ◌+◌, ◌++◌, All, drop, length, map, vec_len, vec_capacity, into_iter_items}
+use Rattle.smx_run.proofs.Common.{into_iter_len, Recorded, Seated, IsBorneOutBy, IsKnownTo, EndedProgram}
+use Rattle.smx_shared.specs.Seats.{AreMetBy}
 use Rattle.smx_run.proofs.RunLemmas.{StillKnows}
 use Rattle.smx_run.proofs.meeting.meet_all.Given as goal
 

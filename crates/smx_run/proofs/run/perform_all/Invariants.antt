@@ -1,6 +1,4 @@
-use Rattle.std.proofs.Common.{◌≡◌, ◌++◌, length}
-use Rattle.std.specs.Vec.Iter.{into_iter_items, into_iter_len}
-use Rattle.smx_shared.specs.Recorded.{IsSoundSystem}
+use Rattle.smx_run.proofs.Common.{◌≡◌, ◌++◌, length, into_iter_items, into_iter_len, IsSoundSystem}
 use Rattle.smx_run.specs.Alone.{PerformedAlone}
 use Rattle.smx_run.proofs.run.perform_all.Given as goal
 

@@ -1,14 +1,10 @@
-use Rattle.std.proofs.Common.{rules, ◌≡◌, ◌≢◌, ◌+◌, ◌++◌, ◌∷◌, [], List, ℕ, length, map, ap, sym, subst}
-use Rattle.std.proofs.Common.{arith, ◌∙◌, Err}
-use Rattle.std.proofs.lemmas.List.{length-append}
+use Rattle.smx_run.proofs.Common.{rules, ◌≡◌, ◌≢◌, ◌+◌, ◌++◌, ◌∷◌, [], List, ℕ, length, map, ap, sym, subst, arith}
+use Rattle.smx_run.proofs.Common.{◌∙◌, length-append, Command, Entry, call_of, AreFrontsFrom, calls_of, calls_from}
+use Rattle.std.proofs.Common.{Err}
 use Rattle.std.proofs.lemmas.Result.{err_from_is_err_and}
 use Rattle.smx_types.specs.declared.driver.DriverSpec.{DriverSpec}
-use Rattle.smx_types.specs.declared.command.Command.{Command}
-use Rattle.smx_types.specs.declared.command.Entry.{Entry}
-use Rattle.smx_model.specs.Histories.{call_of}
 use Rattle.smx_shared.specs.declared.shared_fault.ApplyFault.TheVariants as apply
-use Rattle.smx_run.specs.Fronts.{AreFrontsFrom}
-use Rattle.smx_run.specs.ProgramOrder.{BeginsCalls, calls_of, calls_from}
+use Rattle.smx_run.specs.ProgramOrder.{BeginsCalls}
 use Rattle.smx_run.proofs.StopLemmas.{left_of, memory_left, room_left}
 use Rattle.smx_run.proofs.RunLemmas.{calls_more, front_next, next_taken}
 use Rattle.smx_run.proofs.run.run_alone.Goals as goal

@@ -1,11 +1,5 @@
-use Rattle.std.proofs.Common.{◌≡◌, ◌≤◌, ◌+◌, ◌++◌, map, length, vec_len}
-use Rattle.std.specs.Prelude.{vec_capacity}
-use Rattle.std.specs.Vec.Iter.{into_iter_items, into_iter_len}
-use Rattle.smx_model.specs.Histories.{call_of}
-use Rattle.smx_types.specs.declared.limits.TheConstants.{MAX_PROCESSES}
-use Rattle.smx_shared.specs.Recorded.{IsSoundSystem}
-use Rattle.smx_run.specs.Fronts.{AreFrontsFrom}
-use Rattle.smx_run.specs.ProgramOrder.{calls_from}
+use Rattle.smx_run.proofs.Common.{◌≡◌, ◌≤◌, ◌+◌, ◌++◌, map, length, vec_len, vec_capacity, into_iter_items}
+use Rattle.smx_run.proofs.Common.{into_iter_len, call_of, MAX_PROCESSES, IsSoundSystem, AreFrontsFrom, calls_from}
 use Rattle.smx_run.proofs.run.run_alone.Given as goal
 
 abbrev pub invariant-loop-commands : goal.invariant-loop-commands

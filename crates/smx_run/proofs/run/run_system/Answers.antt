@@ -1,5 +1,4 @@
-use Rattle.std.proofs.Common.{rules, ◌≡◌, refl, subst}
-use Rattle.smx_model.specs.Histories.{HoldsPrograms}
+use Rattle.smx_run.proofs.Common.{rules, ◌≡◌, refl, subst, HoldsPrograms}
 use Rattle.smx_run.specs.Reports.{transcript_in}
 use Rattle.smx_run.proofs.ProgramOrderLemmas.{holds, report_of}
 use Rattle.smx_run.proofs.run.run_system.Goals as goal

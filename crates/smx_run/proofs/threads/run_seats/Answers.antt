@@ -1,6 +1,4 @@
-use Rattle.std.proofs.Common.{◌≡◌, vec_len, arith, ◌∙◌}
-use Rattle.std.proofs.lemmas.List.{length-map}
-use Rattle.smx_run.specs.Assignments.{made_calls}
+use Rattle.smx_run.proofs.Common.{◌≡◌, vec_len, arith, ◌∙◌, length-map, made_calls}
 use Rattle.smx_run.proofs.AssignmentLemmas.{assignment_count}
 use Rattle.smx_run.proofs.threads.run_seats.Goals as goal
 

@@ -1,11 +1,7 @@
-use Rattle.std.proofs.Common.{rules, ◌≡◌, ℕ, List, [], All, length, map, ap, sym, subst, true≢false, ◌∙◌}
-use Rattle.std.specs.List.{range_with_len}
-use Rattle.smx_types.specs.declared.command.Entry.{Entry}
-use Rattle.smx_shared.specs.Recorded.{Recorded}
-use Rattle.smx_shared.specs.Seats.{Seated, GoesOnNamed}
-use Rattle.smx_shared.specs.declared.front.Front.{Front}
-use Rattle.smx_run.specs.Fronts.{AreFrontsFrom}
-use Rattle.smx_run.specs.Assignments.{IsFresh}
+use Rattle.smx_run.proofs.Common.{rules, ◌≡◌, ℕ, List, [], All, length, map, ap, sym, subst, ◌∙◌, range_with_len}
+use Rattle.smx_run.proofs.Common.{Entry, Recorded, Seated, Front, AreFrontsFrom, IsFresh}
+use Rattle.std.proofs.Common.{true≢false}
+use Rattle.smx_shared.specs.Seats.{GoesOnNamed}
 use Rattle.smx_run.proofs.RunLemmas.{first_processes, first_fresh, some_ended, holds_all, fronts_all}
 use Rattle.smx_run.proofs.MeetingLemmas.{all_known}
 use Rattle.smx_run.proofs.threads.run_together.Goals as goal

@@ -1,6 +1,5 @@
-use Rattle.std.proofs.Common.{arith, ◌∷◌, []}
-use Rattle.std.proofs.lemmas.List.{length-append}
-use Rattle.smx_run.specs.Assignments.{given, called, HasEndedWith}
+use Rattle.smx_run.proofs.Common.{arith, ◌∷◌, [], length-append, given, called}
+use Rattle.smx_run.specs.Assignments.{HasEndedWith}
 use Rattle.smx_run.proofs.AssignmentLemmas.{one_more, all_more}
 use Rattle.smx_run.proofs.worker.run_assigned.Goals as goal
 

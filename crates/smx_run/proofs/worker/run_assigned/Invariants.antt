@@ -1,7 +1,6 @@
-use Rattle.std.proofs.Common.{◌≡◌, ◌≤◌, ◌+◌, All, map, length, vec_len}
-use Rattle.std.specs.Prelude.{vec_capacity}
-use Rattle.std.specs.Vec.Iter.{into_iter_len}
-use Rattle.smx_run.specs.Assignments.{given, called, HasEndedWith}
+use Rattle.smx_run.proofs.Common.{◌≡◌, ◌≤◌, ◌+◌, All, map, length, vec_len, vec_capacity, into_iter_len, given}
+use Rattle.smx_run.proofs.Common.{called}
+use Rattle.smx_run.specs.Assignments.{HasEndedWith}
 use Rattle.smx_run.proofs.worker.run_assigned.Given as goal
 
 abbrev pub invariant-loop-job : goal.invariant-loop-job

@@ -1,5 +1,4 @@
-use Rattle.std.proofs.Common.{◌≡◌, ◌++◌, length}
-use Rattle.std.specs.Vec.Iter.{into_iter_items, into_iter_len}
+use Rattle.smx_run.proofs.Common.{◌≡◌, ◌++◌, length, into_iter_items, into_iter_len}
 use Rattle.smx_run.specs.Assignments.{HasCalled}
 use Rattle.smx_run.proofs.worker.run_program.Given as goal
 

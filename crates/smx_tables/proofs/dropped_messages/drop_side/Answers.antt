@@ -1,7 +1,4 @@
-use Rattle.std.proofs.Common.{ap, ◌&&◌, false, sym, ◌∙◌, Bool}
-use Rattle.smx_types.specs.declared.stream.Place.{Place}
-use Rattle.smx_model.specs.Configuration.{same_place}
-use Rattle.smx_tables.specs.DroppedMessages.{is_flushed_at}
+use Rattle.smx_tables.proofs.Common.{ap, ◌&&◌, false, sym, ◌∙◌, Bool, Place, same_place, is_flushed_at}
 use Rattle.smx_tables.proofs.BelowLemmas.{empties_alike, empties_none}
 use Rattle.smx_tables.proofs.DropLemmas.{all_stay}
 use Rattle.smx_tables.proofs.dropped_messages.drop_side.Goals as goal

@@ -1,8 +1,6 @@
-use Rattle.std.proofs.Common.{◌&&◌}
+use Rattle.smx_tables.proofs.Common.{◌&&◌, same_stream, is_flushed_at}
 use Rattle.smx_types.specs.declared.stream.Side.TheVariants as side
 use Rattle.smx_model.specs.Commands.{is_side}
-use Rattle.smx_model.specs.Configuration.{same_stream}
-use Rattle.smx_tables.specs.DroppedMessages.{is_flushed_at}
 use Rattle.smx_tables.proofs.BelowLemmas.{empties_more}
 use Rattle.smx_tables.proofs.DropLemmas.{on_both_sides}
 use Rattle.smx_tables.proofs.dropped_messages.drop_sides.Goals as goal

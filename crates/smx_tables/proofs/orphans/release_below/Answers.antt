@@ -1,15 +1,13 @@
-use Rattle.std.proofs.Common.{take, ◌++◌, ◌∷◌, [], length, length-append, refl, sym, ap, subst, ◌∙◌, arith}
-use Rattle.std.proofs.lemmas.Bool.{and_parts}
-use Rattle.smx_model.specs.Configuration.{same_stream}
+use Rattle.smx_tables.proofs.Common.{take, ◌++◌, ◌∷◌, [], length-append, refl, sym, ap, subst, ◌∙◌, arith, and_parts}
+use Rattle.smx_tables.proofs.Common.{same_stream, is_loose, is_watched, AreReleased}
+use Rattle.std.proofs.Common.{length}
 use Rattle.smx_model.proofs.TestLemmas.{any_push}
-use Rattle.smx_tables.specs.ExistingStreams.{is_loose}
-use Rattle.smx_tables.specs.TouchedStreams.{is_watched, AreReleased}
 use Rattle.smx_tables.proofs.HungLemmas.{left_twice, none_went, there_before}
 use Rattle.smx_tables.proofs.OrphanIdLemmas.{one_released}
 use Rattle.smx_tables.proofs.ReleaseLemmas.{less_there, less_this, link_at, one_at, releases_this}
 use Rattle.smx_tables.proofs.TouchLemmas.{still_touched}
-use Rattle.smx_tables.proofs.WatchLemmas.{all_at, all_more, all_watch_on, listed_last, none_by}
-use Rattle.smx_tables.proofs.WatchLemmas.{released_is_watched, still_listed_before, watched_less}
+use Rattle.smx_tables.proofs.WatchLemmas.{all_at, all_more, all_watch_on, listed_last, none_by, released_is_watched}
+use Rattle.smx_tables.proofs.WatchLemmas.{still_listed_before, watched_less}
 use Rattle.smx_tables.proofs.orphans.release_below.Goals as goal
 use Rattle.smx_tables.proofs.orphans.release_below.Goals.{then-is_loose_by, else-is_loose_by}
 

@@ -1,10 +1,8 @@
-use Rattle.std.proofs.Common.{◌≡◌, ℕ, ◌+◌, ◌≤◌, ◌++◌, ◌∷◌, [], true, length, take}
-use Rattle.std.specs.Prelude.{vec_capacity}
-use Rattle.std.specs.List.{list_all}
-use Rattle.smx_types.specs.declared.stream.StreamId.{StreamId}
-use Rattle.smx_streams.specs.StreamTables.{LeavesHungs, exists as is_there}
-use Rattle.smx_tables.specs.ExistingStreams.{holds_below, IsReleasing}
-use Rattle.smx_tables.specs.TouchedStreams.{is_there_or_touched, is_watched, AreReleased}
+use Rattle.smx_tables.proofs.Common.{◌≡◌, ℕ, ◌+◌, ◌≤◌, ◌++◌, ◌∷◌, [], true, take, vec_capacity, list_all, StreamId}
+use Rattle.smx_tables.proofs.Common.{LeavesHungs, holds_below, IsReleasing, is_there_or_touched, is_watched}
+use Rattle.smx_tables.proofs.Common.{AreReleased}
+use Rattle.std.proofs.Common.{length}
+use Rattle.smx_streams.specs.StreamTables.{exists as is_there}
 use Rattle.smx_tables.proofs.orphans.release_below.Given as goal
 
 abbrev pub invariant-loop-link : goal.invariant-loop-link

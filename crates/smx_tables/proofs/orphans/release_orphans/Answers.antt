@@ -1,10 +1,8 @@
-use Rattle.std.proofs.Common.{◌≡◌, List, [], ◌∷◌, true, length, length-append, ap, sym, subst, ◌∙◌, arith, rules}
-use Rattle.std.proofs.lemmas.Bool.{or_left}
-use Rattle.std.specs.List.{list_all}
+use Rattle.smx_tables.proofs.Common.{◌≡◌, List, [], ◌∷◌, true, length-append, ap, sym, subst, ◌∙◌, arith, rules}
+use Rattle.smx_tables.proofs.Common.{or_left, list_all, StreamId, is_watched}
+use Rattle.std.proofs.Common.{length}
 use Rattle.std.proofs.lemmas.List.{nil_from_length}
-use Rattle.smx_types.specs.declared.stream.StreamId.{StreamId}
 use Rattle.smx_streams.specs.StreamTables.{exists as is_there}
-use Rattle.smx_tables.specs.TouchedStreams.{is_watched}
 use Rattle.smx_tables.proofs.HungLemmas.{left_twice}
 use Rattle.smx_tables.proofs.TouchLemmas.{none_loose_still, seen_more, touched_there}
 use Rattle.smx_tables.proofs.WatchLemmas.{none_loose}

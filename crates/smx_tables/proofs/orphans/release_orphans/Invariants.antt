@@ -1,11 +1,7 @@
-use Rattle.std.proofs.Common.{◌≡◌, ◌+◌, ◌≤◌, ◌||◌, true, length}
-use Rattle.std.specs.List.{list_any}
-use Rattle.std.specs.Prelude.{vec_capacity}
-use Rattle.smx_types.specs.declared.stream.StreamId.{StreamId}
-use Rattle.smx_model.specs.Configuration.{same_stream}
-use Rattle.smx_streams.specs.StreamTables.{LeavesHungs}
-use Rattle.smx_tables.specs.ExistingStreams.{holds_below}
-use Rattle.smx_tables.specs.TouchedStreams.{is_there_or_touched, AreReleased, IsCascade}
+use Rattle.smx_tables.proofs.Common.{◌≡◌, ◌+◌, ◌≤◌, ◌||◌, true, list_any, vec_capacity, StreamId, same_stream}
+use Rattle.smx_tables.proofs.Common.{LeavesHungs, holds_below, is_there_or_touched, AreReleased}
+use Rattle.std.proofs.Common.{length}
+use Rattle.smx_tables.specs.TouchedStreams.{IsCascade}
 use Rattle.smx_tables.proofs.orphans.release_orphans.Given as goal
 
 abbrev pub decreases-loop-stream : goal.decreases-loop-stream

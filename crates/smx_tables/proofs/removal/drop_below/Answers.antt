@@ -1,9 +1,6 @@
-use Rattle.std.proofs.Common.{◌∙◌, ◌+◌, List, ℕ, ap, sym, take, arith}
-use Rattle.std.proofs.lemmas.List.{take_more}
-use Rattle.smx_types.specs.declared.stream.Place.{Place}
+use Rattle.smx_tables.proofs.Common.{◌∙◌, ◌+◌, List, ℕ, ap, sym, take, arith, take_more, Place, QueuedMessage}
+use Rattle.smx_tables.proofs.Common.{same_place, is_read_below_listed}
 use Rattle.smx_types.specs.declared.stream.Side.TheVariants as side
-use Rattle.smx_model.specs.Configuration.{QueuedMessage, same_place}
-use Rattle.smx_tables.specs.ListedLinks.{is_read_below_listed}
 use Rattle.smx_tables.proofs.BelowLemmas.{empties_alike, empties_more, empties_none, none_listed_yet, read_more}
 use Rattle.smx_tables.proofs.BelowLemmas.{read_none}
 use Rattle.smx_tables.proofs.removal.drop_below.Goals as goal

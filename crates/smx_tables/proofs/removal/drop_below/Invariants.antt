@@ -1,6 +1,5 @@
-use Rattle.std.proofs.Common.{take}
+use Rattle.smx_tables.proofs.Common.{take, is_read_below_listed}
 use Rattle.smx_tables.specs.DroppedMessages.{EmptiesPlaces}
-use Rattle.smx_tables.specs.ListedLinks.{is_read_below_listed}
 use Rattle.smx_tables.proofs.removal.drop_below.Given as goal
 
 abbrev pub invariant-loop-id : goal.invariant-loop-id

@@ -1,5 +1,4 @@
-use Rattle.std.proofs.Common.{sym, ◌∙◌}
-use Rattle.smx_tables.specs.ModelOfLists.{configuration_of}
+use Rattle.smx_tables.proofs.Common.{sym, ◌∙◌, configuration_of}
 use Rattle.smx_tables.proofs.RemovalLemmas.{is_nothing, nothing_removed, none_listed, removed_is}
 use Rattle.smx_tables.proofs.removal.drop_links.Goals as goal
 

@@ -1,11 +1,9 @@
-use Rattle.std.proofs.Common.{List, ℕ, [], ◌∷◌, ap, length, length-append, take, refl, sym, subst, ◌∙◌, arith}
-use Rattle.std.proofs.lemmas.List.{take_more}
-use Rattle.smx_tables.specs.ExistingStreams.{AreHeld}
-use Rattle.std.proofs.lemmas.Bool.{or_left}
+use Rattle.smx_tables.proofs.Common.{List, ℕ, [], ◌∷◌, ap, length-append, take, refl, sym, subst, ◌∙◌, arith}
+use Rattle.smx_tables.proofs.Common.{take_more, AreHeld, or_left, others_of}
+use Rattle.std.proofs.Common.{length}
 use Rattle.std.proofs.lemmas.List.{take_all}
 use Rattle.smx_tables.proofs.HungLemmas.{left_twice, none_went, there_before}
 use Rattle.smx_tables.proofs.TouchLemmas.{still_touched}
-use Rattle.smx_links.specs.LinkLists.{others_of}
 use Rattle.smx_links.proofs.IdLemmas.{none_of_none}
 use Rattle.smx_tables.proofs.ReleasedIdLemmas.{released_more, released_none}
 use Rattle.smx_tables.proofs.removal.release_each.Goals as goal

@@ -1,10 +1,7 @@
-use Rattle.std.proofs.Common.{◌≡◌, ◌+◌, ◌≤◌, true, length, take}
-use Rattle.std.specs.Prelude.{vec_capacity}
-use Rattle.smx_types.specs.declared.stream.StreamId.{StreamId}
-use Rattle.smx_links.specs.LinkLists.{others_of}
-use Rattle.smx_streams.specs.StreamTables.{LeavesHungs, exists as is_there}
-use Rattle.smx_tables.specs.ExistingStreams.{AreHeld}
-use Rattle.smx_tables.specs.TouchedStreams.{is_there_or_touched}
+use Rattle.smx_tables.proofs.Common.{◌≡◌, ◌+◌, ◌≤◌, true, take, vec_capacity, StreamId, others_of, LeavesHungs}
+use Rattle.smx_tables.proofs.Common.{AreHeld, is_there_or_touched}
+use Rattle.std.proofs.Common.{length}
+use Rattle.smx_streams.specs.StreamTables.{exists as is_there}
 use Rattle.smx_tables.proofs.removal.release_each.Given as goal
 
 abbrev pub invariant-loop-id : goal.invariant-loop-id

@@ -1,5 +1,4 @@
-use Rattle.std.proofs.Common.{◌∙◌, refl, not}
-use Rattle.smx_links.specs.LinkLists.{is_one_of}
+use Rattle.smx_tables.proofs.Common.{◌∙◌, refl, not, is_one_of}
 use Rattle.smx_tables.proofs.LengthLemmas.{fewer}
 use Rattle.smx_tables.proofs.RemovalLemmas.{ids_in_order}
 use Rattle.smx_tables.proofs.removal.remove_links.Goals as goal

@@ -1,9 +1,6 @@
-use Rattle.std.proofs.Common.{◌∙◌, List, ap, refl, arith}
-use Rattle.std.proofs.lemmas.List.{take_more, take_all}
-use Rattle.smx_types.specs.declared.stream.StreamId.{StreamId}
-use Rattle.smx_model.specs.Configuration.{Configuration}
-use Rattle.smx_tables.specs.ModelOfLists.{configuration_of}
-use Rattle.smx_tables.specs.TouchedStreams.{is_dead, without_streams}
+use Rattle.smx_tables.proofs.Common.{◌∙◌, List, ap, refl, arith, take_more, StreamId, Configuration, configuration_of}
+use Rattle.smx_tables.proofs.Common.{is_dead, without_streams}
+use Rattle.std.proofs.lemmas.List.{take_all}
 use Rattle.smx_tables.proofs.DeadStreamLemmas.{all_gone, none_gone_yet, one_more_gone}
 use Rattle.smx_tables.proofs.sweep.drop_dead.Goals as goal
 

@@ -1,7 +1,6 @@
-use Rattle.std.proofs.Common.{◌≡◌, take}
+use Rattle.smx_tables.proofs.Common.{◌≡◌, take, configuration_of, is_dead, without_streams}
 use Rattle.smx_tables.specs.DroppedMessages.{DropsMore, HasRoom}
-use Rattle.smx_tables.specs.ModelOfLists.{configuration_of, sizes_of}
-use Rattle.smx_tables.specs.TouchedStreams.{is_dead, without_streams}
+use Rattle.smx_tables.specs.ModelOfLists.{sizes_of}
 use Rattle.smx_tables.proofs.sweep.drop_dead.Given as goal
 
 abbrev pub invariant-loop-stream : goal.invariant-loop-stream

@@ -1,5 +1,4 @@
-use Rattle.std.proofs.Common.{sym, ◌∙◌}
-use Rattle.smx_tables.specs.ModelOfLists.{configuration_of}
+use Rattle.smx_tables.proofs.Common.{sym, ◌∙◌, configuration_of}
 use Rattle.smx_tables.proofs.DeadStreamLemmas.{none_gone, one_gone}
 use Rattle.smx_tables.proofs.sweep.drop_if_dead.Goals as goal
 

@@ -1,16 +1,11 @@
-use Rattle.std.proofs.Common.{◌≡◌, ℕ, true, ◌||◌, not, eqb, List, length, filter, refl, sym, ap, subst, ◌∙◌, arith}
-use Rattle.std.specs.Prelude.{vec_capacity}
-use Rattle.std.specs.List.{All, list_all, list_any}
+use Rattle.smx_tables.proofs.Common.{◌≡◌, ℕ, true, ◌||◌, not, eqb, List, filter, refl, sym, ap, subst, ◌∙◌, arith}
+use Rattle.smx_tables.proofs.Common.{vec_capacity, All, list_all, list_any, Link, IsKnown, AreLinksSound}
+use Rattle.smx_tables.proofs.Common.{is_persistent, StreamTable, AreHeld, is_held, is_listed, is_orphaned, AreIdsOf}
+use Rattle.smx_tables.proofs.Common.{configuration_of}
+use Rattle.std.proofs.Common.{length}
 use Rattle.std.proofs.lemmas.List.Elements.{All-filter}
-use Rattle.smx_types.specs.declared.link.Link.{Link}
-use Rattle.smx_model.specs.KnownStreams.{IsKnown}
-use Rattle.smx_model.specs.SoundLinks.{AreLinksSound}
-use Rattle.smx_model.specs.Standing.{is_persistent}
 use Rattle.smx_model.proofs.SoundLemmas.{sound_filter}
-use Rattle.smx_streams.specs.StreamTables.{StreamTable, exists as is_there}
-use Rattle.smx_tables.specs.ExistingStreams.{AreHeld, is_held}
-use Rattle.smx_tables.specs.ListedLinks.{is_listed, is_orphaned, AreIdsOf}
-use Rattle.smx_tables.specs.ModelOfLists.{configuration_of}
+use Rattle.smx_streams.specs.StreamTables.{exists as is_there}
 use Rattle.smx_tables.proofs.ExistingLemmas.{tells_existing}
 use Rattle.smx_tables.proofs.OrphanLemmas.{held_is_left, left_is_linked, left_links, released_are_orphaned}
 use Rattle.smx_tables.proofs.OrphanIdLemmas.{none_released_yet}

@@ -1,11 +1,6 @@
-use Rattle.std.proofs.Common.{ap, sym, subst, ◌∙◌}
+use Rattle.smx_tables.proofs.Common.{ap, sym, subst, ◌∙◌, Configuration, without_dead_streams, without_links}
+use Rattle.smx_tables.proofs.Common.{TellsExisting, is_orphaned, configuration_of, IsTouched}
 use Rattle.std.specs.Prelude.{length}
-use Rattle.smx_model.specs.Configuration.{Configuration}
-use Rattle.smx_model.specs.Removal.{without_dead_streams, without_links}
-use Rattle.smx_tables.specs.ExistingStreams.{TellsExisting}
-use Rattle.smx_tables.specs.ListedLinks.{is_orphaned}
-use Rattle.smx_tables.specs.ModelOfLists.{configuration_of}
-use Rattle.smx_tables.specs.TouchedStreams.{IsTouched}
 use Rattle.smx_tables.proofs.HungLemmas.{dead_of_left, left_there}
 use Rattle.smx_tables.proofs.TouchLemmas.{touched_beside, touched_on, touched_without}
 use Rattle.smx_tables.proofs.sweep.sweep.Goals as goal

@@ -1,8 +1,5 @@
-use Rattle.std.proofs.Common.{rules, ◌≡◌, ◌∷◌, codes, sym, ◌∙◌, arith, length, ap, ℕ}
-use Rattle.std.proofs.lemmas.List.{length-append}
-use Rattle.std.proofs.lemmas.Result.{err_from_is_err_and}
-use Rattle.smx_words.specs.Words.{LINE_FEED}
-use Rattle.smx_text.specs.Grammar.{header}
+use Rattle.smx_text.proofs.Common.{rules, sym, ◌∙◌, arith, ap, length-append, err_from_is_err_and, LINE_FEED, header}
+use Rattle.std.proofs.Common.{◌≡◌, ◌∷◌, codes, length, ℕ}
 use Rattle.smx_text.proofs.ReadingLemmas.{refused, read_to_end, started, refused_behind, ends_behind, any_of}
 use Rattle.smx_text.proofs.ReadingLemmas.{any_of_each}
 use Rattle.smx_text.proofs.reading.read.Goals as goal

@@ -1,7 +1,6 @@
-use Rattle.std.proofs.Common.{◌≡◌, ◌++◌, ◌∷◌, [], ◌∙◌, append_assoc, rules}
+use Rattle.smx_text.proofs.Common.{◌∙◌, append_assoc, rules, next_words, text_of}
+use Rattle.std.proofs.Common.{◌≡◌, ◌++◌, ◌∷◌, []}
 use Rattle.std.specs.Prelude.{codes}
-use Rattle.smx_words.specs.Spelling.{next_words}
-use Rattle.smx_words.specs.Words.{text_of}
 use Rattle.smx_text.proofs.WritingLemmas.{view_written, one_line_more}
 use Rattle.smx_text.proofs.transcript_pieces.write_view.Goals as goal
 

@@ -1,8 +1,6 @@
-use Rattle.std.proofs.Common.{◌≡◌, ◌++◌, map, take}
-use Rattle.std.specs.List.{AllByRecursion}
-use Rattle.smx_text.specs.ProgramsText.{line_words, program_lines, FitsLine}
-use Rattle.smx_types.specs.declared.version.Version.TheVariants.{V2}
-use Rattle.smx_words.specs.Words.{text_of}
+use Rattle.smx_text.proofs.Common.{map, take, AllByRecursion, program_lines, V2, text_of}
+use Rattle.std.proofs.Common.{◌≡◌, ◌++◌}
+use Rattle.smx_text.specs.ProgramsText.{line_words, FitsLine}
 use Rattle.smx_text.proofs.write.write_each.Given as goal
 
 abbrev pub invariant-loop-i : goal.invariant-loop-i

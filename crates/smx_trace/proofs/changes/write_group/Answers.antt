@@ -1,8 +1,5 @@
-use Rattle.std.proofs.Common.{ℕ, List, ◌++◌, ap, append_assoc, ◌∙◌}
-use Rattle.std.specs.List.{flat_map}
-use Rattle.std.specs.Prelude.{codes}
-use Rattle.smx_model.specs.Changes.{missing_from}
-use Rattle.smx_trace.specs.TraceWords.{marked}
+use Rattle.smx_trace.proofs.Common.{ap, append_assoc, ◌∙◌, flat_map, codes, missing_from, marked}
+use Rattle.std.proofs.Common.{ℕ, List, ◌++◌}
 use Rattle.smx_trace.proofs.SerialLemmas.{then_ok}
 use Rattle.smx_trace.proofs.changes.write_group.Goals as goal
 

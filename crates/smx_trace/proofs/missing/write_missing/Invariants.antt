@@ -1,8 +1,5 @@
+use Rattle.smx_trace.proofs.Common.{flat_map, missing_from, ComesTo, marked}
 use Rattle.std.specs.Prelude.{◌≡◌, ◌++◌, take, drop}
-use Rattle.std.specs.List.{flat_map}
-use Rattle.smx_model.specs.Changes.{missing_from}
-use Rattle.smx_trace.specs.Missing.{ComesTo}
-use Rattle.smx_trace.specs.TraceWords.{marked}
 use Rattle.smx_trace.proofs.missing.write_missing.Given as goal
 
 abbrev pub invariant-loop-line : goal.invariant-loop-line

@@ -1,8 +1,6 @@
-use Rattle.std.proofs.Common.{◌≡◌, ◌∙◌, ◌+◌, ◌-◌, Some, ap, arith, cond, eqb, subst, sym}
-use Rattle.std.proofs.Common.{drop, ℕ}
+use Rattle.smx_trace.proofs.Common.{◌∙◌, ◌+◌, Some, ap, arith, eqb, subst, sym, MessageLine, FindsBySerial}
+use Rattle.std.proofs.Common.{◌≡◌, ◌-◌, cond, drop, ℕ}
 use Rattle.indexmap.specs.IndexMap.{get}
-use Rattle.smx_types.specs.declared.view.MessageLine.{MessageLine}
-use Rattle.smx_trace.specs.Serials.{FindsBySerial}
 use Rattle.smx_trace.proofs.SerialLemmas.{found_more}
 use Rattle.smx_trace.proofs.moves.index_of.Goals as goal
 

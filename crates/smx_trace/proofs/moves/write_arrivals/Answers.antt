@@ -1,5 +1,4 @@
-use Rattle.smx_model.specs.Changes.{arrival_change}
-use Rattle.smx_trace.specs.Serials.{same_line}
+use Rattle.smx_trace.proofs.Common.{arrival_change, same_line}
 use Rattle.smx_trace.proofs.SerialLemmas.{one_more_change}
 use Rattle.smx_trace.proofs.moves.write_arrivals.Goals as goal
 

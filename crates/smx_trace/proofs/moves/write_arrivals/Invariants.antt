@@ -1,7 +1,5 @@
+use Rattle.smx_trace.proofs.Common.{arrival_change, missing_from, same_line, changes_text}
 use Rattle.std.specs.Prelude.{◌≡◌, ◌++◌, map, take}
-use Rattle.smx_model.specs.Changes.{arrival_change, missing_from}
-use Rattle.smx_trace.specs.Serials.{same_line}
-use Rattle.smx_trace.specs.TraceWords.{changes_text}
 use Rattle.smx_trace.proofs.moves.write_arrivals.Given as goal
 
 abbrev pub invariant-loop-line : goal.invariant-loop-line

@@ -1,7 +1,6 @@
+use Rattle.smx_trace.proofs.Common.{missing_from, same_serial, changes_text}
 use Rattle.std.specs.Prelude.{◌≡◌, ◌++◌, map, take}
-use Rattle.smx_model.specs.Changes.{missing_from, same_serial}
 use Rattle.smx_model.specs.Changes as change
-use Rattle.smx_trace.specs.TraceWords.{changes_text}
 use Rattle.smx_trace.proofs.moves.write_gone.Given as goal
 
 abbrev pub invariant-loop-line : goal.invariant-loop-line

@@ -1,10 +1,7 @@
-use Rattle.std.proofs.Common.{rules, ◌≡◌, ◌∷◌, refl}
-use Rattle.std.proofs.Common.{[], ◌++◌, ap, append_assoc, ◌∙◌}
-use Rattle.smx_types.specs.declared.view.MessageLine.{MessageLine}
+use Rattle.smx_trace.proofs.Common.{rules, refl, ap, append_assoc, ◌∙◌, MessageLine, LINE_FEED, line_of, queues_left}
+use Rattle.std.proofs.Common.{◌≡◌, ◌∷◌, [], ◌++◌}
 use Rattle.smx_words.specs.Spelling.{message_words}
-use Rattle.smx_words.specs.Words.{LINE_FEED, line_of}
 use Rattle.std.proofs.lemmas.List.{nil_from_length}
-use Rattle.smx_trace.specs.Queues.{queues_left}
 use Rattle.smx_trace.proofs.QueueLemmas.{all_left, all_written, one_more_queued, queues_step}
 use Rattle.smx_trace.proofs.queues.write_queues.Goals as goal
 

@@ -1,6 +1,5 @@
+use Rattle.smx_trace.proofs.Common.{DriverSpec, HasCome}
 use Rattle.std.specs.Prelude.{List, [], take}
-use Rattle.smx_types.specs.declared.driver.DriverSpec.{DriverSpec}
-use Rattle.smx_trace.specs.Answers.{HasCome}
 use Rattle.smx_trace.proofs.replaying.perform_all.Given as goal
 
 abbrev pub invariant-loop-entry : goal.invariant-loop-entry

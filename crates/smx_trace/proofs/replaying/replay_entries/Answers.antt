@@ -1,7 +1,5 @@
-use Rattle.std.proofs.Common.{rules, ◌≡◌, sym, subst, ◌∙◌}
-use Rattle.smx_model.specs.DriverList.{IsDriverList}
-use Rattle.smx_text.specs.GrowingTranscripts.{transcript_with}
-use Rattle.smx_trace.specs.Answers.{HasCome}
+use Rattle.smx_trace.proofs.Common.{rules, sym, subst, ◌∙◌, IsDriverList, transcript_with, HasCome}
+use Rattle.std.proofs.Common.{◌≡◌}
 use Rattle.smx_trace.proofs.ReplayLemmas.{begun, whole}
 use Rattle.smx_trace.proofs.replaying.replay_entries.Goals as goal
 

@@ -1,8 +1,7 @@
-use Rattle.std.proofs.Common.{rules, ◌≡◌, sym, subst, ◌∙◌}
+use Rattle.smx_trace.proofs.Common.{rules, sym, subst, ◌∙◌, IsDriverList, transcript_with}
+use Rattle.std.proofs.Common.{◌≡◌}
 use Rattle.std.proofs.lemmas.Result.{err_from_is_err_and}
-use Rattle.smx_model.specs.DriverList.{IsDriverList}
 use Rattle.smx_config.specs.DriverFaults.{RefusesDrivers}
-use Rattle.smx_text.specs.GrowingTranscripts.{transcript_with}
 use Rattle.smx_trace.proofs.TraceLemmas.{trace_begun, whole_trace}
 use Rattle.smx_trace.proofs.tracing.trace_entries.Goals as goal
 

@@ -1,9 +1,7 @@
-use Rattle.std.proofs.Common.{refl, arith, rules}
+use Rattle.smx_words.proofs.Common.{refl, arith, rules, is_hangup, V1}
 use Rattle.std.specs.Fmt.{digits}
 use Rattle.std.specs.Prelude.{codes}
-use Rattle.smx_types.specs.Versions.{is_hangup}
 use Rattle.smx_types.specs.declared.command.Command.TheVariants as command
-use Rattle.smx_types.specs.declared.version.Version.TheVariants.{V1}
 use Rattle.smx_words.proofs.DecidedCommandLemmas.{call_has_words, command_has_words}
 use Rattle.smx_words.proofs.DecidedLemmas.{by_line, refused}
 use Rattle.smx_words.proofs.DecidedWordLemmas.{number, process}

@@ -1,5 +1,4 @@
-use Rattle.std.proofs.Common.{◌≡◌, ◌++◌, map, take}
-use Rattle.std.specs.List.{AllByRecursion}
+use Rattle.smx_words.proofs.Common.{◌≡◌, ◌++◌, map, take, AllByRecursion}
 use Rattle.smx_words.specs.Words.{text_of}
 use Rattle.smx_words.proofs.writing.write_lines.Given as goal
 

@@ -1,5 +1,4 @@
-use Rattle.std.proofs.Common.{refl, sym, ap, ◌∙◌}
-use Rattle.smx_commands.specs.Machine.{Machine}
+use Rattle.smx_commands.proofs.Common.{refl, sym, ap, ◌∙◌, Machine}
 use Rattle.smx_commands.proofs.DoneLemmas.{bind_does}
 use Rattle.smx_commands.proofs.AcceptedLemmas.{not_refused}
 use Rattle.smx_commands.proofs.tables.Tables.bind.Goals as goal

@@ -1,9 +1,8 @@
-use Rattle.std.proofs.Common.{◌≡◌, IsSome, List, false, ap, subst, sym, ◌∙◌}
-use Rattle.smx_types.specs.declared.driver.DriverSpec.{DriverSpec}
+use Rattle.smx_commands.proofs.Common.{◌≡◌, List, false, ap, subst, sym, ◌∙◌, DriverSpec, Machine}
+use Rattle.std.proofs.Common.{IsSome}
 use Rattle.smx_model.specs.Queues.{first_message, is_full}
 use Rattle.smx_queues.specs.PlaceLists.{places_of}
 use Rattle.smx_queues.proofs.FlowCallLemmas.{numbered}
-use Rattle.smx_commands.specs.Machine.{Machine}
 use Rattle.smx_commands.proofs.MoveLemmas.{carried, drivers_moved}
 use Rattle.smx_commands.proofs.PlaceNumberLemmas.{is_seen, is_there, number_there}
 use Rattle.smx_commands.proofs.tables.Tables.carry.Goals as goal

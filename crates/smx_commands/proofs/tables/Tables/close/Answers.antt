@@ -1,10 +1,9 @@
-use Rattle.std.proofs.Common.{[], List, refl, sym, ap, ◌∙◌}
-use Rattle.smx_types.specs.declared.stream.StreamId.{StreamId}
+use Rattle.smx_commands.proofs.Common.{[], List, refl, sym, ap, ◌∙◌, StreamId, configuration_of, touched_beside}
+use Rattle.smx_commands.proofs.Common.{touched_by}
 use Rattle.smx_streams.specs.StreamTables.{exists as is_there}
-use Rattle.smx_tables.specs.ModelOfLists.{configuration_of}
 use Rattle.smx_tables.proofs.ExistingLemmas.{tells_existing}
 use Rattle.smx_tables.proofs.HungLemmas.{all_pass}
-use Rattle.smx_tables.proofs.TouchLemmas.{linked_still, swept_still, touched_beside, touched_by}
+use Rattle.smx_tables.proofs.TouchLemmas.{linked_still, swept_still}
 use Rattle.smx_commands.specs.Closing.{closing}
 use Rattle.smx_commands.proofs.ClosingLemmas.{all_stay, closed_stays, closes_shared}
 use Rattle.smx_commands.proofs.TablesLemmas.{accepted, sound_inside, tells_inside}

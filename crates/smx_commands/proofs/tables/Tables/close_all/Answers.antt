@@ -1,11 +1,7 @@
-use Rattle.std.proofs.Common.{List, ◌==◌, not, filter, ap, refl, ◌∙◌}
-use Rattle.smx_types.specs.declared.stream.Descriptor.{Descriptor}
+use Rattle.smx_commands.proofs.Common.{List, not, filter, ap, refl, ◌∙◌, Descriptor, outcome, after_sweep}
+use Rattle.smx_commands.proofs.Common.{configuration_of, sweep_of_left, touched_beside, touched_by}
+use Rattle.std.proofs.Common.{◌==◌}
 use Rattle.smx_types.specs.declared.command.Command.TheVariants as command
-use Rattle.smx_model.specs.Commands.{outcome}
-use Rattle.smx_model.specs.Removal.{after_sweep}
-use Rattle.smx_tables.specs.ModelOfLists.{configuration_of}
-use Rattle.smx_tables.proofs.HungLemmas.{sweep_of_left}
-use Rattle.smx_tables.proofs.TouchLemmas.{touched_beside, touched_by}
 use Rattle.smx_commands.proofs.ClosingLemmas.{all_closed_touch}
 use Rattle.smx_commands.proofs.DoneLemmas.{swept_is}
 use Rattle.smx_commands.proofs.TablesLemmas.{accepted, sound_inside, tells_inside}

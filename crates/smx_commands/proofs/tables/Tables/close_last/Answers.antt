@@ -1,8 +1,4 @@
-use Rattle.std.proofs.Common.{List, ap, ◌∙◌}
-use Rattle.std.specs.List.{list_any}
-use Rattle.smx_types.specs.declared.stream.StreamId.{StreamId}
-use Rattle.smx_model.specs.Configuration.{same_stream}
-use Rattle.smx_tables.specs.ModelOfLists.{configuration_of}
+use Rattle.smx_commands.proofs.Common.{List, ap, ◌∙◌, list_any, StreamId, same_stream, configuration_of}
 use Rattle.smx_tables.proofs.WatchLemmas.{listed_last}
 use Rattle.smx_commands.proofs.ClosingLemmas.{close_touches, closes_last}
 use Rattle.smx_commands.proofs.TablesLemmas.{sound_inside, tells_inside}

@@ -1,11 +1,9 @@
-use Rattle.std.proofs.Common.{◌≡◌, ◌&&◌, ap, refl, sym, ◌∙◌}
+use Rattle.smx_commands.proofs.Common.{◌≡◌, ◌&&◌, ap, refl, sym, ◌∙◌, Place, done_outcome, same_stream, after_sweep}
+use Rattle.smx_commands.proofs.Common.{configuration_of, touched_by}
 use Rattle.std.proofs.lemmas.Bool.{or_left}
-use Rattle.smx_types.specs.declared.stream.Place.{Place}
-use Rattle.smx_model.specs.Commands.{done_outcome, is_side}
-use Rattle.smx_model.specs.Configuration.{same_stream}
-use Rattle.smx_model.specs.Removal.{after_sweep, without_queues_at}
-use Rattle.smx_tables.specs.ModelOfLists.{configuration_of}
-use Rattle.smx_tables.proofs.TouchLemmas.{touched_by, touched_emptied}
+use Rattle.smx_model.specs.Commands.{is_side}
+use Rattle.smx_model.specs.Removal.{without_queues_at}
+use Rattle.smx_tables.proofs.TouchLemmas.{touched_emptied}
 use Rattle.smx_commands.proofs.DoneLemmas.{swept_is}
 use Rattle.smx_commands.proofs.TablesLemmas.{accepted, sound_inside, tells_inside}
 use Rattle.smx_commands.proofs.tables.Tables.flush.Goals as goal

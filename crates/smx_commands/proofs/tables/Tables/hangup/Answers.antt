@@ -1,5 +1,4 @@
-use Rattle.std.proofs.Common.{refl, sym, ap, ◌∙◌, arith}
-use Rattle.smx_commands.specs.Machine.{Machine}
+use Rattle.smx_commands.proofs.Common.{refl, sym, ap, ◌∙◌, arith, Machine}
 use Rattle.smx_commands.proofs.DoneLemmas.{hangup_does}
 use Rattle.smx_commands.proofs.TablesLemmas.{tells_seen}
 use Rattle.smx_commands.proofs.tables.Tables.hangup.Goals as goal

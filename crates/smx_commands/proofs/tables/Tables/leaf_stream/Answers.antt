@@ -1,6 +1,4 @@
-use Rattle.std.proofs.Common.{sym, ap, ◌∙◌, arith}
-use Rattle.smx_model.specs.DriverList.{is_mux}
-use Rattle.smx_commands.specs.Machine.{Machine}
+use Rattle.smx_commands.proofs.Common.{sym, ap, ◌∙◌, arith, is_mux, Machine}
 use Rattle.smx_commands.proofs.KnownLemmas.{unknown_is_not}
 use Rattle.smx_commands.proofs.AcceptedLemmas.{not_refused}
 use Rattle.smx_commands.proofs.LookupLemmas.{no_leaf}

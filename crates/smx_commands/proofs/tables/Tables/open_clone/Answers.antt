@@ -1,7 +1,6 @@
-use Rattle.std.proofs.Common.{refl, sym, ap, ◌∙◌}
+use Rattle.smx_commands.proofs.Common.{refl, sym, ap, ◌∙◌, Machine}
 use Rattle.std.proofs.lemmas.Result.{err_from_is_err_and}
 use Rattle.smx_streams.specs.StreamTables.{clone_answer}
-use Rattle.smx_commands.specs.Machine.{Machine}
 use Rattle.smx_commands.proofs.DescriptorLemmas.{agrees_err, agrees_ok, clone_agrees, refused_by}
 use Rattle.smx_commands.proofs.TablesLemmas.{streams_over, tells_seen}
 use Rattle.smx_commands.proofs.tables.Tables.open_clone.Goals as goal

@@ -1,8 +1,6 @@
-use Rattle.std.proofs.Common.{◌≡◌, false, refl, sym, ◌∙◌}
+use Rattle.smx_commands.proofs.Common.{◌≡◌, false, refl, sym, ◌∙◌, minors_of, is_below}
 use Rattle.std.specs.Prelude.{nat_le}
 use Rattle.std.proofs.lemmas.Result.{err_from_is_err_and}
-use Rattle.smx_model.specs.DriverList.{minors_of}
-use Rattle.smx_model.specs.Standing.{is_below}
 use Rattle.smx_streams.specs.StreamTables.{minor_answer}
 use Rattle.smx_commands.proofs.DescriptorLemmas.{agrees_err, minor_agrees, refused_by}
 use Rattle.smx_commands.proofs.AcceptedLemmas.{not_refused}

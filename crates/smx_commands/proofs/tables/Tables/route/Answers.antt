@@ -1,5 +1,4 @@
-use Rattle.std.proofs.Common.{refl, sym, ap, ◌∙◌}
-use Rattle.smx_commands.specs.Machine.{Machine}
+use Rattle.smx_commands.proofs.Common.{refl, sym, ap, ◌∙◌, Machine}
 use Rattle.smx_commands.proofs.DoneLemmas.{route_does}
 use Rattle.smx_commands.proofs.LookupLemmas.{is_there}
 use Rattle.smx_commands.proofs.tables.Tables.route.Goals as goal

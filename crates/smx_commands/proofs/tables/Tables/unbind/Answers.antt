@@ -1,7 +1,6 @@
-use Rattle.std.proofs.Common.{◌&&◌, Bool, eqb, refl, sym, ap, ◌∙◌}
+use Rattle.smx_commands.proofs.Common.{◌&&◌, Bool, eqb, refl, sym, ap, ◌∙◌, Machine}
 use Rattle.smx_types.specs.declared.link.Binding.{Binding}
 use Rattle.smx_streams.proofs.ListLemmas.{none_goes}
-use Rattle.smx_commands.specs.Machine.{Machine}
 use Rattle.smx_commands.proofs.DoneLemmas.{unbind_does, unbind_refused}
 use Rattle.smx_commands.proofs.LookupLemmas.{any_found, none_found}
 use Rattle.smx_commands.proofs.tables.Tables.unbind.Goals as goal

@@ -1,16 +1,12 @@
-use Rattle.std.proofs.Common.{List, not, sym, ap, subst, ◌∙◌, arith}
+use Rattle.smx_commands.proofs.Common.{List, not, sym, ap, subst, ◌∙◌, arith, done_outcome, Configuration, IsKnown}
+use Rattle.smx_commands.proofs.Common.{after_sweep, configuration_of, sweep_of_left, touched_beside, touched_by}
 use Rattle.std.specs.List.{All}
 use Rattle.std.proofs.lemmas.List.Elements.{All-filter}
 use Rattle.smx_types.specs.declared.link.Link.{Link}
-use Rattle.smx_model.specs.Commands.{done_outcome}
-use Rattle.smx_model.specs.Configuration.{Configuration}
-use Rattle.smx_model.specs.KnownStreams.{IsKnown}
-use Rattle.smx_model.specs.Removal.{after_sweep, without_links}
+use Rattle.smx_model.specs.Removal.{without_links}
 use Rattle.smx_tables.specs.ExistingStreams.{AreHeld}
-use Rattle.smx_tables.specs.ModelOfLists.{configuration_of}
 use Rattle.smx_tables.specs.TouchedStreams.{IsTouched}
-use Rattle.smx_tables.proofs.HungLemmas.{sweep_of_left}
-use Rattle.smx_tables.proofs.TouchLemmas.{few_ids, touched_beside, touched_by, touched_without}
+use Rattle.smx_tables.proofs.TouchLemmas.{few_ids, touched_without}
 use Rattle.smx_commands.specs.UnlinkTargets.{is_target}
 use Rattle.smx_commands.proofs.DoneLemmas.{swept_is}
 use Rattle.smx_commands.proofs.TablesLemmas.{accepted, sound_inside, tells_inside}

@@ -1,7 +1,6 @@
-use Rattle.std.proofs.Common.{◌&&◌, Bool, eqb, refl, sym, ap, ◌∙◌}
+use Rattle.smx_commands.proofs.Common.{◌&&◌, Bool, eqb, refl, sym, ap, ◌∙◌, Machine}
 use Rattle.smx_types.specs.declared.link.Route.{Route}
 use Rattle.smx_streams.proofs.ListLemmas.{none_goes}
-use Rattle.smx_commands.specs.Machine.{Machine}
 use Rattle.smx_commands.proofs.DoneLemmas.{unroute_does, unroute_refused}
 use Rattle.smx_commands.proofs.LookupLemmas.{any_found, none_found}
 use Rattle.smx_commands.proofs.tables.Tables.unroute.Goals as goal

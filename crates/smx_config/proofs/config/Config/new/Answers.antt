@@ -1,10 +1,7 @@
-use Rattle.std.proofs.Common.{◌≡◌, ℕ, ◌<◌, length, subst, ap, ◌∙◌}
+use Rattle.smx_config.proofs.Common.{◌≡◌, ℕ, ◌<◌, length, subst, ap, ◌∙◌, places_of, at, Machine}
 use Rattle.smx_model.specs.Configuration.{empty}
 use Rattle.smx_model.proofs.FullPlaceLemmas.{empty_filled}
 use Rattle.smx_model.proofs.KeptLemmas.{empty_kept}
-use Rattle.smx_queues.specs.PlaceLists.{places_of}
-use Rattle.smx_queues.specs.Rings.{at}
-use Rattle.smx_commands.specs.Machine.{Machine}
 use Rattle.smx_config.specs.Marking.{AreFor}
 use Rattle.smx_config.proofs.NextMoveLemmas.{marks_at_first}
 use Rattle.smx_config.proofs.config.Config.new.Goals as goal

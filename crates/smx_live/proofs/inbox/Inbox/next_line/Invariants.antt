@@ -1,7 +1,6 @@
-use Rattle.std.proofs.Common.{◌≡◌, ℕ, ◌+◌, ◌-◌, ◌≤◌, true, List, [], ◌++◌, length, take}
-use Rattle.std.specs.Io.KnownBytes.{Consumes}
-use Rattle.smx_filters.specs.declared.input.TheConstants.{MAX_INPUT}
-use Rattle.smx_text.specs.Grammar.{IsOneLine}
+use Rattle.smx_live.proofs.Common.{◌≡◌, ℕ, ◌+◌, ◌≤◌, true, List, [], ◌++◌, length, take, Consumes, MAX_INPUT}
+use Rattle.smx_live.proofs.Common.{IsOneLine}
+use Rattle.std.proofs.Common.{◌-◌}
 use Rattle.smx_live.proofs.inbox.Inbox.next_line.Given as goal
 
 abbrev pub invariant-reads : goal.invariant-reads

@@ -1,5 +1,4 @@
-use Rattle.std.proofs.Common.{refl, sym, ◌∙◌, arith}
-use Rattle.std.proofs.lemmas.Result.{err_from_is_err_and}
+use Rattle.smx_words.proofs.Common.{refl, sym, ◌∙◌, arith, err_from_is_err_and}
 use Rattle.smx_words.proofs.EntryLemmas.{call_line, process_of}
 use Rattle.smx_words.proofs.InVersionLemmas.{call_in_is}
 use Rattle.smx_words.proofs.reading.call.call_of_line.Goals as goal

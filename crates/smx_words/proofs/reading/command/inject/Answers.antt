@@ -1,6 +1,4 @@
-use Rattle.std.proofs.Common.{arith, refl}
-use Rattle.std.proofs.lemmas.Grind.{common_steps}
-use Rattle.std.proofs.lemmas.Result.{err_from_is_err_and}
+use Rattle.smx_words.proofs.Common.{arith, refl, common_steps, err_from_is_err_and}
 use Rattle.smx_types.specs.declared.command.Command.TheVariants as command
 use Rattle.smx_words.proofs.reading.command.inject.Goals as goal
 

@@ -1,9 +1,6 @@
-use Rattle.std.proofs.Common.{ℕ, List, ◌∷◌, ◌++◌, ap, ◌∙◌, refl}
-use Rattle.std.proofs.lemmas.Result.{err_from_is_err_and}
+use Rattle.smx_words.proofs.Common.{ℕ, List, ◌∷◌, ◌++◌, ap, ◌∙◌, refl, err_from_is_err_and, decimal, SPACE}
 use Rattle.std.specs.Prelude.{codes}
-use Rattle.std.specs.Fmt.{decimal}
 use Rattle.smx_types.specs.declared.command.Command.TheVariants as command
-use Rattle.smx_words.specs.Words.{SPACE}
 use Rattle.smx_words.proofs.reading.command.write.Goals as goal
 
 pub returns-in_err-addr-clause-wanted : goal.returns-in_err-addr-clause-wanted

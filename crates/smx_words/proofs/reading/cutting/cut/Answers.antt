@@ -1,5 +1,4 @@
-use Rattle.std.proofs.Common.{arith}
-use Rattle.std.proofs.lemmas.Bool.Decides.{nat_tests}
+use Rattle.smx_words.proofs.Common.{arith, nat_tests}
 use Rattle.smx_words.proofs.CutLemmas.{not_cut, free_front, is_cut}
 use Rattle.smx_words.proofs.reading.cutting.cut.Goals as goal
 

@@ -1,7 +1,4 @@
-use Rattle.std.proofs.Common.{ap, ◌∙◌, arith}
-use Rattle.std.specs.List.{list_all}
-use Rattle.std.proofs.lemmas.List.{take_all}
-use Rattle.smx_words.specs.HexWords.{is_digit}
+use Rattle.smx_words.proofs.Common.{ap, ◌∙◌, arith, list_all, take_all, is_digit}
 use Rattle.smx_words.proofs.reading.hex_word.are_digits.Goals as goal
 
 pub returns : goal.returns

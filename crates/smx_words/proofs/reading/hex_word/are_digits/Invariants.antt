@@ -1,6 +1,4 @@
-use Rattle.std.proofs.Common.{◌≡◌, take}
-use Rattle.std.specs.List.{list_all}
-use Rattle.smx_words.specs.HexWords.{is_digit}
+use Rattle.smx_words.proofs.Common.{◌≡◌, take, list_all, is_digit}
 use Rattle.smx_words.proofs.reading.hex_word.are_digits.Given as goal
 
 abbrev pub invariant-loop-byte : goal.invariant-loop-byte

@@ -1,6 +1,4 @@
-use Rattle.std.proofs.Common.{◌+◌, ◌*◌, ℕ, length, ap, arith, sym, ◌∙◌}
-use Rattle.std.proofs.lemmas.List.{take_all}
-use Rattle.smx_words.specs.HexWords.{is_digit}
+use Rattle.smx_words.proofs.Common.{◌+◌, ◌*◌, ℕ, length, ap, arith, sym, ◌∙◌, take_all, is_digit}
 use Rattle.smx_words.proofs.HexLemmas.{all_at, bytes_at, encoded_long, one_byte_more, spelled_by}
 use Rattle.smx_words.proofs.reading.hex_word.set_bytes.Goals as goal
 

@@ -1,6 +1,5 @@
-use Rattle.std.proofs.Common.{sym, ◌∙◌, arith}
+use Rattle.smx_words.proofs.Common.{sym, ◌∙◌, arith, nat_tests}
 use Rattle.std.specs.Prelude.{codes}
-use Rattle.std.proofs.lemmas.Bool.Decides.{nat_tests}
 use Rattle.smx_words.proofs.CutLemmas.{differs}
 use Rattle.smx_words.proofs.HexLemmas.{by_digits, spell_some}
 use Rattle.smx_words.proofs.reading.hex_word.spells_bytes.Goals as goal

@@ -1,7 +1,4 @@
-use Rattle.std.proofs.Common.{◌∷◌, ◌++◌, sym, ◌∙◌, arith}
-use Rattle.std.proofs.lemmas.Grind.{common_steps}
-use Rattle.std.proofs.lemmas.List.{append_cancel_left}
-use Rattle.std.specs.Fmt.{decimal}
+use Rattle.smx_words.proofs.Common.{◌∷◌, ◌++◌, sym, ◌∙◌, arith, common_steps, append_cancel_left, decimal}
 use Rattle.std.specs.Prelude.{codes}
 use Rattle.smx_words.proofs.reading.line.driver_of.Goals as goal
 

@@ -1,5 +1,4 @@
-use Rattle.std.proofs.Common.{◌∷◌, arith, refl}
-use Rattle.smx_words.specs.Words.{SPACE}
+use Rattle.smx_words.proofs.Common.{◌∷◌, arith, refl, SPACE}
 use Rattle.smx_words.proofs.NumberLemmas.{is_first, leads, not_first}
 use Rattle.smx_words.proofs.reading.number.first_number.Goals as goal
 use Rattle.smx_words.proofs.reading.number.first_number.Goals.{else-end-text-via-then-end-text+else-text-end-eq32}

@@ -1,5 +1,4 @@
-use Rattle.std.proofs.Common.{sym, ◌∙◌, arith}
-use Rattle.smx_words.specs.Words.{SPACE}
+use Rattle.smx_words.proofs.Common.{sym, ◌∙◌, arith, SPACE}
 use Rattle.smx_words.proofs.CutLemmas.{apart}
 use Rattle.smx_words.proofs.NumberLemmas.{number_free, same_number}
 use Rattle.smx_words.proofs.reading.number.first_process.Goals as goal

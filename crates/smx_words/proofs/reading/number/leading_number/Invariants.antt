@@ -1,7 +1,5 @@
-use Rattle.std.proofs.Common.{◌≡◌, ◌+◌, ◌^◌, ◌<◌, ◌≤◌, ◌-◌, length, take, drop}
-use Rattle.std.specs.Char.{is_ascii_digit}
+use Rattle.smx_words.proofs.Common.{◌≡◌, ◌+◌, ◌^◌, ◌<◌, ◌≤◌, ◌-◌, length, take, drop, is_ascii_digit, digits_value}
 use Rattle.std.specs.List.{prefix_len}
-use Rattle.std.specs.Str.Parse.{digits_value}
 use Rattle.smx_words.proofs.reading.number.leading_number.Given as goal
 
 abbrev pub invariant-digits : goal.invariant-digits

@@ -1,5 +1,4 @@
-use Rattle.smx_words.specs.Verbs.{reply_verb_word}
-use Rattle.smx_words.specs.Spellable.{FitsAlways}
+use Rattle.smx_words.proofs.Common.{reply_verb_word, FitsAlways}
 use Rattle.smx_words.proofs.CutLemmas.{no_field}
 use Rattle.smx_words.proofs.WordLemmas.{reply_verb_free}
 use Rattle.smx_words.proofs.reading.verb.first_reply_verb.Goals as goal

@@ -1,7 +1,4 @@
-use Rattle.std.proofs.Common.{sym, ◌∙◌, arith}
-use Rattle.std.proofs.lemmas.Grind.{common_steps}
-use Rattle.std.proofs.lemmas.List.{append_cancel_left}
-use Rattle.std.proofs.lemmas.Result.{err_from_is_err_and}
+use Rattle.smx_words.proofs.Common.{sym, ◌∙◌, arith, common_steps, append_cancel_left, err_from_is_err_and}
 use Rattle.std.specs.Prelude.{codes}
 use Rattle.smx_words.proofs.reading.view.message_of.Goals as goal
 

@@ -1,7 +1,5 @@
-use Rattle.std.proofs.Common.{◌≡◌, ◌∷◌, ◌++◌, take}
-use Rattle.std.specs.Fmt.{decimal}
-use Rattle.std.specs.List.{flat_map, AllByRecursion}
-use Rattle.smx_words.specs.Spellable.{FitsNumber}
+use Rattle.smx_words.proofs.Common.{◌≡◌, ◌∷◌, ◌++◌, take, decimal, AllByRecursion, FitsNumber}
+use Rattle.std.specs.List.{flat_map}
 use Rattle.smx_words.proofs.writing.reply.put_serials.Given as goal
 
 abbrev pub invariant-loop-serial : goal.invariant-loop-serial

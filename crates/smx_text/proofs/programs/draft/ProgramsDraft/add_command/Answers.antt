@@ -1,7 +1,5 @@
-use Rattle.std.proofs.Common.{◌≡◌, ◌-◌, ◌<◌, List, length, ap, ◌∙◌, rules}
-use Rattle.std.proofs.Math.ListN.{set}
-use Rattle.smx_types.specs.ProgramLists.{ProgramLists}
-use Rattle.smx_types.specs.declared.command.Command.{Command}
+use Rattle.smx_text.proofs.Common.{◌-◌, ◌<◌, ap, ◌∙◌, rules, set, ProgramLists, Command}
+use Rattle.std.proofs.Common.{◌≡◌, List, length}
 use Rattle.smx_text.specs.ProgramLines as line
 use Rattle.smx_text.proofs.BodyLemmas.{last_more}
 use Rattle.smx_text.proofs.MachineLemmas.{adds, longer_begun}

@@ -1,5 +1,4 @@
-use Rattle.std.proofs.Common.{rules}
-use Rattle.smx_types.specs.ProgramLists.{ProgramLists}
+use Rattle.smx_text.proofs.Common.{rules, ProgramLists}
 use Rattle.smx_text.specs.ProgramLines as line
 use Rattle.smx_text.proofs.MachineLemmas.{misplaced, too_many, adds, longer_begun}
 use Rattle.smx_text.proofs.ProgramsMachineLemmas.{stands}

@@ -1,6 +1,4 @@
-use Rattle.std.proofs.Common.{ap, rules}
-use Rattle.std.proofs.lemmas.Result.{err_from_is_err_and}
-use Rattle.smx_types.specs.ProgramLists.{ProgramLists}
+use Rattle.smx_text.proofs.Common.{ap, rules, err_from_is_err_and, ProgramLists}
 use Rattle.smx_text.specs.declared.text_fault.Cause.TheVariants as cause
 use Rattle.smx_text.specs.ProgramLines as line
 use Rattle.smx_text.proofs.GrammarLemmas.{answers, refuses}

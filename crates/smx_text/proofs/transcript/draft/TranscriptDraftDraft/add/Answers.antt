@@ -1,5 +1,4 @@
-use Rattle.std.proofs.Common.{rules}
-use Rattle.std.proofs.lemmas.Result.{err_from_is_err_and}
+use Rattle.smx_text.proofs.Common.{rules, err_from_is_err_and}
 use Rattle.smx_text.specs.declared.text_fault.Cause.TheVariants as cause
 use Rattle.smx_text.specs.TranscriptLines as line
 use Rattle.smx_text.proofs.GrammarLemmas.{answers, refuses}

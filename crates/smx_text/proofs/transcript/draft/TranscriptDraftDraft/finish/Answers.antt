@@ -1,9 +1,7 @@
-use Rattle.std.proofs.Common.{◌≡◌, Some, ap, refl, rules, subst}
-use Rattle.smx_types.specs.declared.transcript.Transcript.{Transcript}
+use Rattle.smx_text.proofs.Common.{ap, refl, rules, subst, Transcript, Stage, grammar_of, lines}
+use Rattle.std.proofs.Common.{◌≡◌, Some}
 use Rattle.smx_text.specs.declared.text_fault.Cause.TheVariants as cause
-use Rattle.smx_text.specs.declared.transcript.draft.Stage.{Stage}
 use Rattle.smx_text.specs.declared.transcript.draft.Stage.TheVariants as stage
-use Rattle.smx_text.specs.Drafts.{grammar_of, lines}
 use Rattle.smx_text.specs.Reading.{EndsAs}
 use Rattle.smx_text.specs.TranscriptLines as line
 use Rattle.smx_text.proofs.MachineLemmas.{finished, misplaced}
