@@ -17,8 +17,8 @@ ghost use Rattle.smx_filters.specs.TraceText.{tracing};
 
 /// The results of each filter for an input in memory: if nothing fails (`ends`), if the reader fails (`unread`), and if
 /// the writer fails (`cut_short`). A filter whose reader fails returns `ReadFailed`, and writes nothing. A filter whose
-/// writer fails has seen the end of the input, and has written a beginning of an output that is allowed. On success, the
-/// result of a check is the verdict, and that of every other filter only says that it is done.
+/// writer fails has seen the end of the input, and has written a beginning of an output that is allowed. On success,
+/// the result of a check is the verdict. The result of every other filter only says that it is done.
 pub fn filters_end_in_memory()
     ensures runs { (fronts : Bool) (workers : ℕ) → FiltersInMemory (running fronts workers) }
     ensures checks { FiltersInMemory checking }
