@@ -1,14 +1,14 @@
 //! Three threads share one configuration, each with its own process: muxsim as a library.
 #![tactic(auto)]
 
-ghost use Rattle.std.specs.Prelude.{◌≡◌, ◌≤◌, All, IfOk, IfSome};
+ghost use Rattle.std.specs.Prelude.{◌≡◌, ◌≤◌, All, IfOk};
 ghost use Rattle.smx_types.specs.declared.limits.TheConstants.{MAX_PROCESSES};
 
-use smx_config::{ConfigFault, Verdict, check_history};
-use smx_shared::{CloseFault, Door, Seat, Shared, System};
+use anyhow::{Context, Result};
+use smx_config::{Verdict, check_history};
+use smx_shared::{Door, Seat, Shared, System};
 use smx_types::{Command, DriverKind, DriverSpec, Name, NoMemory, Reply};
 use std::alloc::Global;
-use std::process::ExitCode;
 use std::sync::Wait;
 use std::thread::{Threads, map_vec};
 
@@ -24,33 +24,6 @@ fn driver(name: Name, kind: DriverKind) -> DriverSpec {
     }
 }
 
-// Why the program failed.
-#[derive(Clone, Copy, Debug)]
-enum Failure {
-    Memory,
-    Drivers(ConfigFault),
-    Close(CloseFault),
-    Output,
-}
-
-impl From<NoMemory> for Failure {
-    fn from(_error: NoMemory) -> Failure {
-        Failure::Memory
-    }
-}
-
-impl From<ConfigFault> for Failure {
-    fn from(error: ConfigFault) -> Failure {
-        Failure::Drivers(error)
-    }
-}
-
-impl From<CloseFault> for Failure {
-    fn from(error: CloseFault) -> Failure {
-        Failure::Close(error)
-    }
-}
-
 // Performs a command for the process of a seat. Returns the reply, which may refuse the command. Returns `None` if the
 // call fails.
 fn answer<R: Wait>(
@@ -63,10 +36,8 @@ fn answer<R: Wait>(
     requires { seat.old.shared ≡ shared.now.name }
     ensures { seat.new.shared ≡ shared.now.name }
 {
-    match shared.call(rt, alloc, seat, command) {
-        Ok(entry) => Some(entry.reply),
-        Err(_) => None,
-    }
+    let entry = shared.call(rt, alloc, seat, command).ok()?;
+    Some(entry.reply)
 }
 
 // Opens a stream of ip and one of eth, links the second below the first by a persistent link, and exits. Returns
@@ -81,32 +52,17 @@ fn links_for_good<R: Wait>(
 ) -> bool
     requires { seat.shared ≡ shared.now.name }
 {
-    let (open_ip, open_eth) = (
-        Command::OpenClone { driver: ip },
-        Command::OpenClone { driver: eth },
-    );
+    let open_ip = Command::OpenClone { driver: ip };
+    let open_eth = Command::OpenClone { driver: eth };
     let link = Command::Plink { fd: 0, arg: 1 };
-    let (upper, lower) = (
-        answer(rt, shared, &mut seat, alloc, &open_ip),
-        answer(rt, shared, &mut seat, alloc, &open_eth),
-    );
+    let upper = answer(rt, shared, &mut seat, alloc, &open_ip);
+    let lower = answer(rt, shared, &mut seat, alloc, &open_eth);
     let id = answer(rt, shared, &mut seat, alloc, &link);
     let end = answer(rt, shared, &mut seat, alloc, &Command::CloseAll);
     matches!(upper, Some(Reply::Fd { .. }))
         && matches!(lower, Some(Reply::Fd { .. }))
         && matches!(id, Some(Reply::Id(_)))
         && matches!(end, Some(Reply::Done { .. }))
-}
-
-// Returns all seats except the last, and then the last. Returns `None` if there are no seats.
-fn last_of(shared: &Shared, mut seats: Vec<Seat>) -> Option<(Vec<Seat>, Seat)>
-    requires { All (λ s. s.shared ≡ shared.now.name) seats.items }
-    ensures { IfSome result (λ r. All (λ s. s.shared ≡ shared.now.name) r.0.items × (r.1.shared ≡ shared.now.name)) }
-{
-    let Some(last) = seats.pop() else {
-        return None;
-    };
-    Some((seats, last))
 }
 
 // Runs `links_for_good` for each seat, on a thread of its own. The threads take their turns in any order. Returns
@@ -151,41 +107,31 @@ fn shared_by_three<R: Threads + Wait + Sync>(
     system: System,
     ip: Name,
     eth: Name,
-) -> Result<(bool, System), Failure> {
-    let (shared, seats) = start(alloc, system, 4)?;
-    let Some((seats, last)) = last_of(&shared, seats) else {
-        return Err(Failure::Memory);
-    };
+) -> Result<(bool, System)> {
+    let (shared, mut seats) = start(alloc, system, 4)?;
+    let last = seats.pop().context("there is no seat")?;
     let all = all_link(rt, &shared, seats, alloc, ip, eth);
     Ok((all, shared.close(last)?))
 }
 
 // Returns the verdict on the history of the system and the configuration that it shows.
-fn verdict_of(alloc: Global, drivers: &[DriverSpec], system: &System) -> Result<Verdict, Failure> {
+fn verdict_of(alloc: Global, drivers: &[DriverSpec], system: &System) -> Result<Verdict> {
     let view = system.config().show()?;
     Ok(check_history(alloc, drivers, system.entries(), &view)?)
 }
 
 // Lets three processes share a system, and prints one line with the result.
-fn tell_of_three<R: Threads + Wait + Sync + Print>(rt: &R, alloc: Global) -> Result<(), Failure> {
+fn tell_of_three<R: Threads + Wait + Sync + Print>(rt: &R, alloc: Global) -> Result<()> {
     let (ip, eth) = (Name::new("ip").unwrap(), Name::new("eth").unwrap());
     let drivers = [driver(ip, DriverKind::Mux), driver(eth, DriverKind::Leaf)];
     let system = System::new(alloc, &drivers, 100)?;
     let (all, system) = shared_by_three(rt, alloc, system, ip, eth)?;
     let verdict = verdict_of(alloc, &drivers, &system)?;
     let (entries, links) = (system.entries().len(), system.config().link_count());
-    match println!(rt; "{all}: {entries} entries, {links} links, {verdict:?}") {
-        Ok(()) => Ok(()),
-        Err(_) => Err(Failure::Output),
-    }
+    println!(rt; "{all}: {entries} entries, {links} links, {verdict:?}")?;
+    Ok(())
 }
 
-fn main(rt: HostRuntime) -> ExitCode {
-    match tell_of_three(&rt, rt.alloc()) {
-        Ok(()) => ExitCode::SUCCESS,
-        Err(failure) => {
-            let _ = eprintln!(rt; "embed_rust: {failure:?}");
-            ExitCode::FAILURE
-        }
-    }
+fn main(rt: HostRuntime) -> Result<()> {
+    tell_of_three(&rt, rt.alloc())
 }

@@ -16,10 +16,10 @@ use Rattle.smx_filters.specs.Filters.{Filter, FiltersText, GivesFor}
 use Rattle.smx_filters.specs.ReplayText.{replaying}
 use Rattle.smx_filters.specs.RunText.{running}
 use Rattle.smx_filters.specs.StepsText.{stepping}
-use Rattle.smx_filters.specs.Statuses.{status_of, status_of_cause, status_of_outcome, status_of_verdict}
+use Rattle.smx_run.specs.Statuses.{status_of, status_of_cause, status_of_outcome, status_of_verdict}
 use Rattle.smx_filters.specs.TraceText.{tracing}
-use Rattle.smx_filters.specs.declared.main_fault.MainFault.{MainFault}
-use Rattle.smx_filters.specs.declared.main_fault.MainFault.TheVariants.{Refused, Text, TooLong, ReadFailed, WriteFailed}
+use Rattle.smx_run.specs.declared.main_fault.MainFault.{MainFault}
+use Rattle.smx_run.specs.declared.main_fault.MainFault.TheVariants.{Refused, Text, TooLong, ReadFailed, WriteFailed}
 use Rattle.smx_live.specs.LiveText.{AreFine, IsOutcome, IsOver, LivesText}
 use Rattle.muxsim.specs.Ends.{Devices, EndsCheck, EndsDraw, EndsJob, EndsLive, EndsReplay, EndsRun, EndsSteps}
 use Rattle.muxsim.specs.Ends.{EndsTrace}

@@ -10,12 +10,12 @@ use Rattle.smx_filters.specs.Filters.{FiltersText}
 use Rattle.smx_live.specs.LiveText.{LivesText}
 use Rattle.smx_filters.specs.ReplayText.{ReplaysText}
 use Rattle.smx_filters.specs.RunText.{RunsText}
-use Rattle.smx_filters.specs.Statuses.{status_of_outcome}
+use Rattle.smx_run.specs.Statuses.{status_of_outcome}
 use Rattle.smx_filters.specs.StepsText.{StepsText}
 use Rattle.smx_filters.specs.TraceText.{TracesText}
-use Rattle.smx_filters.specs.declared.done.Done.{Done}
-use Rattle.smx_filters.specs.declared.done.Done.TheVariants.{Finished, Judged}
-use Rattle.smx_filters.specs.declared.main_fault.MainFault.{MainFault}
+use Rattle.smx_run.specs.declared.main_fault.Done.{Done}
+use Rattle.smx_run.specs.declared.main_fault.Done.TheVariants.{Finished, Judged}
+use Rattle.smx_run.specs.declared.main_fault.MainFault.{MainFault}
 use Rattle.smx_command_line.specs.declared.jobs.Job.{Job}
 use Rattle.smx_command_line.specs.declared.jobs.Job.TheVariants.{Run, Check, Replay, Trace, Draw, Steps, Live}
 

@@ -1,14 +1,14 @@
 //! Does a job from a reader to a writer, and gives the exit status for the result.
 
-ghost use Rattle.std.specs.Prelude.{◌≡◌, false, true};
+ghost use Rattle.std.specs.Prelude.{◌≡◌};
 ghost use Rattle.std.specs.Process.{exit_status};
-ghost use Rattle.muxsim.specs.Ends.{devices, outcome_of_writing, EndsCheck, EndsJob, EndsRun};
+ghost use Rattle.muxsim.specs.Ends.{devices, outcome_of_writing, EndsJob, EndsRun};
 ghost use Rattle.smx_command_line.specs.Jobs.{CanRun};
-ghost use Rattle.smx_filters.specs.ExplainText.{answer_of};
-ghost use Rattle.smx_filters.specs.Statuses.{status_of, status_of_outcome};
+ghost use Rattle.smx_run.specs.Devices.{AreReady};
+ghost use Rattle.smx_run.specs.Refusals.{answer_of};
+ghost use Rattle.smx_run.specs.Statuses.{status_of, status_of_outcome};
 
 use smx_command_line::Job;
-use smx_config::ConfigFault;
 use smx_explain::{DriverExplanation, FaultExplanation, TextKind};
 use smx_filters::{
     Done, Feed, MainFault, Refusal, Sink, check_explained, check_text, draw_text, replay_text,
@@ -16,7 +16,7 @@ use smx_filters::{
 };
 use smx_live::live_text;
 use smx_run::{NoGate, RunFault};
-use smx_text::{Cause, TextFault};
+use smx_text::Cause;
 use std::alloc::Global;
 use std::process::ExitCode;
 use std::sync::Wait;
@@ -32,9 +32,7 @@ pub fn do_job<R: Threads + Wait + Sync + Eprint, F: Feed, S: Sink>(
     sink: &mut S,
 ) -> ExitCode
     requires job { CanRun job }
-    requires before_the_end { F.ended feed.old ≡ false }
-    requires fed { F.failures feed.old ≡ 0 }
-    requires sunk { S.failures sink.old ≡ 0 }
+    requires ready { AreReady (F.ended feed.old) (F.failures feed.old) (S.failures sink.old) }
     ensures { EndsJob job (devices F.remaining F.ended F.failures S.contents S.flushed S.failures
         feed.old feed.new sink.old sink.new) result }
 {
@@ -44,8 +42,14 @@ pub fn do_job<R: Threads + Wait + Sync + Eprint, F: Feed, S: Sink>(
             fronts,
             explain,
         } => run(rt, alloc, feed, sink, workers, fronts, explain),
-        Job::Check { explain: false } => check(rt, alloc, feed, sink),
-        Job::Check { explain: true } => explained_check(rt, alloc, feed, sink),
+        Job::Check { explain: false } => match check_text(alloc, feed, sink) {
+            Ok(verdict) => ended(rt, Ok(Done::Judged(verdict))),
+            Err(fault) => ended(rt, Err(fault)),
+        },
+        Job::Check { explain: true } => match check_explained(alloc, feed, sink) {
+            Ok(verdict) => ended(rt, Ok(Done::Judged(verdict))),
+            Err(refusal) => refused(rt, TextKind::Transcript, refusal),
+        },
         Job::Replay { at, explain } => {
             let outcome = replay_text(alloc, feed, sink, at);
             written(rt, TextKind::Transcript, outcome, explain)
@@ -80,9 +84,7 @@ fn run<R: Threads + Wait + Sync + Eprint, F: Feed, S: Sink>(
     explain: bool,
 ) -> ExitCode
     requires workers { CanRun (Job.Run workers fronts explain) }
-    requires before_the_end { F.ended feed.old ≡ false }
-    requires fed { F.failures feed.old ≡ 0 }
-    requires sunk { S.failures sink.old ≡ 0 }
+    requires ready { AreReady (F.ended feed.old) (F.failures feed.old) (S.failures sink.old) }
     ensures { EndsRun fronts workers (devices F.remaining F.ended F.failures S.contents S.flushed S.failures
         feed.old feed.new sink.old sink.new) result }
 {
@@ -93,39 +95,6 @@ fn run<R: Threads + Wait + Sync + Eprint, F: Feed, S: Sink>(
     match run_text(rt, alloc, feed, sink, workers, fronts, &NoGate) {
         Ok(()) => ended(rt, Ok(Done::Finished)),
         Err(fault) => ended(rt, Err(fault)),
-    }
-}
-
-// Judges the transcript.
-fn check<R: Eprint, F: Feed, S: Sink>(rt: &R, alloc: Global, feed: &mut F, sink: &mut S) -> ExitCode
-    requires before_the_end { F.ended feed.old ≡ false }
-    requires fed { F.failures feed.old ≡ 0 }
-    requires sunk { S.failures sink.old ≡ 0 }
-    ensures { EndsCheck false (devices F.remaining F.ended F.failures S.contents S.flushed S.failures
-        feed.old feed.new sink.old sink.new) result }
-{
-    match check_text(alloc, feed, sink) {
-        Ok(verdict) => ended(rt, Ok(Done::Judged(verdict))),
-        Err(fault) => ended(rt, Err(fault)),
-    }
-}
-
-// Judges the transcript. Shows where it differs from its replay, or what is wrong with a text that is refused.
-fn explained_check<R: Eprint, F: Feed, S: Sink>(
-    rt: &R,
-    alloc: Global,
-    feed: &mut F,
-    sink: &mut S,
-) -> ExitCode
-    requires before_the_end { F.ended feed.old ≡ false }
-    requires fed { F.failures feed.old ≡ 0 }
-    requires sunk { S.failures sink.old ≡ 0 }
-    ensures { EndsCheck true (devices F.remaining F.ended F.failures S.contents S.flushed S.failures
-        feed.old feed.new sink.old sink.new) result }
-{
-    match check_explained(alloc, feed, sink) {
-        Ok(verdict) => ended(rt, Ok(Done::Judged(verdict))),
-        Err(refusal) => refused(rt, TextKind::Transcript, refusal),
     }
 }
 
@@ -141,13 +110,8 @@ fn written<R: Eprint>(
 {
     match outcome {
         Ok(()) => ended(rt, Ok(Done::Finished)),
-        Err(refusal) => {
-            if explain {
-                refused(rt, kind, refusal)
-            } else {
-                ended(rt, Err(refusal.fault))
-            }
-        }
+        Err(refusal) if explain => refused(rt, kind, refusal),
+        Err(refusal) => ended(rt, Err(refusal.fault)),
     }
 }
 
@@ -157,64 +121,39 @@ fn refused<R: Eprint>(rt: &R, kind: TextKind, refusal: Refusal) -> ExitCode
     ensures { exit_status result ≡ status_of refusal.fault }
 {
     let Refusal { fault, text } = refusal;
-    let shown = shown_fault(&fault);
-    let no_thread = matches!(fault, MainFault::Refused(RunFault::NoThread));
-    let code = ended(rt, Err(fault));
-    if no_thread {
+    let code = failed(rt, &fault);
+    if matches!(fault, MainFault::Refused(RunFault::NoThread)) {
         let _ = eprintln!(rt; "a thread for a worker could not be started, see --workers");
     }
     if let Some(text) = text {
-        show(rt, kind, text.as_slice(), shown);
+        show(rt, kind, text.as_slice(), &fault);
     }
     code
 }
 
-// The fault to explain below its line: a fault of the text, a fault of its drivers, or none.
-#[derive(Clone, Copy)]
-enum ShownFault {
-    Text(TextFault),
-    Drivers(ConfigFault),
-    None,
-}
-
 // Prints what is wrong with a text or with its drivers, if the fault is one of them.
-fn show<R: Eprint>(rt: &R, kind: TextKind, text: &[u8], fault: ShownFault) {
+fn show<R: Eprint>(rt: &R, kind: TextKind, text: &[u8], fault: &MainFault) {
     match fault {
-        ShownFault::Text(fault) => {
-            let explanation = FaultExplanation { kind, text, fault };
+        MainFault::Text(fault) if fault.cause != Cause::NoMemory => {
+            let explanation = FaultExplanation {
+                kind,
+                text,
+                fault: *fault,
+            };
             let _ = eprint!(rt; "{explanation}");
         }
-        ShownFault::Drivers(fault) => {
-            let explanation = DriverExplanation { text, fault };
+        MainFault::Refused(RunFault::ConfigFault(fault)) => {
+            let explanation = DriverExplanation {
+                text,
+                fault: *fault,
+            };
             let _ = eprint!(rt; "{explanation}");
         }
-        ShownFault::None => {}
-    }
-}
-
-// Returns the fault as one of the text or of its drivers. Returns `ShownFault::None` for any other fault, such as
-// out-of-memory.
-fn shown_fault(fault: &MainFault) -> ShownFault {
-    match fault {
-        MainFault::Text(fault) => match fault.cause {
-            Cause::NoMemory => ShownFault::None,
-            Cause::Header | Cause::Form | Cause::Many | Cause::Cut | Cause::Trailing => {
-                ShownFault::Text(*fault)
-            }
-        },
-        MainFault::Refused(RunFault::ConfigFault(fault)) => ShownFault::Drivers(*fault),
-        MainFault::Refused(
-            RunFault::NoMemory
-            | RunFault::NoThread
-            | RunFault::Strange(_)
-            | RunFault::HistoryFull
-            | RunFault::Held
-            | RunFault::FewEntries(_)
-            | RunFault::LongPage(_),
-        )
+        MainFault::Text(_)
+        | MainFault::Refused(_)
         | MainFault::TooLong
         | MainFault::ReadFailed
-        | MainFault::WriteFailed => ShownFault::None,
+        | MainFault::WriteFailed => {}
     }
 }
 
@@ -224,10 +163,15 @@ pub fn ended<R: Eprint>(rt: &R, outcome: Result<Done, MainFault>) -> ExitCode
 {
     match outcome {
         Ok(done) => ExitCode::from(done.status()),
-        Err(fault) => {
-            let status = fault.status();
-            let _ = eprintln!(rt; "muxsim: {fault}");
-            ExitCode::from(status)
-        }
+        Err(fault) => failed(rt, &fault),
     }
+}
+
+// Returns the status of a fault. Prints the fault's line on standard error.
+fn failed<R: Eprint>(rt: &R, fault: &MainFault) -> ExitCode
+    ensures { exit_status result ≡ status_of fault.now }
+{
+    let status = fault.status();
+    let _ = eprintln!(rt; "muxsim: {fault}");
+    ExitCode::from(status)
 }

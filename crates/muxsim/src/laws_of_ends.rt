@@ -16,8 +16,7 @@ ghost use Rattle.smx_filters.specs.StepsText.{stepping};
 ghost use Rattle.smx_filters.specs.TraceText.{tracing};
 ghost use Rattle.smx_live.specs.LiveText.{IsOver};
 ghost use Rattle.muxsim.specs.Ends.{Devices, EndsCheck, EndsDraw, EndsJob, EndsLive, EndsReplay, EndsRun, EndsSteps};
-ghost use Rattle.muxsim.specs.Ends.{EndsTrace};
-ghost use Rattle.muxsim.specs.Ends.{Writes};
+ghost use Rattle.muxsim.specs.Ends.{EndsTrace, Writes};
 ghost use Rattle.smx_command_line.specs.declared.jobs.Job.{Job as AnyJob};
 ghost use Rattle.smx_command_line.specs.declared.jobs.Job.TheVariants.{Live};
 

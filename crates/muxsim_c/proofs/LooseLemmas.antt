@@ -23,7 +23,7 @@ use Rattle.std.proofs.alloc.Calls.{Al, handle_tells}
 use Rattle.std.proofs.cell.Inside.{Good}
 use Rattle.std.proofs.ResultValues.{and_tt}
 use Rattle.std.specs.Box.Ownership.{box_owns}
-use Rattle.muxsim_c.specs.contracts.loose.Loose as loose
+use Rattle.muxsim_c.specs.contracts.handle.Loose as loose
 
 -- a struct of two fields
 abbrev pub both : Val → Val → Val

@@ -16,8 +16,8 @@ use Rattle.smx_text.specs.WorkedFaults.{AreWrongPrograms}
 use Rattle.smx_text.specs.declared.text_fault.Cause.TheVariants as cause
 use Rattle.smx_session.specs.Sessions.{IsNotPerformed, IsStartOf}
 use Rattle.smx_session.specs.WorkedSessions.{begun, table}
-use Rattle.smx_session.specs.declared.line_fault.LineFault.TheVariants as line
-use Rattle.smx_session.specs.declared.start_fault.StartFault.TheVariants as start
+use Rattle.smx_session.specs.declared.faults.LineFault.TheVariants as line
+use Rattle.smx_session.specs.declared.faults.StartFault.TheVariants as start
 use Rattle.muxsim_c.specs.Calls.{Answers, Copies, IsWhy, Performs, Tells, TellsWhy}
 use Rattle.muxsim_c.specs.Codes.{Outcome, code}
 use Rattle.muxsim_c.specs.declared.call_fault.CallFault.{CallFault}

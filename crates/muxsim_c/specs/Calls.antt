@@ -4,9 +4,9 @@ use Rattle.std.specs.Prelude.{IsSome, Result, Ok, Err, IfErr}
 use Rattle.smx_session.specs.Sessions.{IsLastLine, IsNotPerformed, StartsAs, State, shown_lines}
 use Rattle.smx_session.specs.Sessions.{Performs as Steps}
 use Rattle.smx_session.specs.FaultWords.{start_fault_words}
-use Rattle.smx_session.specs.declared.line_fault.LineFault.{LineFault}
-use Rattle.smx_session.specs.declared.start_fault.StartFault.{StartFault}
-use Rattle.smx_session.specs.declared.start_fault.StartFault.TheVariants.{NoMemory as memory}
+use Rattle.smx_session.specs.declared.faults.LineFault.{LineFault}
+use Rattle.smx_session.specs.declared.faults.StartFault.{StartFault}
+use Rattle.smx_session.specs.declared.faults.StartFault.TheVariants.{NoMemory as memory}
 use Rattle.muxsim_c.specs.Codes.{Outcome, code, fault_of_line, fault_of_start}
 use Rattle.muxsim_c.specs.declared.call_fault.CallFault.{CallFault}
 use Rattle.muxsim_c.specs.declared.call_fault.CallFault.TheVariants.{NoMemory, NoEntry, NoRoom, Closed, IsOpen}

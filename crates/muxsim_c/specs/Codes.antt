@@ -1,11 +1,11 @@
 -- The codes that C gets.
 use Rattle.std.specs.Prelude.{Result, Ok, Err, ℤ, pos}
-use Rattle.smx_session.specs.declared.entry_fault.EntryFault.{EntryFault}
-use Rattle.smx_session.specs.declared.entry_fault.EntryFault.TheVariants as entry
-use Rattle.smx_session.specs.declared.line_fault.LineFault.{LineFault}
-use Rattle.smx_session.specs.declared.line_fault.LineFault.TheVariants as line
-use Rattle.smx_session.specs.declared.start_fault.StartFault.{StartFault}
-use Rattle.smx_session.specs.declared.start_fault.StartFault.TheVariants as start
+use Rattle.smx_session.specs.declared.faults.EntryFault.{EntryFault}
+use Rattle.smx_session.specs.declared.faults.EntryFault.TheVariants as entry
+use Rattle.smx_session.specs.declared.faults.LineFault.{LineFault}
+use Rattle.smx_session.specs.declared.faults.LineFault.TheVariants as line
+use Rattle.smx_session.specs.declared.faults.StartFault.{StartFault}
+use Rattle.smx_session.specs.declared.faults.StartFault.TheVariants as start
 use Rattle.muxsim_c.specs.declared.call_fault.CallFault.{CallFault}
 use Rattle.muxsim_c.specs.declared.call_fault.CallFault.TheVariants.{NoMemory, Text, Drivers, Line, NoEntry}
 use Rattle.muxsim_c.specs.declared.call_fault.CallFault.TheVariants.{NoRoom, Closed, IsOpen}

@@ -3,9 +3,9 @@ use Rattle.std.specs.Prelude.{◌≡◌, ℕ, List, [], ◌∷◌, map, Ok, Err,
 use Rattle.std.specs.Fmt.{digits}
 use Rattle.smx_config.specs.declared.config_fault.ConfigFault.TheVariants as config
 use Rattle.smx_session.specs.FaultWords.{start_fault_words}
-use Rattle.smx_session.specs.declared.entry_fault.EntryFault.TheVariants as entry
-use Rattle.smx_session.specs.declared.line_fault.LineFault.TheVariants as line
-use Rattle.smx_session.specs.declared.start_fault.StartFault.TheVariants as start
+use Rattle.smx_session.specs.declared.faults.EntryFault.TheVariants as entry
+use Rattle.smx_session.specs.declared.faults.LineFault.TheVariants as line
+use Rattle.smx_session.specs.declared.faults.StartFault.TheVariants as start
 use Rattle.smx_text.specs.declared.text_fault.Cause.TheVariants as cause
 use Rattle.smx_types.specs.declared.driver.SpecFault.TheVariants.{BadMarks}
 use Rattle.muxsim_c.specs.Codes.{code, fault_of_entry, fault_of_line, fault_of_start}

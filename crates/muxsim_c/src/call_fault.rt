@@ -1,7 +1,8 @@
 //! Why a call did nothing, and its code in C.
 
 ghost use Rattle.std.specs.Prelude.{◌≡◌};
-ghost use Rattle.muxsim_c.specs.Codes.{code};
+ghost use Rattle.muxsim_c.specs.Codes.{code, fault_of_entry, fault_of_line, fault_of_start};
+ghost use Rattle.muxsim_c.specs.declared.call_fault.CallFault.TheVariants.{NoMemory};
 
 use smx_session::{EntryFault, LineFault, StartFault};
 use smx_types::NoMemory;
@@ -45,9 +46,6 @@ pub fn code_of(outcome: &Result<(), CallFault>) -> i32
 }
 
 impl From<StartFault> for CallFault {
-    ghost use Rattle.std.specs.Prelude.{◌≡◌};
-    ghost use Rattle.muxsim_c.specs.Codes.{fault_of_start};
-
     ghost from_gives = { λ fault f. f ≡ fault_of_start fault };
 
     fn from(fault: StartFault) -> CallFault {
@@ -60,9 +58,6 @@ impl From<StartFault> for CallFault {
 }
 
 impl From<LineFault> for CallFault {
-    ghost use Rattle.std.specs.Prelude.{◌≡◌};
-    ghost use Rattle.muxsim_c.specs.Codes.{fault_of_line};
-
     ghost from_gives = { λ fault f. f ≡ fault_of_line fault };
 
     fn from(fault: LineFault) -> CallFault {
@@ -74,9 +69,6 @@ impl From<LineFault> for CallFault {
 }
 
 impl From<EntryFault> for CallFault {
-    ghost use Rattle.std.specs.Prelude.{◌≡◌};
-    ghost use Rattle.muxsim_c.specs.Codes.{fault_of_entry};
-
     ghost from_gives = { λ fault f. f ≡ fault_of_entry fault };
 
     fn from(fault: EntryFault) -> CallFault {
@@ -88,9 +80,6 @@ impl From<EntryFault> for CallFault {
 }
 
 impl From<NoMemory> for CallFault {
-    ghost use Rattle.std.specs.Prelude.{◌≡◌};
-    ghost use Rattle.muxsim_c.specs.declared.call_fault.CallFault.TheVariants.{NoMemory};
-
     ghost from_gives = { λ _ t. t ≡ NoMemory };
 
     fn from(_error: NoMemory) -> CallFault {

@@ -1,14 +1,15 @@
-//! The calls of a handle.
+//! The calls of a handle, and the words that say why no session can be opened with a text.
 
-ghost use Rattle.std.specs.Prelude.{◌≡◌};
-ghost use Rattle.muxsim_c.specs.Calls.{Closes, Opens, Performs, Shows, Tells};
+ghost use Rattle.std.specs.Prelude.{◌≡◌, None, Some, MatchOption, IfErr, IfOk, string_bytes};
+ghost use Rattle.muxsim_c.specs.Calls.{Closes, Copies, IsWhy, Opens, Performs, Shows, Tells, TellsWhy};
+ghost use Rattle.muxsim_c.specs.declared.call_fault.CallFault.TheVariants.{NoMemory};
+ghost use Rattle.smx_session.specs.FaultWords.{start_fault_words};
 
 use crate::call_fault::CallFault;
-use crate::handle::Handle;
-use crate::slots::{put, take};
-use crate::texts::copy_out;
-use smx_session::Session;
-use std::alloc::Global;
+use crate::handle::{Handle, Loose};
+use smx_session::{Session, StartFault};
+use std::alloc::{AllocError, Global};
+use std::mem::replace;
 
 /// Puts a new session, with the drivers of a programs text, into a handle without a session.
 pub fn open(alloc: Global, handle: &mut Handle, programs: &[u8]) -> Result<(), CallFault>
@@ -83,11 +84,76 @@ pub fn show(
 pub fn close(alloc: Global, handle: &mut Handle) -> Result<(), CallFault>
     ensures { Closes handle.old.value handle.new.value result }
 {
-    match take(alloc, handle) {
-        Some(session) => {
-            drop(session);
-            Ok(())
-        }
-        None => Err(CallFault::Closed),
+    let Some(session) = take(alloc, handle) else {
+        return Err(CallFault::Closed);
+    };
+    drop(session);
+    Ok(())
+}
+
+/// Writes the words that say why no session can be opened with the text `programs`. Writes no byte if one can be
+/// opened.
+pub fn why(
+    alloc: Global,
+    programs: &[u8],
+    text: &mut [u8],
+    len: &mut usize,
+) -> Result<(), CallFault>
+    ensures { TellsWhy programs.now text.old text.new len.old len.new result }
+{
+    let words = reason(alloc, programs)?;
+    copy_out(words.as_bytes(), text, len)
+}
+
+// Returns the words that say why no session can be opened with a text. The words are empty if one can be opened.
+fn reason(alloc: Global, programs: &[u8]) -> Result<String, CallFault>
+    ensures words { IfOk result (λ words. IsWhy programs.now (string_bytes words)) }
+    ensures none { IfErr result (λ t. t ≡ NoMemory) }
+{
+    let fault = match Session::new(alloc, programs) {
+        Ok(_) => return Ok(String::new(alloc)),
+        Err(StartFault::NoMemory) => return Err(CallFault::NoMemory),
+        Err(fault) => fault,
+    };
+    match printed(alloc, fault) {
+        Ok(words) => Ok(words),
+        Err(_) => Err(CallFault::NoMemory),
     }
+}
+
+// Returns the words that a fault prints.
+fn printed(alloc: Global, fault: StartFault) -> Result<String, AllocError>
+    ensures { IfOk result (λ words. string_bytes words ≡ start_fault_words fault) }
+{
+    format!(in alloc; "{fault}")
+}
+
+// Takes the session out of the handle, which has none afterwards.
+fn take(alloc: Global, handle: &mut Handle) -> Option<Box<Session>>
+    ensures out { handle.new.value ≡ None }
+    ensures session { MatchOption result (handle.old.value ≡ None) (λ b. handle.old.value ≡ Some b.value) }
+{
+    match replace(handle, Handle::closed(alloc)).into_loose() {
+        Some(loose) => Some(loose.into_box()),
+        None => None,
+    }
+}
+
+// Puts a session into the handle.
+fn put(handle: &mut Handle, session: Box<Session>)
+    ensures { handle.new.value ≡ Some session.value }
+{
+    *handle = Handle::of(Loose::of(session));
+}
+
+// Writes a text to the start of a buffer, if it fits. Sets `len` to the text's length in both cases.
+fn copy_out(text: &[u8], buffer: &mut [u8], len: &mut usize) -> Result<(), CallFault>
+    ensures { Copies text.now buffer.old buffer.new len.new result }
+{
+    *len = text.len();
+    if text.len() > buffer.len() {
+        return Err(CallFault::NoRoom);
+    }
+    buffer[..text.len()].copy_from_slice(text);
+    Ok(())
 }

@@ -1,11 +1,11 @@
-//! A session as C sees it: a pointer.
+//! A session as C sees it: a pointer. And a box as a raw pointer and an allocator.
 
+ghost use Rattle.std.specs.Box.Ownership.{box_owns};
 ghost use Rattle.std.specs.Prelude.{◌≡◌, None, Some, MatchOption, Option};
 ghost use Rattle.smx_session.specs.Sessions.{State};
 
-use crate::loose::Loose;
 use smx_session::Session;
-use std::alloc::Global;
+use std::alloc::{Allocator, Global};
 use std::marker::{Model, Send};
 use std::ptr::null_mut;
 
@@ -68,5 +68,34 @@ impl Handle {
                 alloc,
             })
         }
+    }
+}
+
+/// A box, taken apart into its raw pointer and its allocator.
+pub struct Loose<T, A: Allocator> {
+    at: *mut T,
+    alloc: A,
+    ghost value: { T },
+}
+
+impl<T, A: Allocator> Model for Loose<T, A> {
+    ghost also_owns = { λ l. box_owns (A.dealloc_token l.alloc) T.row l.at l.value };
+}
+
+impl<T: Drop, A: Allocator> Loose<T, A> {
+    /// Takes the box apart.
+    pub fn of(value: Box<T, A>) -> Loose<T, A>
+        ensures { result.value ≡ value.value }
+    {
+        let (at, alloc) = Box::into_raw_with_allocator(value);
+        Loose { at, alloc }
+    }
+
+    /// Puts the box together again.
+    pub fn into_box(self) -> Box<T, A>
+        ensures { result.value ≡ self.value }
+    {
+        let Loose { at, alloc } = self;
+        unsafe { Box::from_raw(alloc, at) }
     }
 }

@@ -6,18 +6,13 @@ mod call_fault;
 mod calls;
 mod handle;
 pub mod laws_of_calls;
-mod loose;
-mod reasons;
-mod slots;
-mod texts;
 
 ghost use Rattle.std.specs.Prelude.{◌≡◌};
 ghost use Rattle.muxsim_c.specs.Calls.{Answers, Closes, Opens, Performs, Shows, Tells, TellsWhy};
 
 use call_fault::code_of;
-use calls::{close, entry, open, perform, show};
+use calls::{close, entry, open, perform, show, why};
 use handle::Handle;
-use reasons::why;
 use std::alloc::Global;
 
 /// Creates a session with the drivers of a programs text. The programs are not run. Returns 0 on success, or one of

@@ -1,15 +1,26 @@
 //! The bindings of all drivers.
 
-ghost use Rattle.std.specs.Prelude.{◌≡◌, false, ◌==◌, ◌&&◌, not, [], filter, find, length, IfOk, OnOk, OnErr};
+ghost use Rattle.std.specs.Prelude.{◌≡◌, ◌==◌, ◌&&◌, false, not, List, [], filter, find, length, IfOk, OnOk, OnErr};
+ghost use Rattle.smx_types.specs.declared.link.Binding.{Binding as BindingValue};
 ghost use Rattle.smx_model.specs.Configuration.{bind_before};
 ghost use Rattle.smx_model.specs.Ordered.{with_inserted};
 ghost use Rattle.smx_addresses.specs.BindingLists.{is_binding_of, is_taken, IsBindingList};
+ghost use Rattle.smx_addresses.specs.TableFields.{bindings_of, AreBindings};
 
-use crate::key::{Key, key_of};
 use indexmap::IndexMap;
 use smx_types::{Binding, NoMemory, StreamId};
 use std::alloc::Global;
 use std::marker::Model;
+
+/// The number of a driver, and an address or a minor.
+pub type Key = (u8, u32);
+
+// Returns the stream as a key.
+fn key_of(stream: StreamId) -> Key
+    ensures { result ≡ (stream.driver, stream.minor) }
+{
+    (stream.driver, u32::from(stream.minor))
+}
 
 /// For each driver and address, the stream that is bound to the address. Contracts see the list of bindings, sorted by
 /// driver and address.
@@ -22,12 +33,7 @@ pub struct Bindings {
 }
 
 impl Model for Bindings {
-    ghost use Rattle.std.specs.Prelude.{List};
-    ghost use Rattle.smx_types.specs.declared.link.Binding.{Binding};
-
-    ghost Value = { List Binding };
-
-    ghost use Rattle.smx_addresses.specs.TableFields.{bindings_of, AreBindings};
+    ghost Value = { List BindingValue };
 
     ghost view = { λ t. bindings_of t.minors.entries };
 

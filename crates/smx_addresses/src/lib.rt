@@ -3,9 +3,7 @@
 #![tactic(auto)]
 
 mod bindings;
-mod key;
 mod routes;
-mod targets;
 
 pub use bindings::Bindings;
 pub use routes::Routes;

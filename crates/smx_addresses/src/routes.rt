@@ -1,19 +1,50 @@
 //! The routes of all drivers.
 
-ghost use Rattle.std.specs.Prelude.{◌≡◌, ◌==◌, not, [], filter, find, length, IfOk, OnOk, OnErr};
+ghost use Rattle.std.specs.Prelude.{◌≡◌, ◌==◌, ℕ, true, false, not, List, [], filter, find, length, IfOk, OnOk, OnErr};
 ghost use Rattle.std.specs.List.{list_any, IsDistinct};
 ghost use Rattle.std.specs.Map.{keys_of, lookup};
+ghost use Rattle.smx_types.specs.declared.link.Route.{Route as RouteValue};
 ghost use Rattle.smx_model.specs.Configuration.{route_before};
 ghost use Rattle.smx_model.specs.Ordered.{with_inserted};
 ghost use Rattle.smx_addresses.specs.Keys.{Key as AnyKey, is_key, left_of};
 ghost use Rattle.smx_addresses.specs.RouteLists.{is_route, IsRouteList};
+ghost use Rattle.smx_addresses.specs.TableFields.{routes_of, AreRoutes};
+ghost use Rattle.smx_addresses.specs.Targets.{is_target, IsTargetSet};
 
-use crate::key::Key;
-use crate::targets::{Targets, drop_target, put_target};
-use indexmap::IndexMap;
+use crate::bindings::Key;
+use indexmap::{IndexMap, IndexSet};
 use smx_types::{NoMemory, Route};
 use std::alloc::Global;
 use std::marker::Model;
+
+// A map from the id of a link to the set of the keys (driver and address) that are routed to this link now. If a link
+// loses its last route by `drop_target`, its set stays, and is empty.
+type Targets = IndexMap<u32, IndexSet<Key>>;
+
+// Adds a key to the set of a link, if the set doesn't have it. If the link has no set, makes one.
+fn put_target(targets: &mut Targets, id: u32, key: Key) -> Result<(), NoMemory>
+    ensures ok { OnOk result (IsTargetSet targets.old.entries targets.new.entries id key true) }
+    ensures err { OnErr result ((i : ℕ) (k : AnyKey) →
+        is_target targets.new.entries i k ≡ is_target targets.old.entries i k) }
+{
+    if let Some(keys) = targets.get_mut(&id) {
+        let _new = keys.insert(key)?;
+        return Ok(());
+    }
+    let mut keys = IndexSet::new(*targets.allocator());
+    let _new = keys.insert(key)?;
+    targets.insert(id, keys)?;
+    Ok(())
+}
+
+// Removes a key from the set of a link.
+fn drop_target(targets: &mut Targets, id: u32, key: Key)
+    ensures { IsTargetSet targets.old.entries targets.new.entries id key false }
+{
+    if let Some(keys) = targets.get_mut(&id) {
+        let _was = keys.swap_remove(&key);
+    }
+}
 
 /// For each driver and address, the link to which the address is routed. Contracts see the list of routes, sorted by
 /// driver and address.
@@ -26,12 +57,7 @@ pub struct Routes {
 }
 
 impl Model for Routes {
-    ghost use Rattle.std.specs.Prelude.{List};
-    ghost use Rattle.smx_types.specs.declared.link.Route.{Route};
-
-    ghost Value = { List Route };
-
-    ghost use Rattle.smx_addresses.specs.TableFields.{routes_of, AreRoutes};
+    ghost Value = { List RouteValue };
 
     ghost view = { λ t. routes_of t.ids.entries };
 

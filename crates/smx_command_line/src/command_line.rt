@@ -87,18 +87,11 @@ fn drawing_of(draw: &ArgMatches) -> Job
 {
     let explain = draw.get_flag("explain");
     if draw.get_flag("steps") {
-        Job::Steps { explain }
-    } else if draw.get_flag("dot") {
-        Job::Draw {
-            form: Form::Dot,
-            explain,
-        }
-    } else {
-        Job::Draw {
-            form: Form::Svg,
-            explain,
-        }
+        return Job::Steps { explain };
     }
+    let dot = draw.get_flag("dot");
+    let form = if dot { Form::Dot } else { Form::Svg };
+    Job::Draw { form, explain }
 }
 
 // Returns clap's answer to `help commands`. The word `commands` alone asks for the same page of help.

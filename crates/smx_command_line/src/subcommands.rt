@@ -12,6 +12,23 @@ pub const SEE: &str =
 More is in muxsim(1), and beside the sources in docs/: the texts in FORMATS.md, commands and replies in
 COMMANDS.md. 'muxsim commands' shows how the texts are written, and the commands of a program.";
 
+// The help of each option without a value.
+const FRONTS: &str = "Write the fronts text in place of the transcript";
+
+const WAITS: &str = "Also write, below each entry, what waits then";
+
+const DOT: &str = "Write the language of Graphviz in place of SVG";
+
+const STEPS: &str = "Replay the transcript and write an HTML page with a picture after each entry";
+
+const EXPLAIN: &str = "Show what is wrong with a text that is refused";
+
+const EXPLAIN_TRANSCRIPT: &str =
+    "Show what is wrong with a transcript, or with a text that is refused";
+
+const EXPLAIN_LINES: &str =
+    "Show what is wrong with a line that is not a command, or with a table that is refused";
+
 /// Returns the subcommand that runs programs.
 pub fn run<'a>(alloc: Global) -> Result<Command<'a>, AllocError> {
     subcommand(
@@ -21,8 +38,8 @@ pub fn run<'a>(alloc: Global) -> Result<Command<'a>, AllocError> {
     )
     .override_usage("muxsim run [--workers N] [--fronts] [--explain] < PROGRAMS")
     .arg(workers(alloc))?
-    .arg(fronts(alloc))?
-    .arg(explain(alloc, "Show what is wrong with a text that is refused"))
+    .arg(flag(alloc, "fronts", FRONTS))?
+    .arg(flag(alloc, "explain", EXPLAIN))
 }
 
 /// Returns the subcommand that judges a transcript.
@@ -33,10 +50,7 @@ pub fn check<'a>(alloc: Global) -> Result<Command<'a>, AllocError> {
         "Judge the transcript on standard input and write the verdict to standard output",
     )
     .override_usage("muxsim check [--explain] < TRANSCRIPT")
-    .arg(explain(
-        alloc,
-        "Show what is wrong with a transcript, or with a text that is refused",
-    ))
+    .arg(flag(alloc, "explain", EXPLAIN_TRANSCRIPT))
 }
 
 /// Returns the subcommand that replays a transcript.
@@ -48,7 +62,7 @@ pub fn replay<'a>(alloc: Global) -> Result<Command<'a>, AllocError> {
     )
     .override_usage("muxsim replay [--at K] [--explain] < TRANSCRIPT")
     .arg(at(alloc))?
-    .arg(explain(alloc, "Show what is wrong with a text that is refused"))
+    .arg(flag(alloc, "explain", EXPLAIN))
 }
 
 /// Returns the subcommand that traces a transcript.
@@ -59,8 +73,8 @@ pub fn trace<'a>(alloc: Global) -> Result<Command<'a>, AllocError> {
         "Replay the transcript on standard input and write what each entry changes, and what waits",
     )
     .override_usage("muxsim trace [--waits] [--explain] < TRANSCRIPT")
-    .arg(waits(alloc))?
-    .arg(explain(alloc, "Show what is wrong with a text that is refused"))
+    .arg(flag(alloc, "waits", WAITS))?
+    .arg(flag(alloc, "explain", EXPLAIN))
 }
 
 /// Returns the subcommand that draws a picture.
@@ -71,9 +85,9 @@ pub fn draw<'a>(alloc: Global) -> Result<Command<'a>, AllocError> {
         "Draw the configuration that the transcript on standard input shows",
     )
     .override_usage("muxsim draw [--dot | --steps] [--explain] < TRANSCRIPT")
-    .arg(dot(alloc))?
-    .arg(steps(alloc)?)?
-    .arg(explain(alloc, "Show what is wrong with a text that is refused"))
+    .arg(flag(alloc, "dot", DOT))?
+    .arg(flag(alloc, "steps", STEPS).conflicts_with("dot")?)?
+    .arg(flag(alloc, "explain", EXPLAIN))
 }
 
 /// Returns the subcommand that answers line by line.
@@ -84,10 +98,7 @@ pub fn live<'a>(alloc: Global) -> Result<Command<'a>, AllocError> {
         "Answer each line of standard input at once: a driver table, then commands of processes",
     )
     .override_usage("muxsim live [--explain] < LINES")
-    .arg(explain(
-        alloc,
-        "Show what is wrong with a line that is not a command, or with a table that is refused",
-    ))
+    .arg(flag(alloc, "explain", EXPLAIN_LINES))
 }
 
 /// Returns the subcommand that shows the page of help on the texts and the commands of a program.
@@ -112,18 +123,10 @@ fn workers<'a>(alloc: Global) -> Arg<'a> {
         .default_value("1")
 }
 
-// Returns the option that writes the fronts.
-fn fronts<'a>(alloc: Global) -> Arg<'a> {
-    Arg::new(alloc, "fronts")
-        .long("fronts")
-        .help("Write the fronts text in place of the transcript")
-        .action(ArgAction::SetTrue)
-}
-
-// Returns the option that explains faults.
-fn explain<'a>(alloc: Global, help: &'a str) -> Arg<'a> {
-    Arg::new(alloc, "explain")
-        .long("explain")
+// Returns an option without a value.
+fn flag<'a>(alloc: Global, name: &'a str, help: &'a str) -> Arg<'a> {
+    Arg::new(alloc, name)
+        .long(name)
         .help(help)
         .action(ArgAction::SetTrue)
 }
@@ -135,29 +138,4 @@ fn at<'a>(alloc: Global) -> Arg<'a> {
         .value_name("K")
         .help("Replay the first K entries alone, 0 or more")
         .value_parser(value_parser!(usize))
-}
-
-// Returns the option that writes below each entry which messages wait.
-fn waits<'a>(alloc: Global) -> Arg<'a> {
-    Arg::new(alloc, "waits")
-        .long("waits")
-        .help("Also write, below each entry, what waits then")
-        .action(ArgAction::SetTrue)
-}
-
-// Returns the option that writes a picture in Graphviz's language.
-fn dot<'a>(alloc: Global) -> Arg<'a> {
-    Arg::new(alloc, "dot")
-        .long("dot")
-        .help("Write the language of Graphviz in place of SVG")
-        .action(ArgAction::SetTrue)
-}
-
-// Returns the option that writes a page of steps.
-fn steps<'a>(alloc: Global) -> Result<Arg<'a>, AllocError> {
-    Arg::new(alloc, "steps")
-        .long("steps")
-        .help("Replay the transcript and write an HTML page with a picture after each entry")
-        .action(ArgAction::SetTrue)
-        .conflicts_with("dot")
 }

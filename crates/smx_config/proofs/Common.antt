@@ -11,7 +11,7 @@ pub use Rattle.smx_types.specs.declared.message.Message.{Message}
 pub use Rattle.smx_types.specs.declared.reply.Reply.{Reply}
 pub use Rattle.smx_types.specs.declared.stream.Place.{Place}
 pub use Rattle.smx_types.specs.declared.stream.StreamId.{StreamId}
-pub use Rattle.smx_commands.specs.Machine.{Machine}
+pub use Rattle.smx_tables.specs.Machine.{Machine}
 pub use Rattle.smx_model.proofs.LeastMarkedLemmas.{none_is_least}
 pub use Rattle.smx_model.specs.Commands.{outcome}
 pub use Rattle.smx_model.specs.Configuration.{same_place, Configuration, same_stream}

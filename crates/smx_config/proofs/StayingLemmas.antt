@@ -11,7 +11,7 @@ use Rattle.smx_model.specs.DriverList.{is_mux}
 use Rattle.smx_model.specs.Lookups.{free_stream, live_leaf}
 use Rattle.smx_model.specs.Standing.{is_below}
 use Rattle.smx_model.specs.TurnedPlaces.{of_stream}
-use Rattle.smx_commands.proofs.AcceptedLemmas.{bound, free_says, leaf_says}
+use Rattle.smx_tables.proofs.AcceptedLemmas.{bound, free_says, leaf_says}
 use Rattle.smx_config.proofs.WayLemmas.{read_keeps}
 
 -- ---- what an accepted lookup says

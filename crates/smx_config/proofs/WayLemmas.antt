@@ -14,7 +14,7 @@ use Rattle.smx_model.specs.Settling.{next_place}
 use Rattle.smx_model.specs.Swept.{IsSwept}
 use Rattle.smx_model.proofs.IdleSweepLemmas.{swept_idle}
 use Rattle.smx_model.proofs.WaitingLemmas.{next_is}
-use Rattle.smx_commands.proofs.AcceptedLemmas.{accepted, bound}
+use Rattle.smx_tables.proofs.AcceptedLemmas.{accepted, bound}
 use Rattle.smx_config.specs.declared.hops.Hop.{Hop}
 use Rattle.smx_config.specs.declared.hops.Hops.{Hops}
 use Rattle.smx_config.specs.Ways.{IsWay, KeepsWays, LeadsTo, hop_at, keeps_ways}

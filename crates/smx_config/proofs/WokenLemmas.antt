@@ -26,8 +26,8 @@ use Rattle.smx_model.specs.RunMarks.{TurnsOnly, asks_down, asks_up, either, has_
 use Rattle.smx_model.specs.Settling.{after_settling}
 use Rattle.smx_model.specs.Swept.{IsSwept}
 use Rattle.smx_model.specs.TurnedPlaces.{of_stream, turned_by}
-use Rattle.smx_commands.specs.declared.step_error.StepError.{StepError}
-use Rattle.smx_commands.specs.Refinement.{Refines, answer_of}
+use Rattle.smx_tables.specs.declared.step_error.StepError.{StepError}
+use Rattle.smx_tables.specs.Refinement.{Refines, answer_of}
 use Rattle.smx_config.specs.Wakes.{arrives, drops_none, freed_under, is_either_side, on_stream, turned_under}
 use Rattle.smx_config.specs.Wakes.{wakes_of}
 use Rattle.smx_config.specs.declared.wakes.Wakes.{Wakes}
@@ -36,7 +36,7 @@ use Rattle.smx_model.proofs.KeptLemmas.{outcome_sound}
 use Rattle.smx_model.proofs.FreedPlaceLemmas.{few_freed}
 use Rattle.smx_model.proofs.TurningCommandLemmas.{outcomes_turn}
 use Rattle.smx_model.proofs.UndroppedLemmas.{undropped_if}
-use Rattle.smx_commands.proofs.AcceptedLemmas.{accepted, bound}
+use Rattle.smx_tables.proofs.AcceptedLemmas.{accepted, bound}
 use Rattle.smx_config.proofs.StayingLemmas.{read_stays, transmit_stays}
 use Rattle.smx_config.proofs.WakeLemmas.{marks_after}
 

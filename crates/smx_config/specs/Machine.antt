@@ -1,2 +1,2 @@
--- A configuration with its drivers, and the commands that take no memory: those of `smx_commands`.
-pub use Rattle.smx_commands.specs.Machine.{Machine, takes_no_memory}
+-- A configuration with its drivers, and the commands that take no memory: those of `smx_tables`.
+pub use Rattle.smx_tables.specs.Machine.{Machine, takes_no_memory}

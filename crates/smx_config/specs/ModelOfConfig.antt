@@ -2,7 +2,7 @@
 use Rattle.smx_config.specs.declared.config.Config.TheInside.{Inside}
 use Rattle.smx_model.specs.FreedPlaces.{HaveFullPlacesMessages}
 use Rattle.smx_model.specs.KeptConfigurations.{IsKept}
-use Rattle.smx_commands.specs.Machine.{Machine}
+use Rattle.smx_tables.specs.Machine.{Machine}
 use Rattle.smx_config.specs.Marking.{AreMarks, HasNoBit}
 use Rattle.smx_config.specs.Ways.{AreHops}
 

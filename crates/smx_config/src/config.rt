@@ -1,7 +1,7 @@
 //! A configuration that one thread uses.
 
 ghost use Rattle.std.specs.Option.{option_copied};
-ghost use Rattle.std.specs.Prelude.{◌≡◌, ◌↔◌, [], length, IfOk, IfErr, IsOk, IsErr, IsTrue, OnOk, OnErr};
+ghost use Rattle.std.specs.Prelude.{◌≡◌, [], length, IfOk, IfErr, IsOk, IsErr, IsTrue, OnOk, OnErr};
 ghost use Rattle.smx_types.specs.declared.reply.Fault.{Fault};
 ghost use Rattle.smx_types.specs.declared.reply.Reply.TheVariants as replies;
 ghost use Rattle.smx_model.specs.Commands.{outcome, step};
@@ -15,16 +15,15 @@ ghost use Rattle.smx_model.specs.Settling.{next_place};
 ghost use Rattle.smx_model.specs.Views.{view};
 ghost use Rattle.smx_model.specs.Waits.{link_above, routed_link};
 ghost use Rattle.smx_config.specs.DriverFaults.{RefusesDrivers};
-ghost use Rattle.smx_commands.specs.Machine.{takes_no_memory};
+ghost use Rattle.smx_tables.specs.Machine.{takes_no_memory};
 
-use crate::config_fault::ConfigFault;
-use crate::driver_list::check_drivers;
+use crate::config_fault::{ConfigFault, check_drivers};
 use crate::hops::{Hops, copy_hops, forget_changed, no_hops};
 use crate::marks::{Marks, copy_marks, no_marks};
 use crate::settling::settle;
 use crate::wakes::wakes_of;
 use crate::waking::wake;
-use smx_commands::{StepError, Tables};
+use smx_tables::{StepError, Tables};
 use smx_types::{
     Command, ConfigView, DriverSpec, Link, Message, NoMemory, Place, Process, Reply, StreamId,
 };
@@ -51,7 +50,7 @@ impl Drop for Config {
 }
 
 impl Model for Config {
-    ghost use Rattle.smx_commands.specs.Machine.{Machine};
+    ghost use Rattle.smx_tables.specs.Machine.{Machine};
 
     ghost Value = { Machine };
 
@@ -73,7 +72,7 @@ impl Config {
     {
         check_drivers(drivers)?;
         let tables = Tables::new(alloc, drivers)?;
-        let count = tables.place_count();
+        let count = tables.queues().place_count();
         let marks = no_marks(alloc, count)?;
         let hops = no_hops(alloc, count)?;
         Ok(Config {

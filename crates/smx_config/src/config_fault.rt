@@ -1,6 +1,12 @@
-//! The reasons why no configuration is made for a list of drivers.
+//! The reasons why no configuration is made for a list of drivers, and the check of such a list.
 
-use smx_types::{NoMemory, SpecFault};
+ghost use Rattle.std.specs.Prelude.{◌≡◌, ◌≢◌, ◌↔◌, Any, IfErr, IsOk, IsTrue, Err, Some};
+ghost use Rattle.smx_model.specs.DriverList.{IsDriverList};
+ghost use Rattle.smx_config.specs.DriverFaults.{RefusesDrivers};
+ghost use Rattle.smx_config.specs.FaultWords.{config_fault_words};
+ghost use Rattle.smx_config.specs.declared.config_fault.ConfigFault.TheVariants as faults;
+
+use smx_types::{DriverSpec, MAX_DRIVERS, Name, NoMemory, SpecFault};
 use std::fmt;
 
 /// The reason why no configuration was made for a list of drivers. Drivers are numbered from 0. The fault prints as
@@ -18,10 +24,7 @@ pub enum ConfigFault {
 }
 
 impl From<NoMemory> for ConfigFault {
-    ghost use Rattle.std.specs.Prelude.{◌≡◌};
-    ghost use Rattle.smx_config.specs.declared.config_fault.ConfigFault.TheVariants as config;
-
-    ghost from_gives = { λ _ e. e ≡ config.NoMemory };
+    ghost from_gives = { λ _ e. e ≡ faults.NoMemory };
 
     fn from(_error: NoMemory) -> ConfigFault {
         ConfigFault::NoMemory
@@ -29,9 +32,6 @@ impl From<NoMemory> for ConfigFault {
 }
 
 impl fmt::Display for ConfigFault {
-    ghost use Rattle.std.specs.Prelude.{Some};
-    ghost use Rattle.smx_config.specs.FaultWords.{config_fault_words};
-
     ghost output = { λ fault. Some (config_fault_words fault) };
 
     fn fmt<W: fmt::Write>(&self, f: &mut fmt::Formatter<W>) -> fmt::Result {
@@ -45,3 +45,29 @@ impl fmt::Display for ConfigFault {
 }
 
 impl std::error::Error for ConfigFault {}
+
+fn has_name(drivers: &[DriverSpec], name: &Name) -> bool
+    ensures { IsTrue result ↔ Any (λ d. d.name ≡ name.now) drivers.now }
+{
+    drivers.iter().any(|d| d.name == *name)
+}
+
+// Checks whether a configuration can have these drivers. Fails with the reason if it can't. Takes no memory.
+pub fn check_drivers(drivers: &[DriverSpec]) -> Result<(), ConfigFault>
+    ensures accepted { IsOk result ↔ IsDriverList drivers.now }
+    ensures refused { IfErr result (RefusesDrivers drivers.now) }
+    ensures no_memory { result ≢ Err faults.NoMemory }
+{
+    if drivers.len() > MAX_DRIVERS {
+        return Err(ConfigFault::TooMany);
+    }
+    for (i, driver) in drivers.iter().enumerate() {
+        if let Err(fault) = driver.check() {
+            return Err(ConfigFault::BadSpec(i, fault));
+        }
+        if has_name(&drivers[..i], &driver.name) {
+            return Err(ConfigFault::SameName(i));
+        }
+    }
+    Ok(())
+}

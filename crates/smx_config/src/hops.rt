@@ -1,5 +1,5 @@
-//! A cache of next places. For each place it has one hop: an address, and the place to which messages with this address
-//! go next, as the last look-up found it.
+//! The places to which messages go next, and a cache of them. For each place the cache has one hop: an address, and the
+//! place to which messages with this address go next, as the last look-up found it.
 
 ghost use Rattle.std.specs.Prelude.{◌≡◌, ℕ, ◌<◌, length, IfOk, IfSome, List, Ok};
 ghost use Rattle.smx_types.specs.declared.driver.DriverSpec.{DriverSpec};
@@ -7,11 +7,14 @@ ghost use Rattle.smx_types.specs.declared.reply.Reply.{Reply};
 ghost use Rattle.smx_types.specs.declared.stream.Place.{Place as PlaceValue};
 ghost use Rattle.smx_model.specs.Commands.{outcome};
 ghost use Rattle.smx_model.specs.Configuration.{Configuration};
+ghost use Rattle.smx_model.specs.KeptConfigurations.{IsSound};
 ghost use Rattle.smx_model.specs.Swept.{IsSwept};
 ghost use Rattle.smx_queues.specs.PlaceLists.{places_of};
-ghost use Rattle.smx_config.specs.Marking.{IsAt};
-ghost use Rattle.smx_config.specs.Ways.{AreHops, LeadsTo, keeps_ways};
+ghost use Rattle.smx_config.specs.Marking.{IsAt, IsNumber};
+ghost use Rattle.smx_config.specs.Moves.{IsNextOf};
+ghost use Rattle.smx_config.specs.Ways.{AreHops, IsWay, LeadsTo, keeps_ways};
 
+use smx_tables::Tables;
 use smx_types::{Command, NoMemory};
 use std::alloc::Global;
 
@@ -60,7 +63,7 @@ pub fn copy_hops(alloc: Global, hops: &Hops) -> Result<Hops, NoMemory>
 // Returns the number of the place to which messages with this address go next from place number `n`. Returns `None` if
 // the hop of place `n` has another address or is out of date, or if `age` has its largest value.
 #[inline(always)]
-pub fn known_hop(hops: &Hops, n: usize, addr: u32) -> Option<usize>
+fn known_hop(hops: &Hops, n: usize, addr: u32) -> Option<usize>
     requires { n < length hops.now.hops.items }
     ensures { (drivers : List DriverSpec) (c : Configuration) (p : PlaceValue) → AreHops drivers c hops.now
         → IsAt drivers n p → IfSome result (LeadsTo drivers c p addr) }
@@ -73,7 +76,7 @@ pub fn known_hop(hops: &Hops, n: usize, addr: u32) -> Option<usize>
     }
 }
 
-pub fn note_hop(hops: &mut Hops, n: usize, addr: u32, to: usize)
+fn note_hop(hops: &mut Hops, n: usize, addr: u32, to: usize)
     requires { n < length hops.old.hops.items }
     ensures { (drivers : List DriverSpec) (c : Configuration) (p : PlaceValue) → AreHops drivers c hops.old
         → IsAt drivers n p → LeadsTo drivers c p addr to → AreHops drivers c hops.new }
@@ -96,27 +99,14 @@ fn forget_all(hops: &mut Hops)
 fn keeps_ways(command: &Command) -> bool
     ensures { result ≡ keeps_ways command.now }
 {
-    match command {
+    matches!(
+        command,
         Command::Write { .. }
-        | Command::Read { .. }
-        | Command::Flush { .. }
-        | Command::Inject { .. }
-        | Command::Transmit { .. } => true,
-        Command::OpenClone { .. }
-        | Command::OpenMinor { .. }
-        | Command::Dup { .. }
-        | Command::Close { .. }
-        | Command::CloseAll
-        | Command::Link { .. }
-        | Command::Plink { .. }
-        | Command::Unlink { .. }
-        | Command::Punlink { .. }
-        | Command::Bind { .. }
-        | Command::Unbind { .. }
-        | Command::Route { .. }
-        | Command::Unroute { .. }
-        | Command::Hangup { .. } => false,
-    }
+            | Command::Read { .. }
+            | Command::Flush { .. }
+            | Command::Inject { .. }
+            | Command::Transmit { .. }
+    )
 }
 
 // Makes all hops out of date after a command was accepted, unless the command only adds or removes messages.
@@ -127,4 +117,51 @@ pub fn forget_changed(hops: &mut Hops, command: &Command)
     if !keeps_ways(command) {
         forget_all(hops);
     }
+}
+
+// Returns the number of the place to which messages with this address go next from place number `n`. Looks it up in the
+// tables.
+#[inline(never)]
+fn look_up(tables: &Tables, n: usize, addr: u32) -> Option<usize>
+    requires sound { IsSound tables.now.drivers tables.now.configuration }
+    requires number { IsNumber tables.now.drivers n }
+    ensures { (p : PlaceValue) → IsAt tables.now.drivers n p
+        → IsWay tables.now.drivers tables.now.configuration p addr result }
+{
+    let next = tables.next_place(tables.queues().place_at(n), addr)?;
+    tables.queues().number(next)
+}
+
+// Returns the number that `look_up` returns. Takes this number from the hops, if they have it.
+#[inline(always)]
+fn way_from(tables: &Tables, hops: &mut Hops, n: usize, addr: u32) -> Option<usize>
+    requires sound { IsSound tables.now.drivers tables.now.configuration }
+    requires number { IsNumber tables.now.drivers n }
+    requires hops { AreHops tables.now.drivers tables.now.configuration hops.old }
+    ensures value { (p : PlaceValue) → IsAt tables.now.drivers n p
+        → IsWay tables.now.drivers tables.now.configuration p addr result }
+    ensures hops { AreHops tables.now.drivers tables.now.configuration hops.new }
+{
+    if let Some(to) = known_hop(hops, n, addr) {
+        return Some(to);
+    }
+    let to = look_up(tables, n, addr)?;
+    note_hop(hops, n, addr, to);
+    Some(to)
+}
+
+// Returns the number of the place to which the first message at place number `n` goes next, if there is such a place.
+// The returned place may be full.
+#[inline(always)]
+pub fn next_of_first(tables: &Tables, hops: &mut Hops, n: usize) -> Option<usize>
+    requires sound { IsSound tables.now.drivers tables.now.configuration }
+    requires number { IsNumber tables.now.drivers n }
+    requires hops { AreHops tables.now.drivers tables.now.configuration hops.old }
+    ensures value { (p : PlaceValue) → IsAt tables.now.drivers n p
+        → IsNextOf tables.now.drivers tables.now.configuration p result }
+    ensures number { IfSome result (IsNumber tables.now.drivers) }
+    ensures hops { AreHops tables.now.drivers tables.now.configuration hops.new }
+{
+    let message = tables.queues().front_at(n)?;
+    way_from(tables, hops, n, message.addr)
 }

@@ -4,14 +4,9 @@
 
 mod config;
 mod config_fault;
-mod driver_list;
-mod history;
 mod hops;
-pub mod laws_of_drivers;
-pub mod laws_of_verdicts;
+pub mod laws;
 mod marks;
-mod next_places;
-mod run_marks;
 mod settling;
 mod verdict;
 mod wakes;
@@ -19,5 +14,4 @@ mod waking;
 
 pub use config::Config;
 pub use config_fault::ConfigFault;
-pub use history::check_history;
-pub use verdict::Verdict;
+pub use verdict::{Verdict, check_history};

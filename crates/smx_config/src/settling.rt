@@ -1,26 +1,40 @@
 //! Settling: moves messages on to other places until no message can move.
 
-ghost use Rattle.std.specs.Prelude.{◌≡◌, ◌<◌, IfNone, IfSome, true};
+ghost use Rattle.std.specs.Prelude.{◌≡◌, ◌<◌, true, IfNone, IfSome, Some};
 ghost use Rattle.smx_types.specs.declared.stream.Place.{Place as PlaceValue};
 ghost use Rattle.smx_model.specs.KeptConfigurations.{IsSound};
 ghost use Rattle.smx_model.specs.Settling.{after_move, after_settling};
 ghost use Rattle.smx_queues.specs.Bits.{bit_count, has_bit};
 ghost use Rattle.smx_config.specs.Marking.{AreMarks, HasNoBit, IsAt, IsMarkedUnless, IsNumber};
-ghost use Rattle.smx_config.specs.Moves.{IsFullAt, IsLeastMove, IsNextOf, IsOpenMove};
+ghost use Rattle.smx_config.specs.Moves.{IsFullAt, IsLeastMove, IsNextOf, IsOpenAt, IsOpenMove};
 ghost use Rattle.smx_config.specs.Ways.{AreHops};
 
-use crate::hops::Hops;
+use crate::hops::{Hops, next_of_first};
 use crate::marks::Marks;
-use crate::next_places::{if_open, next_of_first};
 use crate::waking::release_if_open;
-use smx_commands::Tables;
 use smx_queues::Bits;
+use smx_tables::Tables;
 
 // A move of a message from one place to another. Both places are given by their numbers.
 #[derive(Clone, Copy)]
 pub struct Move {
     pub from: usize,
     pub to: usize,
+}
+
+// Returns the number `next`, if there is one and its place is not full.
+fn if_open(tables: &Tables, next: Option<usize>) -> Option<usize>
+    requires { IfSome next (IsNumber tables.now.drivers) }
+    ensures same { IfSome result (λ n. next ≡ Some n) }
+    ensures open { IfSome result (IsOpenAt tables.now.drivers tables.now.configuration) }
+    ensures full { IfNone result (IfSome next (IsFullAt tables.now.drivers tables.now.configuration)) }
+{
+    let n = next?;
+    if tables.queues().is_full_at(n) {
+        None
+    } else {
+        Some(n)
+    }
 }
 
 // Clears the run mark of the place `from`, whose first message can't move on. (A run mark says that the first message
@@ -83,7 +97,7 @@ fn clear_if_empty(tables: &Tables, marks: &mut Marks, n: usize)
     requires marks { AreMarks tables.now.drivers tables.now.configuration marks.old }
     ensures { AreMarks tables.now.drivers tables.now.configuration marks.new }
 {
-    if !tables.has_messages_at(n) {
+    if !tables.queues().has_messages_at(n) {
         marks.run.clear(n);
     }
 }
@@ -97,7 +111,7 @@ fn move_on(tables: &mut Tables, marks: &mut Marks, next: Move)
         ≡ record tables.old { configuration = after_move tables.old.drivers tables.old.configuration p } }
     ensures marks { AreMarks tables.new.drivers tables.new.configuration marks.new }
 {
-    let filled = tables.has_messages_at(next.to);
+    let filled = tables.queues().has_messages_at(next.to);
     tables.carry(next.from, next.to);
     release_if_open(tables, marks, next.from);
     mark_unless(filled, &mut marks.run, next.to);

@@ -1,11 +1,11 @@
 //! The places that a command may wake, as far as this is known before the command is performed.
 
 ghost use Rattle.std.specs.Prelude.{◌≡◌};
-ghost use Rattle.smx_commands.specs.MessageStreams.{message_stream};
+ghost use Rattle.smx_tables.specs.MessageStreams.{message_stream};
 ghost use Rattle.smx_config.specs.Wakes.{arrives, on_stream, wakes_of};
 ghost use Rattle.smx_config.specs.declared.wakes.Wakes.TheVariants as wakes;
 
-use smx_commands::Tables;
+use smx_tables::Tables;
 use smx_types::{Command, Fault, Place, Process, Side, StreamId};
 
 /// The change by which an accepted command may wake places. A command wakes a place if the first message there may
@@ -31,52 +31,41 @@ pub enum Wakes {
 fn turns(stream: Result<StreamId, Fault>, side: Side) -> Wakes
     ensures { result ≡ on_stream stream (λ s. wakes.Turns (record { stream = s; side = side })) }
 {
-    match stream {
-        Ok(stream) => Wakes::Turns(Place { stream, side }),
-        Err(_) => Wakes::Nothing,
-    }
+    stream.map_or(Wakes::Nothing, |stream| {
+        Wakes::Turns(Place { stream, side })
+    })
 }
 
 fn leaves(stream: Result<StreamId, Fault>, side: Side) -> Wakes
     ensures { result ≡ on_stream stream (λ s. wakes.Leaves (record { stream = s; side = side })) }
 {
-    match stream {
-        Ok(stream) => Wakes::Leaves(Place { stream, side }),
-        Err(_) => Wakes::Nothing,
-    }
+    stream.map_or(Wakes::Nothing, |stream| {
+        Wakes::Leaves(Place { stream, side })
+    })
 }
 
 fn empties(stream: Result<StreamId, Fault>) -> Wakes
     ensures { result ≡ on_stream stream wakes.Empties }
 {
-    match stream {
-        Ok(stream) => Wakes::Empties(stream),
-        Err(_) => Wakes::Nothing,
-    }
+    stream.map_or(Wakes::Nothing, Wakes::Empties)
 }
 
 fn turns_writes(stream: Result<StreamId, Fault>, addr: u32) -> Wakes
     ensures { result ≡ on_stream stream (λ s. wakes.TurnsWrites s.driver addr) }
 {
-    match stream {
-        Ok(stream) => Wakes::TurnsWrites {
-            driver: stream.driver,
-            addr,
-        },
-        Err(_) => Wakes::Nothing,
-    }
+    stream.map_or(Wakes::Nothing, |stream| {
+        let driver = stream.driver;
+        Wakes::TurnsWrites { driver, addr }
+    })
 }
 
 fn turns_reads(stream: Result<StreamId, Fault>, addr: u32) -> Wakes
     ensures { result ≡ on_stream stream (λ s. wakes.TurnsReads s.driver addr) }
 {
-    match stream {
-        Ok(stream) => Wakes::TurnsReads {
-            driver: stream.driver,
-            addr,
-        },
-        Err(_) => Wakes::Nothing,
-    }
+    stream.map_or(Wakes::Nothing, |stream| {
+        let driver = stream.driver;
+        Wakes::TurnsReads { driver, addr }
+    })
 }
 
 // Returns the place that a message wakes when it arrives at a side of the stream. If the place already has messages,
@@ -88,7 +77,7 @@ fn arrives(tables: &Tables, stream: Result<StreamId, Fault>, side: Side) -> Wake
         return Wakes::Nothing;
     };
     let place = Place { stream, side };
-    if tables.has_messages(place) {
+    if tables.queues().front(place).is_some() {
         Wakes::Nothing
     } else {
         Wakes::Turns(place)

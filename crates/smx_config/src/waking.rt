@@ -9,17 +9,16 @@ ghost use Rattle.smx_model.specs.Configuration.{Configuration, same_place};
 ghost use Rattle.smx_model.specs.Queues.{is_full};
 ghost use Rattle.smx_queues.specs.Bits.{bit_count, has_bit};
 ghost use Rattle.smx_queues.specs.PlaceLists.{places_of};
-ghost use Rattle.smx_config.specs.Marking.{AreFor, AreOver, AreWaitersMarked, IsAt, IsListed, IsMarkedWhere};
-ghost use Rattle.smx_config.specs.Marking.{IsNumber, IsReleased, IsWoken};
+ghost use Rattle.smx_config.specs.Marking.{AreFor, AreOver, AreWaitersMarked, IsAt, IsListed, IsMarkedWhere, IsNumber};
+ghost use Rattle.smx_config.specs.Marking.{IsReleased, IsWoken};
 ghost use Rattle.smx_config.specs.Moves.{IsFullAt, IsOpenAt};
 ghost use Rattle.smx_config.specs.Wakes.{drops_none, everywhere, freed_under, is_either_side, turned_under};
 ghost use Rattle.smx_config.specs.declared.wakes.Wakes.TheVariants as wakes;
 
-use crate::marks::Marks;
-use crate::run_marks::{mark_reads, mark_writes};
+use crate::marks::{Marks, mark_reads, mark_writes};
 use crate::wakes::Wakes;
-use smx_commands::Tables;
 use smx_queues::Bits;
+use smx_tables::Tables;
 use smx_types::{Place, Reply, Side, StreamId};
 
 // Gives a run mark to each place that waits for the place with this number. Afterwards no place is noted as waiting for
@@ -57,7 +56,7 @@ pub fn release_if_open(tables: &Tables, marks: &mut Marks, n: usize)
     ensures { (p : PlaceValue) → IsAt tables.now.drivers n p
         → IsReleased tables.now.drivers tables.now.configuration (same_place p) marks.old marks.new }
 {
-    if !tables.is_full_at(n) && marks.wanted.is_set(n) {
+    if !tables.queues().is_full_at(n) && marks.wanted.is_set(n) {
         release(marks, n);
     }
 }
@@ -68,7 +67,7 @@ fn release_place(tables: &Tables, marks: &mut Marks, place: Place)
     requires listed { IsListed marks.old }
     ensures { IsReleased tables.now.drivers tables.now.configuration (same_place place) marks.old marks.new }
 {
-    if let Some(n) = tables.number(place) {
+    if let Some(n) = tables.queues().number(place) {
         release_if_open(tables, marks, n);
     }
 }
@@ -94,11 +93,11 @@ fn first_open(tables: &Tables, wanted: &Bits) -> Option<usize>
     ensures none { IfNone result ((n : ℕ) → has_bit wanted.now n ≡ true
         → IsFullAt tables.now.drivers tables.now.configuration n) }
 {
-    let end = tables.place_count();
+    let end = tables.queues().place_count();
     let mut start = 0;
     while start < end {
         let n = wanted.first_from(start)?;
-        if !tables.is_full_at(n) {
+        if !tables.queues().is_full_at(n) {
             return Some(n);
         }
         start = n + 1;
@@ -127,31 +126,8 @@ fn drops_none(reply: &Reply) -> bool
     }
 }
 
-// If the reply names dropped messages, releases the sides of the stream that are wanted and not full. Otherwise does
-// nothing: a side that was full has lost no message, so the side is still full.
-fn release_emptied(tables: &Tables, marks: &mut Marks, stream: StreamId, reply: &Reply)
-    requires over { AreOver tables.now.drivers marks.old }
-    requires listed { IsListed marks.old }
-    ensures { IsReleased tables.now.drivers tables.now.configuration (freed_under reply.now (wakes.Empties stream))
-        marks.old marks.new }
-{
-    if !drops_none(reply) {
-        release_sides(tables, marks, stream);
-    }
-}
-
-// If the reply names dropped messages, releases all wanted places that are not full.
-fn release_dropped(tables: &Tables, marks: &mut Marks, reply: &Reply)
-    requires over { AreOver tables.now.drivers marks.old }
-    requires listed { IsListed marks.old }
-    ensures { IsReleased tables.now.drivers tables.now.configuration (freed_under reply.now wakes.Frees)
-        marks.old marks.new }
-{
-    if !drops_none(reply) {
-        release_all(tables, marks);
-    }
-}
-
+// Releases the places that a command with this reply freed. If the reply names no dropped message, a place that was full
+// has lost no message to a flush or a sweep, so it is still full.
 fn release_freed(tables: &Tables, marks: &mut Marks, wakes: Wakes, reply: &Reply)
     requires over { AreOver tables.now.drivers marks.old }
     requires listed { IsListed marks.old }
@@ -159,8 +135,16 @@ fn release_freed(tables: &Tables, marks: &mut Marks, wakes: Wakes, reply: &Reply
 {
     match wakes {
         Wakes::Leaves(place) => release_place(tables, marks, place),
-        Wakes::Empties(stream) => release_emptied(tables, marks, stream, reply),
-        Wakes::Frees => release_dropped(tables, marks, reply),
+        Wakes::Empties(stream) => {
+            if !drops_none(reply) {
+                release_sides(tables, marks, stream);
+            }
+        }
+        Wakes::Frees => {
+            if !drops_none(reply) {
+                release_all(tables, marks);
+            }
+        }
         Wakes::Nothing | Wakes::Turns(_) | Wakes::TurnsWrites { .. } | Wakes::TurnsReads { .. } =>
             {}
     }
@@ -171,7 +155,7 @@ fn mark_place(tables: &Tables, run: &mut Bits, place: Place)
     requires { run.old.count ≡ length (places_of tables.now.drivers) }
     ensures { IsMarkedWhere tables.now.drivers tables.now.configuration.flow (same_place place) run.old run.new }
 {
-    if let Some(n) = tables.number(place) {
+    if let Some(n) = tables.queues().number(place) {
         run.set(n);
     }
 }

@@ -4,7 +4,7 @@ use Rattle.std.proofs.Common.{sym, ap, ◌∙◌, subst}
 use Rattle.std.proofs.lemmas.List.{take_more}
 use Rattle.std.specs.List.{AllByRecursion, flat_map}
 use Rattle.smx_draw.specs.Drawing.{Draws, HasPart}
-use Rattle.smx_draw.specs.declared.svg.area.Area.{Area}
+use Rattle.smx_draw.specs.declared.svg.block.Area.{Area}
 
 module _ {X : Type 0} (element : X → Area → List ℕ) where
   -- one more element is drawn after the others

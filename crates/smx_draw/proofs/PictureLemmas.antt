@@ -14,7 +14,7 @@ use Rattle.smx_draw.specs.SvgFrame.{svg_foot}
 use Rattle.smx_draw.specs.SvgText.{IsSvgOf}
 use Rattle.smx_draw.specs.declared.parts.Look.{Look}
 use Rattle.smx_draw.specs.declared.parts.Look.TheVariants.{Line}
-use Rattle.smx_draw.specs.declared.svg.area.Area.{Area}
+use Rattle.smx_draw.specs.declared.svg.block.Area.{Area}
 use Rattle.smx_draw.proofs.DrawingLemmas.{draws_behind, draws_each, each_line, each_still_there}
 
 -- the text begins with another one

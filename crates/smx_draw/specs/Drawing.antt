@@ -1,6 +1,6 @@
 -- Parts of a picture, one after the other.
 use Rattle.std.specs.Prelude.{◌≡◌, ℕ, List, [], ◌∷◌, ◌++◌}
-use Rattle.smx_draw.specs.declared.svg.area.Area.{Area}
+use Rattle.smx_draw.specs.declared.svg.block.Area.{Area}
 
 module _ {X : Type 0} where
   -- the text `after` is `before`, followed by the element of each of these, at some place, and nothing else

@@ -15,7 +15,7 @@ use Rattle.smx_draw.specs.declared.form.Form.{Form}
 use Rattle.smx_draw.specs.declared.form.Form.TheVariants.{Svg, Dot}
 use Rattle.smx_draw.specs.declared.parts.Look.{Look}
 use Rattle.smx_draw.specs.declared.parts.Look.TheVariants.{Line}
-use Rattle.smx_draw.specs.declared.svg.area.Area.{Area}
+use Rattle.smx_draw.specs.declared.svg.block.Area.{Area}
 
 -- a picture of the configuration that a transcript shows, in this form
 abbrev pub IsPictureOf : Form → Transcript → List ℕ → Type 0

@@ -9,7 +9,7 @@ use Rattle.smx_draw.specs.declared.parts.Look.TheVariants.{Class, Label}
 use Rattle.smx_draw.specs.declared.queues.QueueItem.{QueueItem}
 use Rattle.smx_draw.specs.declared.queues.QueueItem.TheVariants.{Bytes, Message, More}
 use Rattle.smx_draw.specs.declared.queues.QueueRow.{QueueRow}
-use Rattle.smx_draw.specs.declared.svg.area.Area.{Area}
+use Rattle.smx_draw.specs.declared.svg.block.Area.{Area}
 use Rattle.smx_draw.specs.declared.svg.under.Stream.{Stream}
 
 -- the corners of a place

@@ -5,7 +5,7 @@ use Rattle.smx_draw.specs.Queues.{queue_rows}
 use Rattle.smx_draw.specs.SvgFrame.{svg_head}
 use Rattle.smx_draw.specs.SvgText.{DrawsRows, DrawsUnder, IsSvgOf}
 use Rattle.smx_draw.specs.WorkedViews.{ip, messages, shown, table}
-use Rattle.smx_draw.specs.declared.svg.area.Area.{Area}
+use Rattle.smx_draw.specs.declared.svg.block.Area.{Area}
 use Rattle.smx_draw.specs.declared.svg.under.Stream.{Stream}
 
 -- a place, with a different number in each field

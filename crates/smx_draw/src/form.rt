@@ -1,11 +1,16 @@
 //! Draws a picture in one of two forms: SVG, or a text for Graphviz.
 
-ghost use Rattle.std.specs.Prelude.{IfOk};
+ghost use Rattle.std.specs.Prelude.{◌≡◌, ◌++◌, IfOk, OnOk};
+ghost use Rattle.std.specs.List.{flat_map};
+ghost use Rattle.smx_draw.specs.DotText.{dot_text, dot_view};
 ghost use Rattle.smx_draw.specs.Pictures.{IsPictureOf};
+ghost use Rattle.smx_draw.specs.declared.parts.Look.TheVariants as look;
 
-use crate::dot::write_dot;
+use crate::parts::{Look, Part};
+use crate::pieces::put;
+use crate::queues::{QueueRow, queue_rows};
 use crate::svg::write_svg;
-use smx_types::{NoMemory, Transcript};
+use smx_types::{ConfigView, DriverSpec, NoMemory, Transcript};
 use std::alloc::Global;
 
 /// The language of a picture.
@@ -26,4 +31,49 @@ pub fn draw(alloc: Global, transcript: &Transcript, form: Form) -> Result<Vec<u8
         Form::Svg => write_svg(alloc, transcript.drivers.as_slice(), &transcript.view),
         Form::Dot => write_dot(alloc, transcript.drivers.as_slice(), &transcript.view),
     }
+}
+
+// The start of the text. The graph is `strict`, so Graphviz merges edges that are drawn twice. The default label of a
+// node is that of a stream; all other nodes have labels of their own.
+const HEAD: &[u8] = b"strict digraph muxsim {
+  graph [rankdir=TB nodesep=0.2 fontname=\"sans-serif\"];
+  node [shape=record fontname=\"sans-serif\" fontsize=10 label=\"{\\N|{<write>write|<read>read}}\"];
+  edge [dir=none color=gray fontname=\"sans-serif\" fontsize=10];
+";
+
+// Returns the text of a configuration, given its drivers and its view. Fails only if it is out of memory.
+fn write_dot(alloc: Global, drivers: &[DriverSpec], view: &ConfigView) -> Result<Vec<u8>, NoMemory>
+    ensures { IfOk result (λ v. v.items ≡ dot_text drivers.now view.now) }
+{
+    let queues = queue_rows(alloc, drivers, view.msgs.as_slice())?;
+    let mut out = Vec::new(alloc);
+    put(&mut out, HEAD, &[])?;
+    put_lines(&mut out, drivers)?;
+    put_view(&mut out, view, queues.as_slice())?;
+    put(&mut out, b"}\n", &[])?;
+    Ok(out)
+}
+
+// Appends the lines of the parts of a view, and of the rows of its queues.
+fn put_view(out: &mut Vec<u8>, view: &ConfigView, queues: &[QueueRow]) -> Result<(), NoMemory>
+    ensures { OnOk result (out.new.items ≡ out.old.items ++ dot_view view.now queues.now) }
+{
+    put_lines(out, view.links.as_slice())?;
+    put_lines(out, view.hungs.as_slice())?;
+    put_lines(out, view.routes.as_slice())?;
+    put_lines(out, view.fds.as_slice())?;
+    put_lines(out, view.binds.as_slice())?;
+    put_lines(out, queues)?;
+    put_lines(out, view.fulls.as_slice())?;
+    Ok(())
+}
+
+// Appends the line of each item.
+fn put_lines<T: Part>(out: &mut Vec<u8>, items: &[T]) -> Result<(), NoMemory>
+    ensures { OnOk result (out.new.items ≡ out.old.items ++ flat_map (T.text look.Line) items.now) }
+{
+    for item in items {
+        item.put(Look::Line, out)?;
+    }
+    Ok(())
 }

@@ -2,7 +2,6 @@
 //! Graphviz.
 #![tactic(auto)]
 
-mod dot;
 mod form;
 pub mod laws_of_pictures;
 mod parts;

@@ -1,13 +1,12 @@
 //! The parts of a configuration: each has a row in an SVG, and a line in a text for Graphviz.
 
 ghost use Rattle.std.specs.Prelude.{◌≡◌, ◌++◌, OnOk};
-ghost use Rattle.smx_draw.specs.Parts.{binding_template, descriptor_template, bytes_template, driver_template};
-ghost use Rattle.smx_draw.specs.Parts.{full_template, hung_template, link_template, message_template};
-ghost use Rattle.smx_draw.specs.Parts.{more_template, queue_text, route_template};
 ghost use Rattle.smx_draw.specs.Parts.{binding_text, descriptor_text, driver_text, full_text, hung_text, link_text};
+ghost use Rattle.smx_draw.specs.Parts.{bytes_template, driver_template, message_template, more_template};
 ghost use Rattle.smx_draw.specs.Parts.{queue_row_text, route_text};
 
-use crate::pieces::{Piece, put};
+use crate::pieces::Piece::{Driver, Letter, Link, Name, Number, Process, Side, Stroke};
+use crate::pieces::put;
 use crate::queues::{QueueItem, QueueRow};
 use crate::svg::seat::{Row, Seat};
 use smx_types::{
@@ -50,12 +49,12 @@ impl Part for DriverSpec {
 
     fn put(&self, look: Look, out: &mut Vec<u8>) -> Result<(), NoMemory> {
         let values = [
-            Piece::Name(&self.name),
-            Piece::Driver(self.kind),
-            Piece::Number(self.minors),
-            Piece::Number(self.max),
-            Piece::Number(self.high),
-            Piece::Number(self.low),
+            Name(&self.name),
+            Driver(self.kind),
+            Number(self.minors),
+            Number(self.max),
+            Number(self.high),
+            Number(self.low),
         ];
         put(out, driver_template(look), &values)
     }
@@ -82,24 +81,16 @@ impl Part for RouteLine {
     }
 
     fn put(&self, look: Look, out: &mut Vec<u8>) -> Result<(), NoMemory> {
-        let values = [
-            Piece::Name(&self.driver),
-            Piece::Number(self.addr),
-            Piece::Number(self.id),
-        ];
-        put(out, route_template(look), &values)
-    }
-}
-
-fn route_template(look: Look) -> &'static [u8]
-    ensures { result.now ≡ route_template look }
-{
-    match look {
-        Look::Class => b"route route-@0-@1",
-        Look::Label => b"route @1 by link @2",
-        Look::Line => {
-            b"  subgraph \"cluster @0\" { \"@0\" -> \"route:@0:@1\" [style=dotted]; \
-                \"route:@0:@1\" [shape=plain label=\"route @1 by link @2\"] }\n"
+        let values = [Name(&self.driver), Number(self.addr), Number(self.id)];
+        match look {
+            Look::Class => put(out, b"route route-@0-@1", &values),
+            Look::Label => put(out, b"route @1 by link @2", &values),
+            Look::Line => put(
+                out,
+                b"  subgraph \"cluster @0\" { \"@0\" -> \"route:@0:@1\" [style=dotted]; \
+                    \"route:@0:@1\" [shape=plain label=\"route @1 by link @2\"] }\n",
+                &values,
+            ),
         }
     }
 }
@@ -113,27 +104,23 @@ impl Part for LinkLine {
 
     fn put(&self, look: Look, out: &mut Vec<u8>) -> Result<(), NoMemory> {
         let values = [
-            Piece::Number(self.id),
-            Piece::Link(self.kind),
-            Piece::Name(&self.ctl_driver),
-            Piece::Number(self.ctl_minor),
-            Piece::Name(&self.lower_driver),
-            Piece::Number(self.lower_minor),
-            Piece::Stroke(self.kind),
+            Number(self.id),
+            Link(self.kind),
+            Name(&self.ctl_driver),
+            Number(self.ctl_minor),
+            Name(&self.lower_driver),
+            Number(self.lower_minor),
+            Stroke(self.kind),
         ];
-        put(out, link_template(look), &values)
-    }
-}
-
-fn link_template(look: Look) -> &'static [u8]
-    ensures { result.now ≡ link_template look }
-{
-    match look {
-        Look::Class => b"@1 link-@0",
-        Look::Label => b"link @0 @1 by @2 @3",
-        Look::Line => {
-            b"  subgraph \"cluster @4\" { \"@4 @5\" -> \"@4\" } \"@2\" -> \"@4 @5\" \
-                [@6 label=\"link @0 @1\\nby @2 @3\"]\n"
+        match look {
+            Look::Class => put(out, b"@1 link-@0", &values),
+            Look::Label => put(out, b"link @0 @1 by @2 @3", &values),
+            Look::Line => put(
+                out,
+                b"  subgraph \"cluster @4\" { \"@4 @5\" -> \"@4\" } \"@2\" -> \"@4 @5\" \
+                    [@6 label=\"link @0 @1\\nby @2 @3\"]\n",
+                &values,
+            ),
         }
     }
 }
@@ -146,19 +133,15 @@ impl Part for HungLine {
     }
 
     fn put(&self, look: Look, out: &mut Vec<u8>) -> Result<(), NoMemory> {
-        let values = [Piece::Name(&self.driver), Piece::Number(self.minor)];
-        put(out, hung_template(look), &values)
-    }
-}
-
-fn hung_template(look: Look) -> &'static [u8]
-    ensures { result.now ≡ hung_template look }
-{
-    match look {
-        Look::Class => b"hung stream-@0-@1",
-        Look::Label => b"hung up",
-        Look::Line => {
-            b"  subgraph \"cluster @0\" { \"@0 @1\" -> \"@0\"; \"@0 @1\" [style=filled xlabel=\"hung up\"] }\n"
+        let values = [Name(&self.driver), Number(self.minor)];
+        match look {
+            Look::Class => put(out, b"hung stream-@0-@1", &values),
+            Look::Label => put(out, b"hung up", &values),
+            Look::Line => put(
+                out,
+                b"  subgraph \"cluster @0\" { \"@0 @1\" -> \"@0\"; \"@0 @1\" [style=filled xlabel=\"hung up\"] }\n",
+                &values,
+            ),
         }
     }
 }
@@ -172,24 +155,20 @@ impl Part for DescriptorLine {
 
     fn put(&self, look: Look, out: &mut Vec<u8>) -> Result<(), NoMemory> {
         let values = [
-            Piece::Name(&self.driver),
-            Piece::Number(self.minor),
-            Piece::Process(&self.process),
-            Piece::Number(self.fd),
+            Name(&self.driver),
+            Number(self.minor),
+            Process(&self.process),
+            Number(self.fd),
         ];
-        put(out, descriptor_template(look), &values)
-    }
-}
-
-fn descriptor_template(look: Look) -> &'static [u8]
-    ensures { result.now ≡ descriptor_template look }
-{
-    match look {
-        Look::Class => b"descriptor fd-@2-@3",
-        Look::Label => b"process @2 fd @3",
-        Look::Line => {
-            b"  subgraph \"cluster @0\" { \"@0 @1\" -> \"@0\" } \"fd:@2:@3\" -> \"@0 \
-                @1\"; \"fd:@2:@3\" [shape=plain label=\"process @2 fd @3\"]\n"
+        match look {
+            Look::Class => put(out, b"descriptor fd-@2-@3", &values),
+            Look::Label => put(out, b"process @2 fd @3", &values),
+            Look::Line => put(
+                out,
+                b"  subgraph \"cluster @0\" { \"@0 @1\" -> \"@0\" } \"fd:@2:@3\" -> \"@0 \
+                    @1\"; \"fd:@2:@3\" [shape=plain label=\"process @2 fd @3\"]\n",
+                &values,
+            ),
         }
     }
 }
@@ -202,24 +181,16 @@ impl Part for BindingLine {
     }
 
     fn put(&self, look: Look, out: &mut Vec<u8>) -> Result<(), NoMemory> {
-        let values = [
-            Piece::Name(&self.driver),
-            Piece::Number(self.minor),
-            Piece::Number(self.addr),
-        ];
-        put(out, binding_template(look), &values)
-    }
-}
-
-fn binding_template(look: Look) -> &'static [u8]
-    ensures { result.now ≡ binding_template look }
-{
-    match look {
-        Look::Class => b"bind bind-@0-@2",
-        Look::Label => b"bound to @2",
-        Look::Line => {
-            b"  subgraph \"cluster @0\" { \"@0 @1\" -> \"@0\" } \"bind:@0:@2\" -> \
-                \"@0 @1\"; \"bind:@0:@2\" [shape=plain label=\"bound to @2\"]\n"
+        let values = [Name(&self.driver), Number(self.minor), Number(self.addr)];
+        match look {
+            Look::Class => put(out, b"bind bind-@0-@2", &values),
+            Look::Label => put(out, b"bound to @2", &values),
+            Look::Line => put(
+                out,
+                b"  subgraph \"cluster @0\" { \"@0 @1\" -> \"@0\" } \"bind:@0:@2\" -> \
+                    \"@0 @1\"; \"bind:@0:@2\" [shape=plain label=\"bound to @2\"]\n",
+                &values,
+            ),
         }
     }
 }
@@ -233,25 +204,21 @@ impl Part for FullLine {
 
     fn put(&self, look: Look, out: &mut Vec<u8>) -> Result<(), NoMemory> {
         let values = [
-            Piece::Name(&self.driver),
-            Piece::Number(self.minor),
-            Piece::Letter(self.side),
-            Piece::Side(self.side),
+            Name(&self.driver),
+            Number(self.minor),
+            Letter(self.side),
+            Side(self.side),
         ];
-        put(out, full_template(look), &values)
-    }
-}
-
-fn full_template(look: Look) -> &'static [u8]
-    ensures { result.now ≡ full_template look }
-{
-    match look {
-        Look::Class => b"full queue-@0-@1-@2",
-        Look::Label => b"@3 queue full",
-        Look::Line => {
-            b"  subgraph \"cluster @0\" { \"@0 @1\" -> \"@0\" } \"full:@0:@1:@2\" \
-                -> \"@0 @1\":@3; \"full:@0:@1:@2\" [shape=plain fontcolor=red label=\"@3 \
-                queue full\"]\n"
+        match look {
+            Look::Class => put(out, b"full queue-@0-@1-@2", &values),
+            Look::Label => put(out, b"@3 queue full", &values),
+            Look::Line => put(
+                out,
+                b"  subgraph \"cluster @0\" { \"@0 @1\" -> \"@0\" } \"full:@0:@1:@2\" \
+                    -> \"@0 @1\":@3; \"full:@0:@1:@2\" [shape=plain fontcolor=red label=\"@3 \
+                    queue full\"]\n",
+                &values,
+            ),
         }
     }
 }
@@ -269,38 +236,24 @@ impl Part for QueueRow {
     }
 
     fn put(&self, look: Look, out: &mut Vec<u8>) -> Result<(), NoMemory> {
-        match self.item {
-            QueueItem::Message(serial, addr, length) => {
-                self.put_with(message_template(look), serial, addr, length, out)
-            }
-            QueueItem::More(count) => self.put_with(more_template(look), count, 0, 0, out),
-            QueueItem::Bytes(bytes, high, low) => {
-                self.put_with(bytes_template(look), bytes, high, low, out)
-            }
-        }
-    }
-}
-
-impl QueueRow {
-    // Appends a template to `out`. Its holes get the words of the queue of this row, and the three numbers.
-    fn put_with(
-        &self,
-        template: &[u8],
-        first: u32,
-        second: u32,
-        third: u32,
-        out: &mut Vec<u8>,
-    ) -> Result<(), NoMemory>
-        ensures { OnOk result (out.new.items ≡ out.old.items ++ queue_text template.now self.now first second third) }
-    {
+        let (template, first, second, third) = match self.item {
+            QueueItem::Message(serial, addr, length) => (
+                message_template(look),
+                serial,
+                addr,
+                length,
+            ),
+            QueueItem::More(count) => (more_template(look), count, 0, 0),
+            QueueItem::Bytes(bytes, high, low) => (bytes_template(look), bytes, high, low),
+        };
         let values = [
-            Piece::Name(&self.driver),
-            Piece::Number(self.minor),
-            Piece::Letter(self.side),
-            Piece::Side(self.side),
-            Piece::Number(first),
-            Piece::Number(second),
-            Piece::Number(third),
+            Name(&self.driver),
+            Number(self.minor),
+            Letter(self.side),
+            Side(self.side),
+            Number(first),
+            Number(second),
+            Number(third),
         ];
         put(out, template, &values)
     }

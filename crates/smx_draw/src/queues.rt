@@ -1,7 +1,6 @@
 //! The rows of queues: the messages that wait in them, and their bytes.
 
 ghost use Rattle.std.specs.Prelude.{◌≡◌, ◌++◌, ◌∷◌, [], IfOk, OnOk, option_copied};
-ghost use Rattle.std.specs.Option.{option_map_or};
 ghost use Rattle.smx_draw.specs.Queues.{driver_named, end_rows, goes_on, is_same, message_rows, queue_rows, row};
 
 use crate::pieces::shown_length;
@@ -87,7 +86,10 @@ fn put_end(
     if count > SHOWN {
         rows.push(row(last, QueueItem::More(count - SHOWN)))?;
     }
-    let (high, low) = marks_of(drivers, &last.driver);
+    let (high, low) = match driver_named(drivers, &last.driver) {
+        Some(driver) => (driver.high, driver.low),
+        None => (0, 0),
+    };
     rows.push(row(last, QueueItem::Bytes(bytes, high, low)))?;
     Ok(())
 }
@@ -121,17 +123,6 @@ fn is_same(one: Side, other: Side) -> bool
     ensures { result ≡ is_same one other }
 {
     one == other
-}
-
-// Returns the high and the low water mark of the driver with this name, or 0 and 0 if there is no such driver.
-fn marks_of(drivers: &[DriverSpec], name: &Name) -> (u32, u32)
-    ensures high { result.0 ≡ option_map_or (λ d. d.high) (driver_named drivers.now name.now) 0 }
-    ensures low { result.1 ≡ option_map_or (λ d. d.low) (driver_named drivers.now name.now) 0 }
-{
-    match driver_named(drivers, name) {
-        Some(driver) => (driver.high, driver.low),
-        None => (0, 0),
-    }
 }
 
 fn driver_named<'a>(drivers: &'a [DriverSpec], name: &Name) -> Option<&'a DriverSpec>

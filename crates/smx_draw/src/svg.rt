@@ -3,11 +3,10 @@
 ghost use Rattle.std.specs.Prelude.{◌≡◌, ℕ, ◌++◌, List, IfOk, OnOk};
 ghost use Rattle.smx_draw.specs.Drawing.{Draws};
 ghost use Rattle.smx_draw.specs.SvgElements.{row};
+ghost use Rattle.smx_draw.specs.SvgFrame.{svg_foot, svg_head};
 ghost use Rattle.smx_draw.specs.SvgText.{DrawsRows, DrawsUnder, IsSvgOf};
 
-mod area;
 mod block;
-mod ends;
 mod places;
 mod plan;
 pub mod seat;
@@ -15,26 +14,63 @@ mod under;
 mod ways;
 
 use crate::parts::{Look, Part};
-use crate::pieces::{Piece, put};
+use crate::pieces::Piece::Number;
+use crate::pieces::put;
 use crate::queues::{QueueRow, queue_rows};
-use crate::svg::area::Area;
-use crate::svg::ends::{put_foot, put_head};
+use crate::svg::block::Area;
 use crate::svg::plan::Plan;
-use crate::svg::seat::{Row, Seat};
 use crate::svg::under::streams_of;
 use smx_types::{ConfigView, DriverSpec, NoMemory};
 use std::alloc::Global;
 
+// The start of the picture, the styles of its parts, and the legend.
+const HEAD: &[u8] =
+    b"<svg xmlns=\"http://www.w3.org/2000/svg\" class=\"muxsim\" width=\"@0\" height=\"@1\" viewBox=\"0 0 @0 @1\">
+<style>
+.muxsim text { font: 10px monospace; fill: #1f2328 }
+.muxsim path { fill: none }
+.muxsim .page { fill: #ffffff }
+.muxsim .frame { stroke: #57606a }
+.muxsim .frame.mux, .muxsim .route path { fill: #eef4fb }
+.muxsim .route path { stroke: #57606a }
+.muxsim .frame.leaf { fill: #eef7ee }
+.muxsim .mux path { fill: #35638a }
+.muxsim .leaf path { fill: #3c6e47 }
+.muxsim .stream path, .muxsim .closed path { fill: #ffffff; stroke: #57606a }
+.muxsim .closed path { stroke-dasharray: 3 3 }
+.muxsim .stream text { font-weight: bold }
+.muxsim .ordinary text { fill: #35638a }
+.muxsim .persistent text { fill: #a04f00 }
+.muxsim .way path { stroke: #4682b4; stroke-width: 1.5 }
+.muxsim .way.persistent path { stroke: #d96b00; stroke-width: 3 }
+.muxsim .way path.halo { stroke: #ffffff; stroke-width: 5 }
+.muxsim .bytes { fill: #ffdf8a }
+.muxsim .low { fill: #bf8700 }
+.muxsim .queue path { stroke: #8c959f }
+.muxsim .message path { fill: #fff8e1; stroke: #d9c27a }
+.muxsim .full path { fill: #cf222e }
+.muxsim .hung path { fill: #57606a }
+.muxsim .mux text, .muxsim .leaf text, .muxsim .full text, .muxsim .hung text { fill: #ffffff; font-weight: bold }
+</style>
+<path class=\"page\" d=\"M0 0H@0V@1H0Z\"/>
+<g class=\"way ordinary\"><path d=\"M24 20H64\"/><text x=\"70\" y=\"24\">ordinary link</text></g>
+<g class=\"way persistent\"><path d=\"M164 20H204\"/><text x=\"210\" y=\"24\">persistent link</text></g>
+<path class=\"bytes\" d=\"M320 13H371V27H320Z\"/><path class=\"low\" d=\"M320 25H345V27H320Z\"/>
+<g class=\"queue\"><path d=\"M320 13H422V27H320Z\"/><text x=\"326\" y=\"24\">bytes, low mark</text></g>
+<g class=\"full\"><path d=\"M442 13H514V27H442Z\"/><text x=\"448\" y=\"24\">full queue</text></g>
+<g class=\"hung\"><path d=\"M534 13H630V27H534Z\"/><text x=\"540\" y=\"24\">stream hung up</text></g>
+";
+
 /// One element that is drawn before the rows, so that they are on top of it: the frame of a driver, a link, the column
 /// of a stream, or the gauge of a queue (a bar for its bytes).
 pub trait Drawn {
-    ghost use Rattle.smx_draw.specs.declared.svg.area.Area.{Area};
+    ghost use Rattle.smx_draw.specs.declared.svg.block.Area.{Area};
 
     // The text of the element, given its place.
     ghost element: { Self → Area → List ℕ };
 
     /// Returns the place of the element.
-    fn place(&self, plan: &mut Plan) -> Area;
+    fn place(&self, plan: &mut Plan) -> Option<Area>;
 
     /// Appends to `out` the text that draws the element at this place. If memory runs out, `out` may end with only the
     /// beginning of this text.
@@ -67,7 +103,7 @@ fn plan_of(
     view: &ConfigView,
     queues: &[QueueRow],
 ) -> Result<Plan, NoMemory> {
-    let mut plan = Plan::new(alloc, seats_of(alloc, drivers, view, queues)?)?;
+    let mut plan = Plan::new(alloc);
     plan.add_all(drivers)?;
     plan.add_all(view.links.as_slice())?;
     plan.add_all(view.hungs.as_slice())?;
@@ -76,44 +112,23 @@ fn plan_of(
     plan.add_all(view.binds.as_slice())?;
     plan.add_all(queues)?;
     plan.add_all(view.fulls.as_slice())?;
-    plan.add_names()?;
-    plan.add_ways(view.links.as_slice())?;
-    plan.place()?;
-    plan.route();
+    plan.arrange(alloc, view.links.as_slice())?;
     Ok(plan)
 }
 
-// Returns the seats of all rows (a seat says where a row belongs). Adds seats for the driver of each row, for the
-// controlling stream of each link, and for the driver of this stream. So all of these get blocks.
-fn seats_of(
-    alloc: Global,
-    drivers: &[DriverSpec],
-    view: &ConfigView,
-    queues: &[QueueRow],
-) -> Result<Vec<Seat>, NoMemory> {
-    let mut seats = Vec::new(alloc);
-    name_all(&mut seats, drivers)?;
-    name_all(&mut seats, view.links.as_slice())?;
-    name_all(&mut seats, view.hungs.as_slice())?;
-    name_all(&mut seats, view.routes.as_slice())?;
-    name_all(&mut seats, view.fds.as_slice())?;
-    name_all(&mut seats, view.binds.as_slice())?;
-    name_all(&mut seats, queues)?;
-    name_all(&mut seats, view.fulls.as_slice())?;
-    for link in view.links.as_slice() {
-        seats.push(Seat::of_driver(&link.ctl_driver, Row::Name))?;
-        seats.push(Seat::of_stream(&link.ctl_driver, link.ctl_minor, Row::Name))?;
-    }
-    Ok(seats)
+// Appends the head of the picture: its size, the styles of its parts, and the legend.
+fn put_head(out: &mut Vec<u8>, width: u32, height: u32) -> Result<(), NoMemory>
+    ensures { OnOk result (out.new.items ≡ out.old.items ++ svg_head width height) }
+{
+    put(out, HEAD, &[Number(width), Number(height)])
 }
 
-fn name_all<T: Part>(seats: &mut Vec<Seat>, items: &[T]) -> Result<(), NoMemory> {
-    for item in items {
-        let seat = item.seat();
-        seats.push(Seat::of_driver(&seat.driver, Row::Name))?;
-        seats.push(seat)?;
-    }
-    Ok(())
+// Appends the end of the picture, with the id of the next link and the serial of the next message.
+fn put_foot(out: &mut Vec<u8>, next_id: u32, next_serial: u32) -> Result<(), NoMemory>
+    ensures { OnOk result (out.new.items ≡ out.old.items ++ svg_foot next_id next_serial) }
+{
+    let template = b"<text x=\"24\" y=\"44\">next link @0, next message @1</text>\n</svg>\n";
+    put(out, template, &[Number(next_id), Number(next_serial)])
 }
 
 // Appends the frames, the links, the columns and the gauges.
@@ -161,7 +176,7 @@ fn draw_all<T: Drawn>(plan: &mut Plan, out: &mut Vec<u8>, items: &[T]) -> Result
     ensures { OnOk result (Draws T.element items.now out.old.items out.new.items) }
 {
     for item in items {
-        let at = item.place(plan);
+        let at = item.place(plan).unwrap_or_default();
         item.put_at(at, out)?;
     }
     Ok(())
@@ -172,7 +187,7 @@ fn put_rows<T: Part>(plan: &mut Plan, out: &mut Vec<u8>, items: &[T]) -> Result<
     ensures { OnOk result (Draws (row T.text) items.now out.old.items out.new.items) }
 {
     for item in items {
-        let at = plan.take_row(&item.seat());
+        let at = plan.take_row(&item.seat()).unwrap_or_default();
         put_row(item, at, out)?;
     }
     Ok(())
@@ -185,16 +200,13 @@ fn put_row<T: Part>(item: &T, at: Area, out: &mut Vec<u8>) -> Result<(), NoMemor
     put(out, b"<g class=\"", &[])?;
     item.put(Look::Class, out)?;
     let corners = [
-        Piece::Number(at.left),
-        Piece::Number(at.top),
-        Piece::Number(at.right),
-        Piece::Number(at.bottom),
+        Number(at.left),
+        Number(at.top),
+        Number(at.right),
+        Number(at.bottom),
     ];
-    put(
-        out,
-        b"\"><path d=\"M@0 @1H@2V@3H@0Z\"/><text x=\"@0\" y=\"@1\" dx=\"6\" dy=\"11\">",
-        &corners,
-    )?;
+    let template = b"\"><path d=\"M@0 @1H@2V@3H@0Z\"/><text x=\"@0\" y=\"@1\" dx=\"6\" dy=\"11\">";
+    put(out, template, &corners)?;
     item.put(Look::Label, out)?;
     put(out, b"</text></g>\n", &[])?;
     Ok(())

@@ -1,13 +1,15 @@
-//! The column at which a line becomes invalid.
+//! The column at which a line becomes invalid, and the words for it.
 
-ghost use Rattle.std.specs.Prelude.{◌≡◌, ℕ, List, ◌∷◌, ◌++◌, [], MatchOption};
+ghost use Rattle.std.specs.Prelude.{◌≡◌, ℕ, List, ◌∷◌, ◌++◌, [], MatchOption, Some};
 ghost use Rattle.smx_words.specs.Words.{IsFree, SPACE};
+ghost use Rattle.smx_explain.specs.ColumnWords.{column_words, space_words};
 ghost use Rattle.smx_explain.specs.Columns.{EndsThere, IsColumn, IsPartAt, IsWhole, first_choice, left_of, wanted_of};
 
 use crate::kinds::{Choice, LineKind, Wanted};
 use crate::rows::{FoundRow, go_on, may_end};
 use memchr::memchr;
 use smx_types::Version;
+use std::fmt;
 
 /// The column at which a line becomes invalid, and what was expected there.
 #[derive(Clone, Copy, Debug, PartialEq, Eq)]
@@ -15,6 +17,33 @@ pub struct LineColumn {
     /// The column of the unexpected or missing word, counted in bytes from 1.
     pub column: usize,
     pub wanted: Wanted,
+}
+
+/// A column of a line of `len` bytes. It prints the column and what was expected there.
+#[derive(Clone, Copy)]
+pub struct ColumnWords {
+    pub at: LineColumn,
+    pub len: usize,
+}
+
+impl fmt::Display for ColumnWords {
+    ghost output = { λ words. Some (column_words words.at words.len) };
+
+    fn fmt<W: fmt::Write>(&self, f: &mut fmt::Formatter<W>) -> fmt::Result {
+        let LineColumn { column, wanted } = self.at;
+        let space = space_words(wanted, column, self.len);
+        write!(f, "column {column}: {wanted} is wanted{space}")
+    }
+}
+
+// If only a space at the end of the line is wrong, returns words that say this. Otherwise returns no words.
+fn space_words(wanted: Wanted, column: usize, len: usize) -> &'static str
+    ensures { result.now ≡ space_words wanted column len }
+{
+    if wanted == Wanted::Choice(Choice::End) && len < column {
+        return ", with no space before it";
+    }
+    ""
 }
 
 /// Returns the column of the first wrong word, or of a missing word. A word is wrong if no valid line of this kind and

@@ -13,16 +13,6 @@ use smx_trace::replay;
 use smx_types::{NoMemory, Transcript};
 use std::alloc::Global;
 
-/// A line that differs between two texts. Lines are numbered from 1.
-#[derive(Clone, Copy)]
-pub struct Difference<'a> {
-    pub number: usize,
-    /// The line in the first text, without its line feed.
-    pub told: &'a [u8],
-    /// The line in the second text, without its line feed.
-    pub has: &'a [u8],
-}
-
 /// Returns the explanation of `transcript`. `text` must be the text of this transcript. The explanation is empty
 /// exactly if the transcript is legal, that is, if it is its own replay. Otherwise, the explanation shows the first
 /// line in which `text` and the text of the replay differ: this line of `text`, and this line of the replay. Fails if
@@ -34,29 +24,26 @@ pub fn explain(alloc: Global, text: &[u8], transcript: Transcript) -> Result<Vec
 {
     let replayed = replay(alloc, transcript, Vec::new(alloc))?;
     match first_difference(text, replayed.as_slice()) {
-        Some(difference) => Ok(difference_text(alloc, &difference)?),
+        Some((number, told, has)) => Ok(difference_text(alloc, number, told, has)?),
         None => Ok(Vec::new(alloc)),
     }
 }
 
-// Finds the first line in which two texts differ. Returns `None` if the whole lines (those with a line feed) of the two
-// texts are equal, up to the point where one of the texts has no more. Takes no memory.
-fn first_difference<'a>(one: &'a [u8], other: &'a [u8]) -> Option<Difference<'a>>
+// Finds the first line in which two texts differ. Returns its number, counted from 1, and this line of each text,
+// without its line feed. Returns `None` if the whole lines (those with a line feed) of the two texts are equal, up to
+// the point where one of the texts has no more. Takes no memory.
+fn first_difference<'a>(one: &'a [u8], other: &'a [u8]) -> Option<(usize, &'a [u8], &'a [u8])>
     ensures { MatchOption result (AreAlike one.now other.now)
-        (λ d. IsFirstDifference one.now other.now d.number d.told.now d.has.now) }
+        (λ d. IsFirstDifference one.now other.now d.0 d.1.now d.2.now) }
 {
     let mut rest = one;
     let mut behind = other;
     let mut number = 1usize;
     'lines: loop {
-        let Some((told, more)) = next_line(rest) else {
-            return None;
-        };
-        let Some((has, after)) = next_line(behind) else {
-            return None;
-        };
+        let (told, more) = next_line(rest)?;
+        let (has, after) = next_line(behind)?;
         if told != has {
-            return Some(Difference { number, told, has });
+            return Some((number, told, has));
         }
         rest = more;
         behind = after;
@@ -65,11 +52,14 @@ fn first_difference<'a>(one: &'a [u8], other: &'a [u8]) -> Option<Difference<'a>
 }
 
 // Returns the two lines that show a difference. Fails only if it is out of memory.
-fn difference_text(alloc: Global, difference: &Difference) -> Result<Vec<u8>, NoMemory>
-    ensures { IfOk result (λ text. text.items
-        ≡ difference_text difference.now.number difference.now.told.now difference.now.has.now) }
+fn difference_text(
+    alloc: Global,
+    number: usize,
+    told: &[u8],
+    has: &[u8],
+) -> Result<Vec<u8>, NoMemory>
+    ensures { IfOk result (λ text. text.items ≡ difference_text number told.now has.now) }
 {
-    let Difference { number, told, has } = *difference;
     let begin = format!(in alloc; "line {number}: ")?;
     let mut text = Vec::from_slice(alloc, begin.as_bytes())?;
     text.extend_from_slice(told)?;

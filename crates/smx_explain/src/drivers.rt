@@ -1,8 +1,7 @@
 //! Explains why the drivers of a text are refused.
 
 use crate::columns::word_at;
-use crate::lines::line_at;
-use crate::shown::write_line;
+use crate::lines::{line_at, write_line};
 use smx_config::ConfigFault;
 use smx_types::SpecFault;
 use std::fmt;
@@ -52,7 +51,6 @@ fn write_driver<W: fmt::Write>(
     f.write_str("\n")
 }
 
-// Returns what is wrong with a driver.
 fn spec_reason(fault: SpecFault) -> &'static str {
     match fault {
         SpecFault::BadMinors => "a driver has 1 to 64 minors",
@@ -79,7 +77,6 @@ fn write_namesake<W: fmt::Write>(
     Ok(())
 }
 
-// Returns the name in the line of a driver.
 fn name_in(line: &[u8]) -> &[u8] {
     word_at(line, b"driver ".len() + 1)
 }

@@ -1,14 +1,17 @@
-//! Explains why a text is malformed.
+//! Explains why a text is malformed, and why a session can't read a line.
 
-use crate::column_words::ColumnWords;
-use crate::columns::{LineColumn, column_of, word_at};
-use crate::hints::hint_of;
-use crate::kinds::TextKind;
-use crate::lines::line_at;
-use crate::reasons::{header_reason, limit_reason, order_reason, output_reason};
-use crate::shown::write_line;
+ghost use Rattle.std.specs.Prelude.{◌≡◌, ◌⊎◌, IfOk, MatchBool, MatchOption, string_bytes};
+ghost use Rattle.smx_explain.specs.ColumnWords.{IsExplanationOf, explanation_text};
+ghost use Rattle.smx_explain.specs.Hints.{IsHeader};
+ghost use Rattle.smx_explain.specs.declared.kinds.TextKind.TheVariants as header;
+
+use crate::columns::{ColumnWords, LineColumn, column_of, word_at};
+use crate::hints::{Hint, hint_of};
+use crate::kinds::{LineKind, TextKind};
+use crate::lines::{line_at, write_line};
 use smx_text::{Cause, TextFault};
-use smx_types::Version;
+use smx_types::{NoMemory, Version};
+use std::alloc::{AllocError, Global};
 use std::fmt;
 
 /// A text and its fault. Prints two lines: at most 80 columns of the malformed line, with its number, and what is wrong
@@ -33,7 +36,7 @@ impl FaultExplanation<'_> {
     fn column(&self, line: &[u8]) -> Option<LineColumn> {
         match self.fault.cause {
             Cause::Form => column_of(self.kind.lines(), version_of(self.text), line),
-            Cause::Header | Cause::Many | Cause::Cut | Cause::Trailing | Cause::NoMemory => None,
+            _ => None,
         }
     }
 
@@ -57,7 +60,12 @@ impl fmt::Display for FaultExplanation<'_> {
         write!(f, "line {number}: ")?;
         match self.column(line) {
             Some(at) => {
-                write_column(f, line, at)?;
+                write_line(f, line, at.column)?;
+                let words = ColumnWords {
+                    at,
+                    len: line.len(),
+                };
+                writeln!(f, "\n{words}")?;
                 write_hint(f, version_of(self.text), line, at)
             }
             None => {
@@ -76,20 +84,6 @@ fn version_of(text: &[u8]) -> Version {
     }
 }
 
-// Writes a malformed line, and below it the column in which it becomes invalid and what is expected there.
-fn write_column<W: fmt::Write>(
-    f: &mut fmt::Formatter<W>,
-    line: &[u8],
-    at: LineColumn,
-) -> fmt::Result {
-    write_line(f, line, at.column)?;
-    let words = ColumnWords {
-        at,
-        len: line.len(),
-    };
-    writeln!(f, "\n{words}")
-}
-
 // If there is a hint on a malformed line, writes the line of the hint.
 fn write_hint<W: fmt::Write>(
     f: &mut fmt::Formatter<W>,
@@ -104,5 +98,125 @@ fn write_hint<W: fmt::Write>(
     match hint_of(version, at.wanted, word) {
         Some(hint) => writeln!(f, "{hint}"),
         None => Ok(()),
+    }
+}
+
+// Returns what is wrong with a first line that is the header of the other kind of text, or no header.
+fn header_reason(kind: TextKind, line: &[u8]) -> &'static str {
+    match (kind, kind_of(line)) {
+        (TextKind::Programs, Some(TextKind::Transcript)) => {
+            "this is a transcript, for 'muxsim check', 'muxsim replay' or 'muxsim draw'"
+        }
+        (TextKind::Transcript, Some(TextKind::Programs)) => "these are programs, for 'muxsim run'",
+        (TextKind::Programs, _) => "the first line has to be 'programs 1' or 'programs 2'",
+        (TextKind::Transcript, _) => "the first line has to be 'transcript 1' or 'transcript 2'",
+    }
+}
+
+// Returns the kind of text whose header this line is, if it is a header.
+fn kind_of(line: &[u8]) -> Option<TextKind>
+    ensures { MatchOption result ((IsHeader header.Programs line.now → ⊥) × (IsHeader header.Transcript line.now → ⊥))
+        (λ kind. IsHeader kind line.now) }
+{
+    if is_one_of(line, "programs 1", "programs 2") {
+        Some(TextKind::Programs)
+    } else if is_one_of(line, "transcript 1", "transcript 2") {
+        Some(TextKind::Transcript)
+    } else {
+        None
+    }
+}
+
+fn is_one_of(line: &[u8], one: &str, other: &str) -> bool
+    ensures { MatchBool result ((line.now ≡ one.now) ⊎ (line.now ≡ other.now))
+        ((line.now ≡ one.now) ⊎ (line.now ≡ other.now) → ⊥) }
+{
+    line == one.as_bytes() || line == other.as_bytes()
+}
+
+// If a malformed line looks like one of a session's output or of a trace, returns what to leave out of this output.
+fn output_reason(line: &[u8]) -> Option<&'static str> {
+    match line {
+        b"shown" | [b'?', ..] => Some(
+            "this is the output of a session: leave out the lines with '?', and from 'config' to 'shown'",
+        ),
+        [b' ', b' ', ..] => {
+            Some("this is a trace: leave out the lines that begin with two spaces")
+        }
+        _ => None,
+    }
+}
+
+// Returns what is wrong with a well-formed line that is not allowed after the earlier lines. In a transcript, only an
+// entry begins with a digit.
+fn order_reason(kind: TextKind, version: Version, line: &[u8]) -> &'static str {
+    match (kind, line) {
+        (TextKind::Programs, _) if line.starts_with(b"driver ") =>
+            "the drivers come before the first process",
+        (TextKind::Programs, _) if line.starts_with(b"process ") =>
+            "the processes are numbered 0, 1, 2 and so on",
+        (TextKind::Programs, _) => "a command follows the line of its process",
+        (TextKind::Transcript, [b'0'..=b'9', ..]) => "the entries come before 'config'",
+        (TextKind::Transcript, b"config") => "'config' comes once, after the entries",
+        (TextKind::Transcript, b"end") => "'config' and 'next' come before 'end'",
+        _ if line.starts_with(b"driver ") =>
+            "the drivers come before the entries and before 'config'",
+        _ if line.starts_with(b"next ") => "'next' comes once, right after 'config'",
+        _ => order_of_groups(version),
+    }
+}
+
+// Returns the limit that a text exceeds if it has too many lines of the kind of this line.
+fn limit_reason(kind: TextKind, version: Version, line: &[u8]) -> &'static str {
+    match (kind, version) {
+        (_, Version::V1) if line.starts_with(b"driver ") =>
+            "at most 64 drivers are allowed in version 1",
+        (_, Version::V2) if line.starts_with(b"driver ") =>
+            "at most 128 drivers are allowed in version 2",
+        (TextKind::Programs, _) if line.starts_with(b"process ") =>
+            "at most 64 processes are allowed",
+        (TextKind::Programs, _) => "at most 100,000 commands are allowed",
+        (TextKind::Transcript, _) => "at most 100,000 entries are allowed",
+    }
+}
+
+// Returns where a line of the configuration may be, such as `fd` or `link`.
+fn order_of_groups(version: Version) -> &'static str {
+    match version {
+        Version::V1 => {
+            "after 'next' come 'fd', 'link', 'bind', 'route', 'msg' and 'full' lines, in this order"
+        }
+        Version::V2 => {
+            "after 'next' come 'fd', 'link', 'bind', 'route', 'msg', 'full' and 'hung' lines, in this order"
+        }
+    }
+}
+
+/// Returns the explanation of a line of a session. It names the column in which the line becomes invalid, and what was
+/// expected there; below that is a hint, if there is one. Each line of the explanation begins with two spaces. The
+/// explanation is empty if the given line is `show`, `trace on`, `trace off`, `end`, or a process with a command of
+/// this version. Fails only if it is out of memory.
+pub fn explain_line(alloc: Global, version: Version, line: &[u8]) -> Result<Vec<u8>, NoMemory>
+    ensures { IfOk result (λ text. IsExplanationOf version line.now text.items) }
+{
+    let Some(at) = column_of(LineKind::Session, version, line) else {
+        return Ok(Vec::new(alloc));
+    };
+    let hint = hint_of(version, at.wanted, word_at(line, at.column));
+    let words = ColumnWords {
+        at,
+        len: line.len(),
+    };
+    let text = explanation(alloc, words, hint)?;
+    Ok(text.into_bytes())
+}
+
+// Returns the line that names the column, and the line of the hint, if there is one.
+fn explanation(alloc: Global, words: ColumnWords, hint: Option<Hint>) -> Result<String, AllocError>
+    ensures { IfOk result (λ text. string_bytes text ≡ explanation_text words.at words.len hint) }
+{
+    match hint {
+        Some(hint) => format!(in alloc; "  {words}\n  {hint}\n"),
+        None => format!(in alloc; "  {words}\n"),
     }
 }

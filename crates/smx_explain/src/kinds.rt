@@ -1,7 +1,7 @@
 //! The kinds of words that a line can have, and how each is described.
 
-ghost use Rattle.std.specs.Prelude.{◌≡◌};
-ghost use Rattle.smx_explain.specs.WantedWords.{choice_words, value_words};
+ghost use Rattle.std.specs.Prelude.{◌≡◌, Some};
+ghost use Rattle.smx_explain.specs.WantedWords.{choice_words, value_words, wanted_words};
 
 use std::fmt;
 
@@ -86,7 +86,6 @@ impl TextKind {
 }
 
 impl Value {
-    // Returns the words that describe this kind of word.
     fn words(self) -> &'static str
         ensures { result.now ≡ value_words self }
     {
@@ -105,7 +104,6 @@ impl Value {
 }
 
 impl Choice {
-    // Returns the words that describe this kind of word.
     fn words(self) -> &'static str
         ensures { result.now ≡ choice_words self }
     {
@@ -134,9 +132,6 @@ impl Choice {
 }
 
 impl fmt::Display for Wanted {
-    ghost use Rattle.std.specs.Prelude.{Some};
-    ghost use Rattle.smx_explain.specs.WantedWords.{wanted_words};
-
     ghost output = { λ wanted. Some (wanted_words wanted) };
 
     fn fmt<W: fmt::Write>(&self, f: &mut fmt::Formatter<W>) -> fmt::Result {

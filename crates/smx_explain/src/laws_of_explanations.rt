@@ -15,7 +15,7 @@ ghost use Rattle.smx_words.specs.Spelling.{entry_words};
 ghost use Rattle.smx_words.specs.Words.{line_of};
 
 use smx_model::laws::histories_are_determined;
-use smx_trace::laws_of_replays::{a_transcript_has_one_replay, replays_are_the_legal_transcripts};
+use smx_trace::laws::{a_transcript_has_one_replay, replays_are_the_legal_transcripts};
 use smx_words::laws::{one_value_each, spellings_are_words};
 
 /// Two texts have at most one first difference. They have none if they are alike: their whole lines (those with a line

@@ -2,7 +2,6 @@
 //! in which a line becomes invalid.
 #![tactic(auto)]
 
-mod column_words;
 mod columns;
 mod differences;
 mod drivers;
@@ -12,15 +11,10 @@ mod kinds;
 pub mod laws_of_columns;
 pub mod laws_of_explanations;
 mod lines;
-mod near;
-mod reasons;
 mod rows;
-mod session_line;
-mod shown;
 mod tables;
 
 pub use differences::explain;
 pub use drivers::DriverExplanation;
-pub use fault::FaultExplanation;
+pub use fault::{FaultExplanation, explain_line};
 pub use kinds::TextKind;
-pub use session_line::explain_line;

@@ -18,7 +18,6 @@ pub struct FoundRow {
     pub next: Choice,
 }
 
-// Finds the row of a word.
 fn find(rows: &'static [Row], word: &[u8]) -> Option<FoundRow>
     ensures { MatchOption result (IsNoRow (rows_of rows.now) word.now)
         (λ row. IsRow (rows_of rows.now) word.now row.values.now row.next) }
@@ -49,7 +48,6 @@ fn fixed(version: Version, choice: Choice, word: &[u8]) -> Option<FoundRow>
     }
 }
 
-// Returns whether a word gives a value of this kind.
 fn is_value(value: Value, word: &[u8]) -> bool
     ensures { MatchBool result (IsValue value word.now) (IsValue value word.now → ⊥) }
 {
@@ -66,7 +64,6 @@ fn is_value(value: Value, word: &[u8]) -> bool
     }
 }
 
-// Returns whether a word is the number of a process.
 fn is_process(word: &[u8]) -> bool
     ensures { MatchBool result (IsValue AnyValue.Process word.now) (IsValue AnyValue.Process word.now → ⊥) }
 {

@@ -35,7 +35,6 @@ const TRANSCRIPT_LINES: [Row; 10] = [
     ("end", &[], End),
 ];
 
-// The commands of an entry.
 const COMMANDS: [Row; 18] = [
     ("clone", &[Name], Equals),
     ("open", &[Name, Number], Equals),
@@ -57,7 +56,6 @@ const COMMANDS: [Row; 18] = [
     ("transmit", &[Name, Number], Equals),
 ];
 
-// The replies.
 const REPLIES: [Row; 12] = [
     ("fd", &[Number, Number], End),
     ("id", &[Number], End),

@@ -2,20 +2,20 @@
 use Rattle.smx_filters.proofs.Common.{◌≡◌, ◌≢◌, ℕ, ◌≤◌, Bool, true, false, List, length, map, Option, Result, Ok, Err}
 use Rattle.smx_filters.proofs.Common.{refl, sym, ap, subst, ◌∙◌, arith, inl, inr, ProgramLists, Entry, DriverSpec}
 use Rattle.smx_filters.proofs.Common.{Transcript, Version, IsReportOf, call_of, Spells, transcript_grammar}
-use Rattle.smx_filters.proofs.Common.{transcript_text, TextFault, RefusesDrivers, IsVerdict, ConfigFault, Verdict}
-use Rattle.smx_filters.proofs.Common.{Legal, RefusesAlone, RunFault, checking, Answers, Filter, GivesFor, replaying}
-use Rattle.smx_filters.proofs.Common.{IsWrittenFor, running, MainFault, Refused, Text, TooLong, ReadFailed}
-use Rattle.smx_filters.proofs.Common.{WriteFailed}
+use Rattle.smx_filters.proofs.Common.{transcript_text, TextFault, IsVerdict, ConfigFault, Verdict, Legal, RefusesAlone}
+use Rattle.smx_filters.proofs.Common.{RunFault, checking, Answers, Filter, GivesFor, replaying, IsWrittenFor, running}
+use Rattle.smx_filters.proofs.Common.{MainFault, Refused, Text, TooLong, ReadFailed, WriteFailed}
 use Rattle.std.proofs.Common.{◌++◌}
 use Rattle.smx_types.specs.declared.view.ConfigView.{ConfigView}
 use Rattle.smx_model.specs.DriverList.{IsDriverList}
 use Rattle.smx_text.specs.ProgramsText.{programs_grammar}
 use Rattle.smx_config.specs.declared.config_fault.ConfigFault.TheVariants as config
 use Rattle.smx_run.specs.declared.run_fault.RunFault.TheVariants as run
-use Rattle.smx_model.proofs.ReportLemmas.{one_report}
+use Rattle.smx_model.proofs.HistoryLemmas.{determined}
 use Rattle.smx_config.proofs.DriverFaultLemmas.{one_fault as one_refusal}
 use Rattle.smx_filters.proofs.OneProcessLemmas.{in_turn}
-use Rattle.smx_filters.proofs.ReadingLemmas.{HasOneReading, no_fault, one_fault, one_value}
+use Rattle.smx_run.proofs.RefusalLemmas.{only_memory_refuses}
+use Rattle.smx_run.proofs.ReadingLemmas.{HasOneReading, no_fault, one_fault, one_value}
 use Rattle.smx_filters.proofs.ReplayTextLemmas.{HasOneReplay, part_drivers}
 use Rattle.smx_trace.specs.Traces.{IsTraceText}
 use Rattle.smx_explain.specs.Explanations.{IsExplanation}
@@ -26,12 +26,23 @@ use Rattle.smx_filters.specs.ReplayText.{IsPastEnd, RefusesPart, asked_part}
 use Rattle.smx_filters.specs.RunText.{IsTranscriptFor}
 use Rattle.smx_filters.specs.TraceText.{tracing}
 
--- ---- what other crates' laws say
+-- ---- reports
 
--- drivers that are not valid are refused for only one fault
-abbrev pub HaveOneFault : Type 0
-HaveOneFault =
-    (drivers : List DriverSpec) (f g : ConfigFault) → RefusesDrivers drivers f → RefusesDrivers drivers g → f ≡ g
+-- the transcript of a version with these drivers, entries and view
+abbrev transcript : Version → List DriverSpec → List Entry → ConfigView → Transcript
+transcript version drivers entries v = record { version = version; drivers = drivers; entries = entries; view = v }
+
+-- transcripts of one version with the same drivers, entries and view are equal
+transcript_of : (n : Version) (ds ds2 : List DriverSpec) (es es2 : List Entry) (v v2 : ConfigView) → ds ≡ ds2 → es ≡ es2
+    → v ≡ v2 → transcript n ds es v ≡ transcript n ds2 es2 v2
+transcript_of n ds ds2 es es2 v v2 e f g = cc
+
+-- the calls determine the drivers, the history and the view of a report
+one_report : (programs : ProgramLists) (r s : Transcript) → IsReportOf programs r → IsReportOf programs s
+    → map call_of r.entries ≡ map call_of s.entries → r ≡ record s { version = r.version }
+one_report programs r s h k e = grind (arith, determined, transcript_of)
+
+-- ---- what other crates' laws say
 
 -- a transcript's contents have one verdict
 abbrev pub HasOneVerdict : Type 0
@@ -104,14 +115,6 @@ module _ {V K T : Type 0} (filter : Filter V K T) (reading : HasOneReading filte
   one_answer one (Err WriteFailed) h k known known_too = absurd k
 
 -- ---- refusals
-
--- drivers that are valid are refused only for lack of memory
-pub only_memory_refuses : HaveOneFault → (drivers : List DriverSpec) → IsDriverList drivers → (r : RunFault)
-    → RefusesAlone drivers r → r ≡ run.NoMemory
-only_memory_refuses determined drivers had run.NoMemory h = refl
-only_memory_refuses determined drivers had (run.ConfigFault f) h =
-    absurd (h.1 (determined drivers f config.NoMemory h.0 had))
-only_memory_refuses determined drivers had r h = absurd h
 
 -- other drivers are refused for only one fault
 refused_alone : (drivers : List DriverSpec) (r s : RunFault) → RefusesAlone drivers r

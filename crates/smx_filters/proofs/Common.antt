@@ -25,10 +25,10 @@ pub use Rattle.smx_text.specs.TranscriptText.{transcript_text, transcript_gramma
 pub use Rattle.smx_text.specs.declared.text_fault.TextFault.{TextFault}
 pub use Rattle.smx_filters.specs.CheckText.{checking}
 pub use Rattle.smx_filters.specs.Filters.{Filter, Answers, GivesFor, IsFaultOf, FiltersText}
-pub use Rattle.smx_filters.specs.Input.{IsInput}
+pub use Rattle.smx_run.specs.Input.{IsInput}
 pub use Rattle.smx_filters.specs.ReplayText.{replaying}
 pub use Rattle.smx_filters.specs.RunText.{running, IsWrittenFor}
-pub use Rattle.smx_filters.specs.declared.input.TheConstants.{MAX_INPUT}
-pub use Rattle.smx_filters.specs.declared.main_fault.MainFault.{MainFault}
-pub use Rattle.smx_filters.specs.declared.main_fault.MainFault.TheVariants.{Text, WriteFailed, ReadFailed, Refused}
-pub use Rattle.smx_filters.specs.declared.main_fault.MainFault.TheVariants.{TooLong}
+pub use Rattle.smx_run.specs.declared.input.TheConstants.{MAX_INPUT}
+pub use Rattle.smx_run.specs.declared.main_fault.MainFault.{MainFault}
+pub use Rattle.smx_run.specs.declared.main_fault.MainFault.TheVariants.{Text, WriteFailed, ReadFailed, Refused}
+pub use Rattle.smx_run.specs.declared.main_fault.MainFault.TheVariants.{TooLong}

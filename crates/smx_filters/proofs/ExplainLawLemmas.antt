@@ -5,8 +5,9 @@ use Rattle.smx_filters.proofs.Common.{GivesFor, MainFault, Refused, Text}
 use Rattle.std.proofs.Common.{◌++◌, [], append-nil}
 use Rattle.smx_explain.specs.Explanations.{IsExplanation}
 use Rattle.smx_run.specs.declared.run_fault.RunFault.TheVariants as run
-use Rattle.smx_filters.specs.ExplainText.{IsKept, KeepsText, is_in_text, judging}
-use Rattle.smx_filters.specs.declared.refusal.Refusal.{Refusal}
+use Rattle.smx_run.specs.Refusals.{IsKept, is_in_text}
+use Rattle.smx_filters.specs.ExplainText.{KeepsText, judging}
+use Rattle.smx_run.specs.declared.main_fault.Refusal.{Refusal}
 
 -- the explanation of a legal transcript is empty
 abbrev pub NeedsNone : Type 0

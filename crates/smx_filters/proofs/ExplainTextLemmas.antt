@@ -2,9 +2,10 @@
 use Rattle.smx_filters.proofs.Common.{◌≡◌, ℕ, Bool, true, false, List, Option, None, Result, Ok, Err, Vec, sym, ap}
 use Rattle.smx_filters.proofs.Common.{subst, ◌∙◌, Global, Appends, IsErrAnd, Answers, Filter, GivesFor, IsInput}
 use Rattle.smx_filters.proofs.Common.{MainFault, WriteFailed}
-use Rattle.smx_filters.specs.ExplainText.{IsKept, KeepsText, is_in_text}
-use Rattle.smx_filters.specs.Output.{AppendsBeginning}
-use Rattle.smx_filters.specs.declared.refusal.Refusal.{Refusal}
+use Rattle.smx_run.specs.Refusals.{IsKept, is_in_text}
+use Rattle.smx_filters.specs.ExplainText.{KeepsText}
+use Rattle.smx_run.specs.Devices.{AppendsBeginning}
+use Rattle.smx_run.specs.declared.main_fault.Refusal.{Refusal}
 use Rattle.smx_filters.proofs.FilterLemmas.{are_read, at_answer}
 use Rattle.smx_filters.proofs.WritingFilterLemmas.{written_out}
 

@@ -8,7 +8,7 @@ use Rattle.std.specs.Io.KnownBytes.{Keeps}
 use Rattle.smx_config.specs.declared.config_fault.ConfigFault.TheVariants as config
 use Rattle.smx_run.specs.RunFaults.{run_fault_of}
 use Rattle.smx_filters.specs.Filters.{RefusesFor}
-use Rattle.smx_filters.specs.Input.{IsWhole}
+use Rattle.smx_run.specs.Input.{IsWhole}
 
 -- known bytes that don't change are kept
 kept : (known : Option (List ℕ)) → Keeps known known

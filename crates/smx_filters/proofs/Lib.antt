@@ -1,12 +1,9 @@
 pub mod Common
-pub mod InputLemmas
-pub mod OutputLemmas
 pub mod FilterLemmas
 pub mod CheckTextLemmas
 pub mod InMemoryLemmas
 pub mod FrontsTextLemmas
 pub mod InVersionLemmas
-pub mod ReadingLemmas
 pub mod ReplayTextLemmas
 pub mod WritingFilterLemmas
 pub mod ExplainTextLemmas

@@ -15,7 +15,7 @@ use Rattle.smx_filters.specs.CheckText.{verdict_line}
 use Rattle.smx_filters.specs.ReplayText.{IsPastEnd, RefusesPart, asked_part}
 use Rattle.smx_filters.specs.RunText.{items_of}
 use Rattle.smx_filters.proofs.FilterLemmas.{alone_of}
-use Rattle.smx_filters.proofs.ReadingLemmas.{HasOneReading, one_value}
+use Rattle.smx_run.proofs.ReadingLemmas.{HasOneReading, one_value}
 
 -- ---- what other crates' laws say
 

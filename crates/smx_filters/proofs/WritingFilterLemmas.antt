@@ -5,8 +5,8 @@ use Rattle.smx_filters.proofs.Common.{arith, IfErr, IsErrAnd, Global, Appends, T
 use Rattle.smx_filters.proofs.Common.{FiltersText, GivesFor, IsFaultOf, IsInput, MainFault, Refused, Text, TooLong}
 use Rattle.smx_filters.proofs.Common.{ReadFailed, WriteFailed}
 use Rattle.std.specs.Prelude.{OnErr, OnOk}
-use Rattle.smx_filters.specs.Input.{IsWhole}
-use Rattle.smx_filters.specs.Output.{AppendsBeginning}
+use Rattle.smx_run.specs.Input.{IsWhole}
+use Rattle.smx_run.specs.Devices.{AppendsBeginning}
 use Rattle.smx_filters.specs.RunText.{items_of}
 
 -- if the text is malformed, the answer is its fault

@@ -15,8 +15,8 @@ use Rattle.smx_config.specs.declared.verdict.Verdict.TheVariants.{Legal, Illegal
 use Rattle.smx_run.specs.RunFaults.{RefusesAlone}
 use Rattle.smx_filters.specs.Filters.{Filter, FiltersText}
 use Rattle.smx_run.specs.declared.run_fault.RunFault.{RunFault}
-use Rattle.smx_filters.specs.declared.main_fault.MainFault.{MainFault}
-use Rattle.smx_filters.specs.declared.main_fault.MainFault.TheVariants.{Refused}
+use Rattle.smx_run.specs.declared.main_fault.MainFault.{MainFault}
+use Rattle.smx_run.specs.declared.main_fault.MainFault.TheVariants.{Refused}
 
 -- the words of a verdict on `entries` entries: their number, or which one is the first illegal one
 abbrev pub verdict_words : ℕ → Verdict → List (List ℕ)

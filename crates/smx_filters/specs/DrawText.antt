@@ -7,7 +7,7 @@ use Rattle.smx_draw.specs.Pictures.{IsPictureOf}
 use Rattle.smx_draw.specs.declared.form.Form.{Form}
 use Rattle.smx_run.specs.declared.run_fault.RunFault.TheVariants.{NoMemory}
 use Rattle.smx_filters.specs.Filters.{Filter, FiltersText}
-use Rattle.smx_filters.specs.declared.main_fault.MainFault.{MainFault}
+use Rattle.smx_run.specs.declared.main_fault.MainFault.{MainFault}
 
 -- A drawing reads a transcript, whatever its drivers, its entries and its view, and writes a picture of that view in
 -- this form; or it is out of memory. Its answer says only that it is done.

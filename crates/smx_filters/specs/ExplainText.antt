@@ -1,19 +1,17 @@
--- A check that explains its verdict, and the texts that are kept to be explained.
-use Rattle.std.specs.Prelude.{◌≡◌, ℕ, ◌++◌, Bool, true, false, List, length, Option, Some, None, Result, Ok, Err}
-use Rattle.std.specs.Prelude.{Vec, IfErr}
+-- A check that explains its verdict, and filters that keep a text with a fault.
+use Rattle.std.specs.Prelude.{◌≡◌, ℕ, ◌++◌, Bool, true, false, List, length, Option, None, Result, Ok, Err, Vec, IfErr}
 use Rattle.std.specs.Global.{Global}
 use Rattle.smx_types.specs.declared.transcript.Transcript.{Transcript}
 use Rattle.smx_text.specs.TranscriptLines.{TranscriptLine}
 use Rattle.smx_text.specs.TranscriptText.{transcript_grammar}
 use Rattle.smx_config.specs.declared.verdict.Verdict.{Verdict}
 use Rattle.smx_explain.specs.Explanations.{IsExplanation}
+use Rattle.smx_run.specs.Refusals.{IsKept, answer_of, is_in_text}
 use Rattle.smx_run.specs.RunFaults.{RefusesAlone}
-use Rattle.smx_run.specs.declared.run_fault.RunFault.TheVariants as run
+use Rattle.smx_run.specs.declared.main_fault.MainFault.{MainFault}
+use Rattle.smx_run.specs.declared.main_fault.Refusal.{Refusal}
 use Rattle.smx_filters.specs.CheckText.{IsJudged, checking, verdict_line}
 use Rattle.smx_filters.specs.Filters.{Filter, FiltersText}
-use Rattle.smx_filters.specs.declared.main_fault.MainFault.{MainFault}
-use Rattle.smx_filters.specs.declared.main_fault.MainFault.TheVariants.{Refused, Text}
-use Rattle.smx_filters.specs.declared.refusal.Refusal.{Refusal}
 
 -- ---- a verdict
 
@@ -47,22 +45,6 @@ explained_of (Ok explained) = Ok (explained.0, explained.1.items)
 explained_of (Err e) = Err e
 
 -- ---- a text that is kept
-
--- the fault is one of the text, or of its drivers, so it can be shown in the text
-abbrev pub is_in_text : MainFault → Bool
-is_in_text (Text fault) = true
-is_in_text (Refused (run.ConfigFault fault)) = true
-is_in_text other = false
-
--- there is a text, and it is this one
-abbrev pub IsKept : Option (Vec ℕ Global) → List ℕ → Type 0
-IsKept (Some text) bytes = text.items ≡ bytes
-IsKept None bytes = ⊥
-
--- an answer without the text
-abbrev pub answer_of : {T : Type 0} → Result T Refusal → Result T MainFault
-answer_of (Ok answer) = Ok answer
-answer_of (Err refusal) = Err refusal.fault
 
 -- a filter from bytes to bytes that keeps a text if it finds a fault in it or in its drivers
 pub record KeepsText {V K T : Type 0} (f : Filter V K T) (had left : Option (List ℕ)) (ended : Bool)

@@ -8,10 +8,10 @@ use Rattle.smx_text.specs.declared.text_fault.Cause.TheVariants as cause
 use Rattle.smx_text.specs.declared.text_fault.TextFault.{TextFault}
 use Rattle.smx_run.specs.declared.run_fault.RunFault.{RunFault}
 use Rattle.smx_run.specs.declared.run_fault.RunFault.TheVariants as run
-use Rattle.smx_filters.specs.Input.{IsWhole}
-use Rattle.smx_filters.specs.declared.main_fault.MainFault.{MainFault}
-use Rattle.smx_filters.specs.declared.main_fault.MainFault.TheVariants.{Refused, Text, TooLong, ReadFailed, WriteFailed}
-use Rattle.smx_filters.specs.declared.input.TheConstants.{MAX_INPUT}
+use Rattle.smx_run.specs.Input.{IsWhole}
+use Rattle.smx_run.specs.declared.main_fault.MainFault.{MainFault}
+use Rattle.smx_run.specs.declared.main_fault.MainFault.TheVariants.{Refused, Text, TooLong, ReadFailed, WriteFailed}
+use Rattle.smx_run.specs.declared.input.TheConstants.{MAX_INPUT}
 
 -- memory ran out, while the text was read or later
 abbrev pub IsOutOfMemory : MainFault → Type 0

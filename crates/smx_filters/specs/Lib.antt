@@ -1,6 +1,3 @@
-pub mod Statuses
-pub mod Input
-pub mod Output
 pub mod Filters
 pub mod FrontsText
 pub mod RunText
@@ -13,4 +10,3 @@ pub mod WorkedVerdicts
 pub mod WorkedFronts
 pub mod InMemory
 pub mod StepsText
-pub mod WorkedStatuses

@@ -9,7 +9,7 @@ use Rattle.smx_run.specs.declared.run_fault.RunFault.TheVariants as run
 use Rattle.smx_text.specs.TranscriptLines.{TranscriptLine}
 use Rattle.smx_text.specs.TranscriptText.{transcript_grammar, SpellsTranscript}
 use Rattle.smx_filters.specs.Filters.{Filter, FiltersText}
-use Rattle.smx_filters.specs.declared.main_fault.MainFault.{MainFault}
+use Rattle.smx_run.specs.declared.main_fault.MainFault.{MainFault}
 
 -- the transcript that the commands of this one give
 pub record IsReplayed (t : Transcript) (output : List ℕ) : Type 0 where

@@ -18,7 +18,7 @@ use Rattle.smx_text.specs.ProgramsText.{programs_grammar}
 use Rattle.smx_text.specs.TranscriptText.{SpellsTranscript}
 use Rattle.smx_filters.specs.Filters.{Filter, FiltersText}
 use Rattle.smx_filters.specs.FrontsText.{fronts_text}
-use Rattle.smx_filters.specs.declared.main_fault.MainFault.{MainFault}
+use Rattle.smx_run.specs.declared.main_fault.MainFault.{MainFault}
 
 -- the transcript of a report that is promised for the programs, in their version, for a run by this number of workers;
 -- for one worker there is at most one such report

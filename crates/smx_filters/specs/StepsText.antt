@@ -1,22 +1,15 @@
 -- A page of a transcript: its answer to the bytes that it read, and its output.
 use Rattle.std.specs.Prelude.{ℕ, ◌≤◌, Bool, List, length, Option, Result}
 use Rattle.smx_types.specs.declared.transcript.Transcript.{Transcript}
-use Rattle.smx_run.specs.RunFaults.{RefusesAlone, run_fault_of}
+use Rattle.smx_run.specs.RunFaults.{RefusesAlone}
 use Rattle.smx_run.specs.declared.run_fault.RunFault.{RunFault}
 use Rattle.smx_run.specs.declared.run_fault.RunFault.TheVariants as run
 use Rattle.smx_steps.specs.Pages.{IsOver, IsPageOf}
-use Rattle.smx_steps.specs.declared.page_fault.PageFault.{PageFault}
-use Rattle.smx_steps.specs.declared.page_fault.PageFault.TheVariants as page
 use Rattle.smx_steps.specs.declared.pages.TheConstants.{MAX_PAGE, MAX_STEPS}
 use Rattle.smx_text.specs.TranscriptLines.{TranscriptLine}
 use Rattle.smx_text.specs.TranscriptText.{transcript_grammar}
 use Rattle.smx_filters.specs.Filters.{Filter, FiltersText}
-use Rattle.smx_filters.specs.declared.main_fault.MainFault.{MainFault}
-
--- the fault of a page, as that of the program
-abbrev pub run_fault_of_page : PageFault → RunFault
-run_fault_of_page (page.Refused fault) = run_fault_of fault
-run_fault_of_page (page.TooLong count) = run.LongPage count
+use Rattle.smx_run.specs.declared.main_fault.MainFault.{MainFault}
 
 -- the page is over a limit; or it has few enough entries, and the drivers are refused, or memory ran out
 abbrev pub RefusesSteps : Transcript → RunFault → Type 0

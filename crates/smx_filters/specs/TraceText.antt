@@ -6,7 +6,7 @@ use Rattle.smx_run.specs.RunFaults.{RefusesAlone}
 use Rattle.smx_text.specs.TranscriptLines.{TranscriptLine}
 use Rattle.smx_text.specs.TranscriptText.{transcript_grammar}
 use Rattle.smx_filters.specs.Filters.{Filter, FiltersText}
-use Rattle.smx_filters.specs.declared.main_fault.MainFault.{MainFault}
+use Rattle.smx_run.specs.declared.main_fault.MainFault.{MainFault}
 
 -- A trace reads a transcript and writes the trace of its replay, with or without the waits below each entry. Or it
 -- refuses the drivers, or is out of memory. Its answer says only that it is done.

@@ -1,16 +1,21 @@
-//! A check from bytes to bytes.
+//! A check from bytes to bytes, with an explanation or without one.
 
 ghost use Rattle.std.specs.Fmt.{decimal};
-ghost use Rattle.std.specs.Prelude.{◌≡◌, ◌∷◌, ◌++◌, [], false, string_bytes, IfErr, IfOk};
+ghost use Rattle.std.specs.Prelude.{◌≡◌, ◌∷◌, ◌++◌, [], string_bytes, IfErr, IfOk};
 ghost use Rattle.smx_words.specs.Words.{LINE_FEED, SPACE};
+ghost use Rattle.smx_text.specs.TranscriptText.{SpellsTranscript};
+ghost use Rattle.smx_model.specs.DriverList.{IsDriverList};
+ghost use Rattle.smx_config.specs.DriverFaults.{RefusesDrivers};
+ghost use Rattle.smx_config.specs.Verdicts.{IsVerdict};
+ghost use Rattle.smx_explain.specs.Explanations.{IsExplanation};
+ghost use Rattle.smx_run.specs.Devices.{AreReady};
 ghost use Rattle.smx_filters.specs.CheckText.{ChecksText, IsJudged, IsRefusedCheck, checking, judged_of, verdict_line};
+ghost use Rattle.smx_filters.specs.ExplainText.{KeepsText, explained_of, explaining};
 ghost use Rattle.smx_filters.specs.Filters.{Answers};
 
-use crate::device::{Feed, Sink};
-use crate::input::read_all;
-use crate::main_fault::MainFault;
-use crate::output::write_all;
-use smx_config::{Verdict, check_history};
+use smx_config::{ConfigFault, Verdict, check_history};
+use smx_explain::explain;
+use smx_run::{Feed, MainFault, Refusal, Sink, read_all, write_all};
 use smx_text::read_transcript;
 use smx_types::Transcript;
 use std::alloc::{AllocError, Global};
@@ -24,9 +29,7 @@ pub fn check_text<F: Feed, S: Sink>(
     feed: &mut F,
     sink: &mut S,
 ) -> Result<Verdict, MainFault>
-    requires before_the_end { F.ended feed.old ≡ false }
-    requires fed { F.failures feed.old ≡ 0 }
-    requires sunk { S.failures sink.old ≡ 0 }
+    requires { AreReady (F.ended feed.old) (F.failures feed.old) (S.failures sink.old) }
     ensures { ChecksText (F.remaining feed.old) (F.remaining feed.new) (F.ended feed.new)
         (F.failures feed.new) (S.contents sink.old) (S.contents sink.new) (S.flushed sink.new)
         (S.failures sink.new) result }
@@ -35,6 +38,30 @@ pub fn check_text<F: Feed, S: Sink>(
     let (verdict, line) = judge(alloc, input)?;
     write_all(sink, line.as_bytes())?;
     Ok(verdict)
+}
+
+/// Judges the transcript in `feed` as `check_text` does. Writes to `sink` the line that `check_text` writes. If the
+/// transcript is not legal, writes below it the first line in which the transcript and its replay differ. Keeps the
+/// text if the text or its drivers have a fault. Checks for faults in the order of `check_text`: reading, text,
+/// drivers, judging and explaining, writing.
+pub fn check_explained<F: Feed, S: Sink>(
+    alloc: Global,
+    feed: &mut F,
+    sink: &mut S,
+) -> Result<Verdict, Refusal>
+    requires { AreReady (F.ended feed.old) (F.failures feed.old) (S.failures sink.old) }
+    ensures { KeepsText explaining (F.remaining feed.old) (F.remaining feed.new) (F.ended feed.new)
+        (F.failures feed.new) (S.contents sink.old) (S.contents sink.new) (S.flushed sink.new)
+        (S.failures sink.new) result }
+{
+    let input = read_all(alloc, feed)?;
+    match explained(alloc, input.as_slice()) {
+        Ok((verdict, output)) => {
+            write_all(sink, output.as_slice())?;
+            Ok(verdict)
+        }
+        Err(fault) => Err(Refusal::kept_for(fault, input)),
+    }
 }
 
 // Judges the transcript that the input spells. Returns the verdict and its line.
@@ -46,8 +73,40 @@ fn judge(alloc: Global, input: Vec<u8>) -> Result<(Verdict, String), MainFault>
     judged(alloc, &transcript)
 }
 
-/// Judges a transcript. Returns the verdict and its line.
-pub(crate) fn judged(alloc: Global, transcript: &Transcript) -> Result<(Verdict, String), MainFault>
+// Judges the transcript that the input spells. Returns the verdict, and its line with the explanation below it.
+fn explained(alloc: Global, input: &[u8]) -> Result<(Verdict, Vec<u8>), MainFault>
+    ensures { Answers explaining input.now (explained_of result) }
+{
+    let transcript = read_transcript(alloc, input)?;
+    let (verdict, line) = judged(alloc, &transcript)?;
+    let told = told_of(alloc, input, transcript, verdict)?;
+    let output = joined(alloc, line.as_bytes(), told.as_slice())?;
+    Ok((verdict, output))
+}
+
+// Returns the explanation of a transcript. `input` is the text that spells it, and `verdict` the verdict on it. If the
+// verdict is `legal`, no replay is made.
+#[tactic(auto, using(smx_explain::proofs::ExplanationLemmas::legal_unexplained))]
+fn told_of(
+    alloc: Global,
+    input: &[u8],
+    transcript: Transcript,
+    verdict: Verdict,
+) -> Result<Vec<u8>, ConfigFault>
+    requires spelled { SpellsTranscript input.now transcript }
+    requires drivers { IsDriverList transcript.drivers }
+    requires judged { IsVerdict transcript.drivers transcript.entries transcript.view verdict }
+    ensures told { IfOk result (λ told. IsExplanation transcript told.items) }
+    ensures refused { IfErr result (RefusesDrivers transcript.drivers) }
+{
+    match verdict {
+        Verdict::Legal => Ok(Vec::new(alloc)),
+        Verdict::Illegal { .. } | Verdict::ConfigDiffers => explain(alloc, input, transcript),
+    }
+}
+
+// Judges a transcript. Returns the verdict and its line.
+fn judged(alloc: Global, transcript: &Transcript) -> Result<(Verdict, String), MainFault>
     ensures judged { IfOk result (λ j. IsJudged transcript.now j.0 (string_bytes j.1)) }
     ensures refused { IfErr result (IsRefusedCheck transcript.now.drivers) }
 {
@@ -75,4 +134,13 @@ fn numbered(alloc: Global, word: &str, n: usize) -> Result<String, AllocError>
         ≡ word.now ++ SPACE ∷ decimal n ++ LINE_FEED ∷ []) }
 {
     format!(in alloc; "{word} {n}\n")
+}
+
+// Joins two slices of bytes.
+fn joined(alloc: Global, front: &[u8], back: &[u8]) -> Result<Vec<u8>, AllocError>
+    ensures { IfOk result (λ v. v.items ≡ front.now ++ back.now) }
+{
+    let mut all = Vec::from_slice(alloc, front)?;
+    all.extend_from_slice(back)?;
+    Ok(all)
 }

@@ -1,7 +1,9 @@
 //! The lines of a transcript's entries, written while a run makes them.
 
-ghost use Rattle.std.specs.Prelude.{◌≡◌, [], IfOk};
+ghost use Rattle.std.specs.Prelude.{◌≡◌, List, [], IfOk};
+ghost use Rattle.smx_types.specs.declared.command.Entry.{Entry as Made};
 ghost use Rattle.smx_text.specs.GrowingTranscripts.{AreEntryLines};
+ghost use Rattle.smx_filters.specs.RunText.{AreLinesSoFar};
 
 use smx_shared::{EntrySink, GhostValue};
 use smx_text::add_entry_line;
@@ -20,10 +22,6 @@ pub struct EntryLines {
 }
 
 impl Model for EntryLines {
-    ghost use Rattle.std.specs.Prelude.{List};
-    ghost use Rattle.smx_types.specs.declared.command.Entry.{Entry as Made};
-    ghost use Rattle.smx_filters.specs.RunText.{AreLinesSoFar};
-
     ghost Value = { List Made };
 
     ghost view = { λ e. e.entries.value };

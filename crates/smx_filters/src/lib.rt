@@ -3,35 +3,14 @@
 #![tactic(auto)]
 
 mod check;
-mod device;
-mod done;
-mod draw;
 mod entry_lines;
-mod explain;
-mod fronts_text;
-mod input;
-pub mod laws_of_answers;
-pub mod laws_of_explained;
-pub mod laws_of_filters;
-pub mod laws_of_replays;
-mod main_fault;
-mod output;
-mod refusal;
-mod replay;
+pub mod laws;
 mod run;
-mod steps;
-mod trace;
+mod transcripts;
 
-pub use check::check_text;
-pub use device::{Failed, Feed, Sink, Source, Target};
-pub use done::Done;
-pub use draw::draw_text;
-pub use explain::{check_explained, run_explained};
-pub use input::{MAX_INPUT, read_all};
-pub use main_fault::MainFault;
-pub use output::write_all;
-pub use refusal::Refusal;
-pub use replay::replay_text;
-pub use run::run_text;
-pub use steps::steps_text;
-pub use trace::trace_text;
+pub use check::{check_explained, check_text};
+pub use run::{run_explained, run_text};
+pub use smx_run::{
+    Done, Failed, Feed, MAX_INPUT, MainFault, Refusal, Sink, Source, Target, read_all, write_all,
+};
+pub use transcripts::{draw_text, replay_text, steps_text, trace_text};

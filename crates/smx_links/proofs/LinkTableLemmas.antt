@@ -9,7 +9,7 @@ use Rattle.std.proofs.lemmas.List.Elements.{All-push}
 use Rattle.std.proofs.lemmas.List.Sums.{length-filter, count_by-le-length}
 use Rattle.smx_model.proofs.IdLemmas.{ids_filter, ids_none, ids_push}
 use Rattle.smx_model.proofs.SoundLemmas.{sound_empty, sound_filter, sound_push}
-use Rattle.smx_links.specs.declared.link_fault.LinkFault.{LinkFault}
+use Rattle.smx_links.specs.declared.table.LinkFault.{LinkFault}
 use Rattle.smx_links.specs.LinkLists.{LinkList, refusal}
 use Rattle.smx_links.specs.Masks.{AreMasks, IsWithin}
 use Rattle.smx_links.specs.TableFields.{AreParts, list_of_parts}

@@ -9,8 +9,8 @@ use Rattle.smx_types.specs.declared.stream.StreamId.{StreamId}
 use Rattle.smx_model.specs.Paths.{reaches}
 use Rattle.smx_model.specs.Standing.{is_below}
 use Rattle.smx_model.specs.SoundLinks.{AreLinksSound, AreIdsRising}
-use Rattle.smx_links.specs.declared.link_fault.LinkFault.{LinkFault}
-use Rattle.smx_links.specs.declared.link_fault.LinkFault.TheVariants as fault
+use Rattle.smx_links.specs.declared.table.LinkFault.{LinkFault}
+use Rattle.smx_links.specs.declared.table.LinkFault.TheVariants as fault
 
 -- links by rising id, the next id, and the number of drivers
 pub record LinkList : Type 0 where

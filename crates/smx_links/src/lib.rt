@@ -2,12 +2,8 @@
 //! from a to b. So the test for cycles reads one bit.
 #![tactic(auto)]
 
-mod key;
-pub mod laws;
-mod link_fault;
 mod links;
 mod masks;
 mod table;
 
-pub use link_fault::LinkFault;
-pub use table::LinkTable;
+pub use table::{LinkFault, LinkTable, a_link_has_one_upper_driver};

@@ -1,19 +1,31 @@
 //! Links in the order in which they were made, found by id and by lower stream.
 
-ghost use Rattle.std.specs.Prelude.{◌≡◌, ◌<◌, ◌==◌, ◌++◌, [], ◌∷◌, false, find, filter, not, nat_lt};
-ghost use Rattle.std.specs.Prelude.{IfNone, IfOk, OnOk, OnErr, option_copied};
+ghost use Rattle.std.specs.Prelude.{◌≡◌, ◌<◌, ◌==◌, ◌++◌, List, [], ◌∷◌, false, find, filter, not, nat_lt, IfNone};
+ghost use Rattle.std.specs.Prelude.{IfOk, OnOk, OnErr, option_copied};
 ghost use Rattle.std.specs.List.{All};
+ghost use Rattle.std.specs.Map.{values_of};
+ghost use Rattle.smx_types.specs.declared.link.Link.{Link as LinkValue};
 ghost use Rattle.smx_model.specs.Configuration.{same_stream};
 ghost use Rattle.smx_model.specs.Ordered.{IsRising};
 ghost use Rattle.smx_model.specs.Paths.{AreLowersApart};
 ghost use Rattle.smx_model.specs.Standing.{is_below};
+ghost use Rattle.smx_links.specs.Keys.{AreFound, key_of};
 ghost use Rattle.smx_links.specs.LinkLists.{others_of};
 
-use crate::key::{Key, key_of};
 use indexmap::IndexMap;
 use smx_types::{Link, NoMemory, StreamId};
 use std::alloc::Global;
 use std::marker::Model;
+
+// The number of a driver, and a minor.
+type Key = (u8, u8);
+
+// Returns the stream as a key of a map.
+fn key_of(stream: StreamId) -> Key
+    ensures { result ≡ key_of stream }
+{
+    (stream.driver, stream.minor)
+}
 
 /// Links by id, in the order in which they were made. Contracts see the list.
 #[derive(Debug, Drop)]
@@ -24,13 +36,7 @@ pub struct Links {
 }
 
 impl Model for Links {
-    ghost use Rattle.std.specs.Prelude.{List};
-    ghost use Rattle.std.specs.Map.{values_of};
-    ghost use Rattle.smx_types.specs.declared.link.Link.{Link};
-
-    ghost Value = { List Link };
-
-    ghost use Rattle.smx_links.specs.Keys.{AreFound};
+    ghost Value = { List LinkValue };
 
     ghost view = { λ t. values_of t.by_id.entries };
 

@@ -1,22 +1,44 @@
 //! The table of links.
 
-ghost use Rattle.std.specs.Prelude.{◌≡◌, ◌<◌, ◌≤◌, [], length, find, ◌==◌, ◌||◌, nat_le, slice_get};
+ghost use Rattle.std.specs.Prelude.{◌≡◌, ◌<◌, ◌≤◌, ◌==◌, ◌||◌, true, false, [], ◌∷◌, length, find, nat_le, slice_get};
 ghost use Rattle.std.specs.Prelude.{IfOk, OnOk, OnErr, option_copied};
 ghost use Rattle.std.specs.List.{All};
 ghost use Rattle.smx_types.specs.declared.limits.TheConstants.{MAX_DRIVERS, MAX_LINKS, NUMBER_END};
+ghost use Rattle.smx_types.specs.declared.link.Link.{Link as LinkValue};
 ghost use Rattle.smx_model.specs.Configuration.{same_stream};
 ghost use Rattle.smx_model.specs.Paths.{reaches};
 ghost use Rattle.smx_model.specs.Standing.{is_below};
-ghost use Rattle.smx_links.specs.LinkLists.{IsLinkList, IsLinked, is_upper, refusal};
-ghost use Rattle.smx_links.specs.LinkLists.{with_link, without_id, without_ids};
+ghost use Rattle.smx_links.specs.LinkLists.{IsLinkList, IsLinked, is_upper, refusal, with_link, without_id};
+ghost use Rattle.smx_links.specs.LinkLists.{without_ids};
 ghost use Rattle.smx_links.specs.Masks.{IsWithin};
+ghost use Rattle.smx_links.specs.declared.table.LinkFault.TheVariants as fault;
 
-use crate::link_fault::LinkFault;
 use crate::links::Links;
 use crate::masks::{Word, has_any_bit, has_bit, join_link, recompute};
 use smx_types::{Link, LinkKind, MAX_LINKS, NUMBER_END, NoMemory, StreamId};
 use std::alloc::Global;
 use std::marker::Model;
+
+/// The reason why a stream was not linked below a driver.
+#[derive(Clone, Copy, Debug, PartialEq, Eq)]
+pub enum LinkFault {
+    /// The stream is already below a link.
+    Already,
+    /// The link would close a cycle of drivers.
+    Cycle,
+    /// There are 1,024 links, or no id is left.
+    Full,
+    /// An allocation failed.
+    NoMemory,
+}
+
+impl From<NoMemory> for LinkFault {
+    ghost from_gives = { λ _ e. e ≡ fault.NoMemory };
+
+    fn from(_e: NoMemory) -> LinkFault {
+        LinkFault::NoMemory
+    }
+}
 
 /// Links by rising id, without a cycle, and with no stream below two of them. Contracts see the list, the next id and
 /// the number of drivers.
@@ -224,3 +246,11 @@ impl LinkTable {
         })
     }
 }
+
+/// A law, that is, the contract of a function that does nothing: if the only link leads from driver 0 down to driver 2,
+/// driver 0 is an upper driver, and driver 2 is not. Without links, driver 0 is not an upper driver.
+pub fn a_link_has_one_upper_driver()
+    ensures upper { (l : LinkValue) → l.ctl.driver ≡ 0 → is_upper (l ∷ []) 0 ≡ true }
+    ensures lower { (l : LinkValue) → l.ctl.driver ≡ 0 → l.lower.driver ≡ 2 → is_upper (l ∷ []) 2 ≡ false }
+    ensures none { is_upper [] 0 ≡ false }
+{}

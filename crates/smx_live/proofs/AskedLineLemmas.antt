@@ -17,7 +17,7 @@ use Rattle.smx_words.specs.Words.{SPACE, line_of}
 use Rattle.smx_explain.specs.Columns.{AreParts, IsWhole, spaced}
 use Rattle.smx_explain.specs.declared.kinds.LineKind.TheVariants.{Session}
 use Rattle.smx_live.specs.Turns.{AsksForNeither, AsksToShow, IsRefusedFor}
-use Rattle.smx_live.specs.declared.turn_fault.TurnFault.TheVariants.{NoCommand}
+use Rattle.smx_live.specs.declared.talk.TurnFault.TheVariants.{NoCommand}
 
 -- ---- calls
 

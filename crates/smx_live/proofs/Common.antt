@@ -12,11 +12,11 @@ pub use Rattle.smx_types.specs.declared.driver.DriverSpec.{DriverSpec}
 pub use Rattle.smx_types.specs.declared.version.Version.{Version}
 pub use Rattle.smx_types.specs.declared.version.Version.TheVariants.{V2}
 pub use Rattle.smx_explain.specs.ColumnWords.{IsExplanationOf}
-pub use Rattle.smx_filters.proofs.ReadingLemmas.{HasOneReading, one_value}
-pub use Rattle.smx_filters.specs.declared.input.TheConstants.{MAX_INPUT}
-pub use Rattle.smx_filters.specs.declared.main_fault.MainFault.{MainFault}
-pub use Rattle.smx_filters.specs.declared.main_fault.MainFault.TheVariants.{Text, ReadFailed, WriteFailed, Refused}
-pub use Rattle.smx_filters.specs.declared.main_fault.MainFault.TheVariants.{TooLong}
+pub use Rattle.smx_run.proofs.ReadingLemmas.{HasOneReading, one_value}
+pub use Rattle.smx_run.specs.declared.input.TheConstants.{MAX_INPUT}
+pub use Rattle.smx_run.specs.declared.main_fault.MainFault.{MainFault}
+pub use Rattle.smx_run.specs.declared.main_fault.MainFault.TheVariants.{Text, ReadFailed, WriteFailed, Refused}
+pub use Rattle.smx_run.specs.declared.main_fault.MainFault.TheVariants.{TooLong}
 pub use Rattle.smx_model.specs.Commands.{step}
 pub use Rattle.smx_model.specs.Configuration.{Configuration}
 pub use Rattle.smx_model.specs.Histories.{after, call_of}
@@ -36,4 +36,4 @@ pub use Rattle.smx_live.specs.Turns.{Turn, asked_text, Answer, Entered, Shown, I
 pub use Rattle.smx_live.specs.Turns.{IsAnswer, entries_in, NotDone, IsBelow}
 pub use Rattle.smx_live.specs.WorkedLives.{worked_table}
 pub use Rattle.smx_live.specs.declared.talk.Progress.{Progress}
-pub use Rattle.smx_live.specs.declared.turn_fault.TurnFault.TheVariants.{NoCommand, NoMemory}
+pub use Rattle.smx_live.specs.declared.talk.TurnFault.TheVariants.{NoCommand, NoMemory}

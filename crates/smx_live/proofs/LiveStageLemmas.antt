@@ -13,8 +13,8 @@ use Rattle.std.specs.Io.KnownBytes.{Appends}
 use Rattle.smx_live.specs.LiveStages.{Converses, Finishes, GoesOn, IsPossible, TurnsOn}
 use Rattle.smx_live.specs.LiveTurns.{FailsToSay, IsTurnText, Says, TakesTurn, Writes}
 use Rattle.smx_live.specs.Turns.{IsTaken, answer_text}
-use Rattle.smx_live.specs.declared.turn_fault.TurnFault.{TurnFault}
-use Rattle.smx_live.specs.declared.turn_fault.TurnFault.TheVariants.{Full}
+use Rattle.smx_live.specs.declared.talk.TurnFault.{TurnFault}
+use Rattle.smx_live.specs.declared.talk.TurnFault.TheVariants.{Full}
 use Rattle.smx_live.proofs.LiveLemmas.{ended_by_line, turned, with_more}
 
 -- ---- one turn

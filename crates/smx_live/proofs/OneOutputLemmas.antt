@@ -15,7 +15,7 @@ use Rattle.smx_text.specs.TranscriptLines as line
 use Rattle.smx_text.specs.TranscriptText.{transcript_grammar, view_lines}
 use Rattle.smx_live.specs.LiveText.{IsAtEnd}
 use Rattle.smx_live.specs.Turns.{AsksToShow, HasEnoughMemory, AreFollowed, said_text, traces_after}
-use Rattle.smx_live.specs.declared.turn_fault.TurnFault.TheVariants.{Full}
+use Rattle.smx_live.specs.declared.talk.TurnFault.TheVariants.{Full}
 use Rattle.smx_live.proofs.AskedLineLemmas.{no_call_line, no_digit_shows, shows_nothing}
 use Rattle.smx_live.proofs.OverTableLemmas.{table_once}
 

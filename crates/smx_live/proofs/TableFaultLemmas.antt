@@ -13,8 +13,8 @@ use Rattle.smx_run.specs.declared.run_fault.RunFault.TheVariants as run
 use Rattle.smx_text.specs.declared.text_fault.Cause.TheVariants as cause
 use Rattle.smx_text.specs.declared.text_fault.TextFault.{TextFault}
 use Rattle.smx_session.specs.Sessions.{HasDrivers}
-use Rattle.smx_filters.proofs.AnswerLemmas.{HaveOneFault, only_memory_refuses}
-use Rattle.smx_filters.proofs.ReadingLemmas as texts
+use Rattle.smx_run.proofs.RefusalLemmas.{HaveOneFault, only_memory_refuses}
+use Rattle.smx_run.proofs.ReadingLemmas as texts
 use Rattle.smx_live.specs.LiveText.{RefusesDriversOf}
 use Rattle.smx_live.specs.Tables.{HasShortTableOf, HasTableOf}
 use Rattle.smx_live.proofs.OverTableLemmas.{not_endless, table_once}

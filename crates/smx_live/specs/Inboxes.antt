@@ -5,9 +5,9 @@ use Rattle.std.specs.Io.KnownBytes.{Consumes}
 use Rattle.smx_run.specs.declared.run_fault.RunFault.TheVariants.{NoMemory}
 use Rattle.smx_words.specs.Words.{LINE_FEED}
 use Rattle.smx_text.specs.Grammar.{IsOneLine}
-use Rattle.smx_filters.specs.declared.input.TheConstants.{MAX_INPUT}
-use Rattle.smx_filters.specs.declared.main_fault.MainFault.{MainFault}
-use Rattle.smx_filters.specs.declared.main_fault.MainFault.TheVariants.{Refused, Text, TooLong, ReadFailed, WriteFailed}
+use Rattle.smx_run.specs.declared.input.TheConstants.{MAX_INPUT}
+use Rattle.smx_run.specs.declared.main_fault.MainFault.{MainFault}
+use Rattle.smx_run.specs.declared.main_fault.MainFault.TheVariants.{Refused, Text, TooLong, ReadFailed, WriteFailed}
 use Rattle.smx_live.specs.declared.inbox.Inbox.{Inbox}
 
 -- the bytes start with a whole line of `n` bytes and its line feed

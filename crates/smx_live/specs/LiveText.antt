@@ -22,13 +22,13 @@ use Rattle.smx_text.specs.declared.text_fault.Cause.TheVariants as cause
 use Rattle.smx_config.specs.Verdicts.{IsVerdict}
 use Rattle.smx_config.specs.declared.verdict.Verdict.TheVariants.{Legal}
 use Rattle.smx_session.specs.Sessions.{State, HasDrivers}
-use Rattle.smx_filters.specs.declared.input.TheConstants.{MAX_INPUT}
+use Rattle.smx_run.specs.declared.input.TheConstants.{MAX_INPUT}
 use Rattle.smx_live.specs.Inboxes.{IsShort, IsTooLong}
 use Rattle.smx_live.specs.Tables.{HasShortTableOf, IsEndlessTable, IsTable, IsUnfinished, table_text}
 use Rattle.smx_live.specs.Turns.{AreAnswered, AreFollowed, Turn, asked_text, entries_of, said_text, traces_behind}
 use Rattle.smx_live.specs.declared.talk.Progress.{Progress}
-use Rattle.smx_filters.specs.declared.main_fault.MainFault.{MainFault}
-use Rattle.smx_filters.specs.declared.main_fault.MainFault.TheVariants.{Refused, Text, TooLong, ReadFailed, WriteFailed}
+use Rattle.smx_run.specs.declared.main_fault.MainFault.{MainFault}
+use Rattle.smx_run.specs.declared.main_fault.MainFault.TheVariants.{Refused, Text, TooLong, ReadFailed, WriteFailed}
 
 -- ---- a session up to now
 

@@ -6,14 +6,14 @@ use Rattle.smx_run.specs.declared.run_fault.RunFault.TheVariants as run
 use Rattle.smx_text.specs.TranscriptText.{IsSpellableView}
 use Rattle.smx_session.specs.Sessions.{Performs, State}
 use Rattle.smx_live.specs.LiveText.{closing_text}
-use Rattle.smx_filters.specs.Output.{AppendsBeginning}
+use Rattle.smx_run.specs.Devices.{AppendsBeginning}
 use Rattle.smx_live.specs.Turns.{Answer, AsksForNeither, AsksToShow, IsBelow, IsTaken, NotDone, answer_text}
-use Rattle.smx_filters.specs.declared.main_fault.MainFault.{MainFault}
-use Rattle.smx_filters.specs.declared.main_fault.MainFault.TheVariants.{Refused, Text, TooLong, ReadFailed, WriteFailed}
+use Rattle.smx_run.specs.declared.main_fault.MainFault.{MainFault}
+use Rattle.smx_run.specs.declared.main_fault.MainFault.TheVariants.{Refused, Text, TooLong, ReadFailed, WriteFailed}
 use Rattle.smx_live.specs.declared.talk.Asked.{Asked}
 use Rattle.smx_live.specs.declared.talk.Progress.{Progress}
 use Rattle.smx_live.specs.declared.talk.Asked.TheVariants.{Show, End, Call}
-use Rattle.smx_live.specs.declared.turn_fault.TurnFault.TheVariants.{NoCommand}
+use Rattle.smx_live.specs.declared.talk.TurnFault.TheVariants.{NoCommand}
 
 -- what a line asks for
 abbrev pub IsAsked : List ℕ → Asked → Type 0

@@ -4,7 +4,7 @@ use Rattle.std.specs.Prelude.{codes, nat_eq}
 use Rattle.std.specs.List.{AllByRecursion, ends_with, starts_with}
 use Rattle.smx_words.specs.Words.{lines_text}
 use Rattle.smx_text.specs.Grammar.{IsOneLine}
-use Rattle.smx_filters.specs.declared.input.TheConstants.{MAX_INPUT}
+use Rattle.smx_run.specs.declared.input.TheConstants.{MAX_INPUT}
 use Rattle.smx_live.specs.Inboxes.{HasLine, IsShort, IsTooLong}
 
 -- whether a line begins like a driver line

@@ -23,8 +23,8 @@ use Rattle.smx_explain.specs.ColumnWords.{IsExplanationOf}
 use Rattle.smx_session.specs.Sessions.{Performs, State}
 use Rattle.smx_live.specs.Inboxes.{IsShort}
 use Rattle.smx_live.specs.declared.talk.Progress.{Progress}
-use Rattle.smx_live.specs.declared.turn_fault.TurnFault.{TurnFault}
-use Rattle.smx_live.specs.declared.turn_fault.TurnFault.TheVariants.{NoCommand, NoMemory, Full}
+use Rattle.smx_live.specs.declared.talk.TurnFault.{TurnFault}
+use Rattle.smx_live.specs.declared.talk.TurnFault.TheVariants.{NoCommand, NoMemory, Full}
 
 -- ---- what is written
 

@@ -7,7 +7,7 @@ use Rattle.smx_session.specs.WorkedSessions.{begun, drivers, hung, one_open}
 use Rattle.smx_live.specs.LiveText.{closing_text, cut_words}
 use Rattle.smx_live.specs.Tables.{begins_driver, table_text}
 use Rattle.smx_live.specs.Turns.{Entered, NotDone, Shown, Turn, answer_text, fault_line, traced_changes}
-use Rattle.smx_live.specs.declared.turn_fault.TurnFault.TheVariants.{NoCommand, NoMemory, Full}
+use Rattle.smx_live.specs.declared.talk.TurnFault.TheVariants.{NoCommand, NoMemory, Full}
 
 -- the table of a worked session
 abbrev pub worked_table : List ℕ

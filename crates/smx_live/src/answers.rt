@@ -4,13 +4,11 @@ ghost use Rattle.std.specs.Prelude.{◌≡◌, ◌++◌, ℕ, Bool, true, List, 
 ghost use Rattle.smx_explain.specs.ColumnWords.{IsExplanationOf};
 ghost use Rattle.smx_live.specs.LiveTurns.{TakesTurn, Writes};
 ghost use Rattle.smx_live.specs.Turns.{AsksForNeither, AsksToShow, IsRefusedFor, fault_line};
-ghost use Rattle.smx_live.specs.declared.turn_fault.TurnFault.TheVariants.{NoCommand};
+ghost use Rattle.smx_live.specs.declared.talk.TurnFault.TheVariants.{NoCommand};
 
-use crate::talk::{Asked, Talk, asked_by, shown_with, switched};
-use crate::turn_fault::{TurnFault, line_of_fault};
+use crate::talk::{Asked, Talk, TurnFault, asked_by, shown_with, switched};
 use smx_explain::explain_line;
-use smx_filters::{MainFault, Sink, write_all};
-use smx_run::RunFault;
+use smx_run::{MainFault, RunFault, Sink, write_all};
 use smx_types::{NoMemory, Version};
 use std::alloc::Global;
 
@@ -34,14 +32,14 @@ pub fn answer<S: Sink>(
     }
 }
 
-// Writes a text and flushes it. If this succeeds, returns `over`, which says whether the session has ended.
-fn say<S: Sink>(sink: &mut S, text: &[u8], over: bool) -> Result<bool, MainFault>
+/// Writes a text and flushes it. If this succeeds, returns `value`.
+pub fn say<S: Sink, T: Copy>(sink: &mut S, text: &[u8], value: T) -> Result<T, MainFault>
     requires { S.failures sink.old ≡ 0 }
-    ensures { Writes text.now over (S.contents sink.old) (S.contents sink.new) (S.flushed sink.new)
+    ensures { Writes text.now value (S.contents sink.old) (S.contents sink.new) (S.flushed sink.new)
         (S.failures sink.new) result }
 {
     match write_all(sink, text) {
-        Ok(()) => Ok(over),
+        Ok(()) => Ok(value),
         Err(_) => Err(MainFault::WriteFailed),
     }
 }
@@ -141,4 +139,15 @@ fn explained(alloc: Global, version: Version, line: &[u8]) -> Result<Vec<u8>, No
     let mut text = Vec::from_slice(alloc, line_of_fault(TurnFault::NoCommand))?;
     text.extend_from_slice(below.as_slice())?;
     Ok(text)
+}
+
+// Returns the line that reports the fault, with its line feed.
+fn line_of_fault(fault: TurnFault) -> &'static [u8]
+    ensures { result.now ≡ fault_line fault }
+{
+    match fault {
+        TurnFault::NoCommand => b"? no command\n",
+        TurnFault::NoMemory => b"? no memory\n",
+        TurnFault::Full => b"? history full\n",
+    }
 }

@@ -7,8 +7,7 @@ ghost use Rattle.smx_text.specs.Grammar.{IsOneLine};
 ghost use Rattle.smx_words.specs.Words.{LINE_FEED};
 
 use memchr::memchr;
-use smx_filters::{Feed, MAX_INPUT, MainFault};
-use smx_run::RunFault;
+use smx_run::{Feed, MAX_INPUT, MainFault, RunFault};
 use std::alloc::Global;
 
 // The number of bytes for which one read asks.

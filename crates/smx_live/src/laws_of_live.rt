@@ -18,8 +18,8 @@ ghost use Rattle.smx_text.specs.declared.text_fault.Cause.TheVariants as cause;
 ghost use Rattle.smx_text.specs.declared.text_fault.TextFault.{TextFault};
 ghost use Rattle.smx_session.specs.Sessions.{State};
 ghost use Rattle.smx_session.specs.WorkedSessions.{begun, drivers, one_open};
-ghost use Rattle.smx_filters.specs.declared.input.TheConstants.{MAX_INPUT};
-ghost use Rattle.smx_filters.specs.declared.main_fault.MainFault.TheVariants.{Refused, Text};
+ghost use Rattle.smx_run.specs.declared.input.TheConstants.{MAX_INPUT};
+ghost use Rattle.smx_run.specs.declared.main_fault.MainFault.TheVariants.{Refused, Text};
 ghost use Rattle.smx_explain.specs.ColumnWords.{IsExplanationOf};
 ghost use Rattle.smx_live.specs.Inboxes.{HasLine, IsTooLong};
 ghost use Rattle.smx_live.specs.LiveText.{HasComeSoFar, IsBroken, IsLegalTranscript, IsLive, IsOutcome, IsOver};
@@ -30,18 +30,16 @@ ghost use Rattle.smx_live.specs.Turns.{NotDone, Shown, traces_after};
 ghost use Rattle.smx_live.specs.WorkedLives.{minorless_text, worked_answers, worked_input, worked_output};
 ghost use Rattle.smx_live.specs.WorkedLives.{worked_table};
 ghost use Rattle.smx_live.specs.declared.talk.Progress.{Progress};
-ghost use Rattle.smx_live.specs.declared.turn_fault.TurnFault.{TurnFault};
-ghost use Rattle.smx_live.specs.declared.turn_fault.TurnFault.TheVariants.{NoCommand, NoMemory, Full};
+ghost use Rattle.smx_live.specs.declared.talk.TurnFault.{TurnFault};
+ghost use Rattle.smx_live.specs.declared.talk.TurnFault.TheVariants.{NoCommand, NoMemory, Full};
 
-use smx_config::laws_of_drivers::drivers_have_one_fault;
+use smx_config::laws::drivers_have_one_fault;
 use smx_explain::laws_of_columns::{a_line_has_one_explanation, worked_explanations};
-use smx_model::laws::one_entry_more;
-use smx_model::laws_of_hangups::without_a_hangup_none_is_reported;
+use smx_model::laws::{one_entry_more, without_a_hangup_none_is_reported};
 use smx_session::laws_of_sessions::a_worked_session;
 use smx_text::laws::one_text_has_one_reading;
 use smx_text::worked_texts::wrong_programs;
-use smx_words::laws::one_value_each;
-use smx_words::laws_of_reading::which_lines_are_calls;
+use smx_words::laws::{one_value_each, which_lines_are_calls};
 
 /// Take the output of a session that has ended, and remove the answers that are not entries, and the lines below
 /// answers. The rest is the transcript of a legal history, and a check finds it legal.

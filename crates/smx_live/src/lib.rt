@@ -6,7 +6,6 @@ mod inbox;
 pub mod laws_of_live;
 mod live;
 mod talk;
-mod turn_fault;
 
 pub use live::live_text;
-pub use turn_fault::TurnFault;
+pub use talk::TurnFault;

@@ -3,20 +3,19 @@
 ghost use Rattle.std.specs.Prelude.{◌≡◌, ◌≢◌, ◌+◌, ◌≤◌, ◌⊎◌, ◌++◌, List, ℕ, Bool, true, false, drop, IfOk};
 ghost use Rattle.std.specs.List.{ends_with};
 ghost use Rattle.std.specs.Prelude.{MatchBool, OnErr, OnOk, codes, nat_eq};
-ghost use Rattle.smx_filters.specs.ExplainText.{answer_of};
+ghost use Rattle.smx_run.specs.Devices.{AreReady};
+ghost use Rattle.smx_run.specs.Refusals.{answer_of};
 ghost use Rattle.smx_live.specs.Inboxes.{HasLine, IsShort};
 ghost use Rattle.smx_live.specs.LiveStages.{Begins, Converses, Finishes, HasTable, Opens, TakesCutLine, TurnsOn};
 ghost use Rattle.smx_live.specs.LiveText.{IsLive, LivesText, closing_text, cut_words};
-ghost use Rattle.smx_live.specs.LiveTurns.{Writes};
 ghost use Rattle.smx_live.specs.Tables.{begins_driver, table_text};
 ghost use Rattle.smx_model.specs.Views.{view};
 ghost use Rattle.smx_text.specs.TranscriptText.{IsSpellableView};
 
-use crate::answers::answer;
+use crate::answers::{answer, say};
 use crate::inbox::Inbox;
 use crate::talk::{Progress, Talk, shown_with};
-use smx_filters::{Feed, MAX_INPUT, MainFault, Refusal, Sink, write_all};
-use smx_run::RunFault;
+use smx_run::{Feed, MAX_INPUT, MainFault, Refusal, RunFault, Sink};
 use smx_session::{Session, StartFault};
 use smx_types::NoMemory;
 use std::alloc::{AllocError, Global};
@@ -45,9 +44,7 @@ pub fn live_text<F: Feed, S: Sink>(
     sink: &mut S,
     explain: bool,
 ) -> Result<(), Refusal>
-    requires before_the_end { F.ended feed.old ≡ false }
-    requires fed { F.failures feed.old ≡ 0 }
-    requires sunk { S.failures sink.old ≡ 0 }
+    requires { AreReady (F.ended feed.old) (F.failures feed.old) (S.failures sink.old) }
     ensures { LivesText explain (F.remaining feed.old) (F.remaining feed.new) (F.ended feed.new)
         (F.failures feed.new) (S.contents sink.old) (S.contents sink.new) (S.flushed sink.new)
         (S.failures sink.new) (answer_of result) }
@@ -141,10 +138,7 @@ fn begin(alloc: Global, table: Vec<u8>) -> Result<Talk, Refusal>
     ensures { Begins table.items (answer_of result) }
 {
     let Ok(text) = text_of_table(table) else {
-        return Err(Refusal {
-            fault: MainFault::Refused(RunFault::NoMemory),
-            text: None,
-        });
+        return Err(Refusal::from(MainFault::Refused(RunFault::NoMemory)));
     };
     match Session::new(alloc, text.as_slice()) {
         Ok(session) => Ok(Talk {
@@ -163,10 +157,7 @@ fn begin(alloc: Global, table: Vec<u8>) -> Result<Talk, Refusal>
             fault: MainFault::Refused(RunFault::from(fault)),
             text: Some(text),
         }),
-        Err(StartFault::NoMemory) => Err(Refusal {
-            fault: MainFault::Refused(RunFault::NoMemory),
-            text: None,
-        }),
+        Err(StartFault::NoMemory) => Err(Refusal::from(MainFault::Refused(RunFault::NoMemory))),
     }
 }
 
@@ -177,7 +168,7 @@ fn open<S: Sink>(alloc: Global, sink: &mut S, session: &Session) -> Result<(), M
         (S.failures sink.new) result }
 {
     match session.opening(alloc) {
-        Ok(text) => write_last(sink, text.as_slice()),
+        Ok(text) => say(sink, text.as_slice(), ()),
         Err(_) => Err(MainFault::Refused(RunFault::NoMemory)),
     }
 }
@@ -264,18 +255,6 @@ fn closing(alloc: Global, session: &Session, held: &[u8]) -> Result<Vec<u8>, NoM
     Ok(text)
 }
 
-// Writes a text and flushes it.
-fn write_last<S: Sink>(sink: &mut S, text: &[u8]) -> Result<(), MainFault>
-    requires { S.failures sink.old ≡ 0 }
-    ensures { Writes text.now tt (S.contents sink.old) (S.contents sink.new) (S.flushed sink.new) (S.failures sink.new)
-        result }
-{
-    match write_all(sink, text) {
-        Ok(()) => Ok(()),
-        Err(_) => Err(MainFault::WriteFailed),
-    }
-}
-
 // Ends the session when the input has ended. `held` is the rest of the input.
 fn finish<S: Sink>(alloc: Global, sink: &mut S, talk: &Talk, held: &[u8]) -> Result<(), MainFault>
     requires { S.failures sink.old ≡ 0 }
@@ -285,7 +264,7 @@ fn finish<S: Sink>(alloc: Global, sink: &mut S, talk: &Talk, held: &[u8]) -> Res
         (S.flushed sink.new) (S.failures sink.new) result }
 {
     match closing(alloc, &talk.session, held) {
-        Ok(text) => write_last(sink, text.as_slice()),
+        Ok(text) => say(sink, text.as_slice(), ()),
         Err(_) => Err(MainFault::Refused(RunFault::NoMemory)),
     }
 }

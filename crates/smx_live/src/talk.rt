@@ -4,7 +4,7 @@ ghost use Rattle.std.specs.Prelude.{◌≡◌, ◌+◌, ◌++◌, ◌<◌, ◌�
 ghost use Rattle.std.specs.Prelude.{codes};
 ghost use Rattle.smx_live.specs.LiveTurns.{IsAsked};
 ghost use Rattle.smx_live.specs.Turns.{AsksForNeither, IsPerformed, IsTracedView, IsViewOfKept, changes_since, switched};
-ghost use Rattle.smx_live.specs.declared.turn_fault.TurnFault.TheVariants as fault;
+ghost use Rattle.smx_live.specs.declared.talk.TurnFault.TheVariants as fault;
 ghost use Rattle.smx_model.specs.Views.{view};
 ghost use Rattle.smx_session.specs.Sessions.{Performs};
 ghost use Rattle.smx_text.specs.TranscriptText.{IsSpellableView, view_lines};
@@ -13,7 +13,6 @@ ghost use Rattle.smx_words.specs.LineReading.{IsCallLine, IsNoCallLine};
 ghost use Rattle.smx_words.specs.Spellable.{FitsEntry};
 ghost use Rattle.smx_words.specs.Spelling.{entry_line};
 
-use crate::turn_fault::TurnFault;
 use smx_session::{LineFault, Session};
 use smx_trace::write_changes;
 use smx_types::{ConfigView, MAX_COMMANDS, MAX_MESSAGE, NoMemory, Version};
@@ -27,6 +26,18 @@ pub struct Progress {
     pub entries: usize,
     /// Whether the changes of each entry are written below it.
     pub tracing: bool,
+}
+
+/// Why a line is refused. A refused line changes nothing.
+#[derive(Clone, Copy, Debug, PartialEq, Eq)]
+pub enum TurnFault {
+    /// The line is not a process with a command of the session's version. It is also not `show`, `trace on`, `trace
+    /// off`, `end` or empty.
+    NoCommand,
+    /// An allocation failed.
+    NoMemory,
+    /// The history has 100,000 entries.
+    Full,
 }
 
 // Room for a reply without a list of dropped messages, for ` = ` before it and for the line feed after it.

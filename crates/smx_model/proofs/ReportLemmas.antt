@@ -1,4 +1,4 @@
--- Reports of the same programs in the same order are equal; the example, and transcripts that are not reports.
+-- The fields that are enough for a report; the example of a report, and transcripts that are not reports.
 use Rattle.smx_model.proofs.Common.{◌≡◌, zero, suc, List, [], ◌∷◌, map, refl, ap, length, arith, nat_tests}
 use Rattle.smx_model.proofs.Common.{All-from_recursion, ProgramLists, Command, Entry, DriverSpec, Transcript, rules}
 use Rattle.smx_model.proofs.Common.{ConfigView, IsDriverList, IsReportOf, after, call_of, HoldsPrograms, IsLegal, view}
@@ -6,22 +6,7 @@ use Rattle.smx_model.specs.Worked.Common.{OpenClone, Dup, CloseAll, Fd, Fault, B
 use Rattle.smx_model.specs.Worked.Reports.{another_exited, copied, drivers, exited, once_more, one, opened, programs}
 use Rattle.smx_model.specs.Worked.Reports.{report_with, three, too_early, two}
 use Rattle.smx_model.proofs.DropLemmas.{few_drop}
-use Rattle.smx_model.proofs.HistoryLemmas.{determined, lawful_throughout}
-use Rattle.smx_types.specs.declared.version.Version.{Version}
-
--- the transcript of a version with these drivers, entries and view
-abbrev transcript : Version → List DriverSpec → List Entry → ConfigView → Transcript
-transcript version drivers entries v = record { version = version; drivers = drivers; entries = entries; view = v }
-
--- transcripts of one version with the same drivers, entries and view are equal
-transcript_of : (n : Version) (ds ds2 : List DriverSpec) (es es2 : List Entry) (v v2 : ConfigView) → ds ≡ ds2 → es ≡ es2
-    → v ≡ v2 → transcript n ds es v ≡ transcript n ds2 es2 v2
-transcript_of n ds ds2 es es2 v v2 e f g = cc
-
--- the calls determine the drivers, the history and the view of a report
-pub one_report : (programs : ProgramLists) (r s : Transcript) → IsReportOf programs r → IsReportOf programs s
-    → map call_of r.entries ≡ map call_of s.entries → r ≡ record s { version = r.version }
-one_report programs r s h k e = grind (arith, determined, transcript_of)
+use Rattle.smx_model.proofs.HistoryLemmas.{lawful_throughout}
 
 -- the first parts of a report suffice for all
 pub report_of : (programs : ProgramLists) (r : Transcript) → r.drivers ≡ programs.drivers

@@ -3,16 +3,4 @@
 #![tactic(auto)]
 
 pub mod laws;
-pub mod laws_of_deliveries;
-pub mod laws_of_driver_lists;
-pub mod laws_of_hangups;
-pub mod laws_of_illegal_entries;
-pub mod laws_of_limits;
-pub mod laws_of_links;
-pub mod laws_of_marks;
-pub mod laws_of_messages;
-pub mod laws_of_reports;
-pub mod laws_of_steps;
-pub mod laws_of_streams;
-pub mod laws_of_unlawful_histories;
-pub mod laws_of_views;
+pub mod laws_of_configurations;

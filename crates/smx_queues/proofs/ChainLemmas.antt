@@ -4,7 +4,7 @@ use Rattle.std.proofs.Common.{ap, ◌∙◌, arith, add-zero}
 use Rattle.std.proofs.lemmas.Bool.Decides.{nat_tests}
 use Rattle.slab.specs.Slab.{Slab, get}
 use Rattle.smx_types.specs.declared.message.Message.{Message}
-use Rattle.smx_queues.specs.declared.node.Node.{Node}
+use Rattle.smx_queues.specs.declared.chain.Node.{Node}
 use Rattle.smx_queues.specs.Chains.{IsChain, walk}
 
 -- the function `own` with another owner at one key

@@ -2,7 +2,7 @@
 use Rattle.std.proofs.Common.{◌≡◌, Option, Some, None, refl}
 use Rattle.std.proofs.lemmas.List.Elements.{same_from_all_zip}
 use Rattle.slab.specs.Slab.{Slab, IsSlabClone, IsSlotClone}
-use Rattle.smx_queues.specs.declared.node.Node.{Node}
+use Rattle.smx_queues.specs.declared.chain.Node.{Node}
 
 -- a clone of a slot is the same slot
 same_slot : (x y : Option Node) → IsSlotClone (λ node copy. copy ≡ node) x y → y ≡ x

@@ -11,7 +11,7 @@ use Rattle.smx_types.specs.declared.message.Message.{Message}
 use Rattle.smx_queues.specs.declared.chain.Chain.{Chain}
 use Rattle.smx_queues.specs.QueueTable.{Queue, QueueTable, IsPlace, queue_at, least_vacant, with_place, with_queue}
 use Rattle.smx_queues.specs.QueueTable.{without_front, without_messages}
-use Rattle.smx_queues.specs.declared.node.Node.{Node}
+use Rattle.smx_queues.specs.declared.chain.Node.{Node}
 use Rattle.smx_queues.specs.Chains.{chain_at, no_chain, slot_of}
 
 -- the number of a place is below the length of the list

@@ -14,7 +14,7 @@ use Rattle.std.proofs.lemmas.List.Sums.{sum_by-set, sum_by_push, sum_by-append, 
 use Rattle.slab.specs.Slab.{Slab, get, slab_len, ContainsKey}
 use Rattle.smx_types.specs.declared.message.Message.{Message}
 use Rattle.smx_model.specs.Queues.{bytes_of}
-use Rattle.smx_queues.specs.declared.node.Node.{Node}
+use Rattle.smx_queues.specs.declared.chain.Node.{Node}
 use Rattle.smx_queues.specs.declared.chain.Chain.{Chain}
 use Rattle.smx_queues.specs.QueueTable.{IsPlace, Queue, queue_at, with_arrival, without_front}
 use Rattle.smx_queues.specs.Chains.{HasBytesThatFit, HasMessages, IsChain, IsQueue, IsSound, IsStore, chain_at}

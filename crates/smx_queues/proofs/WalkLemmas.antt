@@ -6,7 +6,7 @@ use Rattle.std.proofs.lemmas.List.{drop_more, map-append, take_more}
 use Rattle.std.proofs.lemmas.Option.{get_or_from_slice_get, slice_get-get_or, slice_get_within}
 use Rattle.slab.specs.Slab.{Slab, get, ContainsKey}
 use Rattle.smx_types.specs.declared.message.Message.{Message}
-use Rattle.smx_queues.specs.declared.node.Node.{Node}
+use Rattle.smx_queues.specs.declared.chain.Node.{Node}
 use Rattle.smx_queues.specs.Chains.{walk}
 
 -- equal lists have equal first items and equal rests

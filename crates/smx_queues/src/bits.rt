@@ -1,8 +1,7 @@
 //! A mark for each number below a count.
 
-ghost use Rattle.std.specs.Prelude.{◌≡◌, ◌≢◌, ℕ, ◌+◌, ◌*◌, ◌<◌, ◌≤◌, ◌^◌, false, true, length, slice_index};
-ghost use Rattle.std.specs.Prelude.{IfNone, IfOk, IfSome};
-ghost use Rattle.smx_queues.specs.Bits.{bit_count, has_bit, has_bit_but};
+ghost use Rattle.std.specs.Prelude.{◌≡◌, ◌≢◌, ℕ, ◌<◌, ◌≤◌, ◌^◌, false, true, length, slice_index, IfNone, IfOk, IfSome};
+ghost use Rattle.smx_queues.specs.Bits.{AreBits, BitTable, bit_count, has_bit, has_bit_but};
 
 use smx_types::NoMemory;
 use std::alloc::Global;
@@ -20,8 +19,6 @@ pub struct Bits {
 }
 
 impl Model for Bits {
-    ghost use Rattle.smx_queues.specs.Bits.{AreBits, BitTable};
-
     ghost Value = { BitTable };
 
     ghost view = { λ b. record { count = b.count; words = b.words.items } };
@@ -41,11 +38,7 @@ fn first_word(words: &[u64], start: usize) -> usize
             return w;
         }
     }
-    if start < words.len() {
-        words.len()
-    } else {
-        start
-    }
+    words.len().max(start)
 }
 
 impl Bits {

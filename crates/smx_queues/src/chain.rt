@@ -1,7 +1,28 @@
-//! The chain of a place: the nodes of its queue, in order. A node has a message and the key of the next node.
+//! The nodes of the store that has all queued messages, and the chain of a place: the nodes of its queue, in order.
 
 ghost use Rattle.std.specs.Prelude.{◌≡◌, ◌+◌, ◌<◌, ◌≤◌, ◌^◌, not, position};
 ghost use Rattle.smx_queues.specs.Chains.{chain_with_last, chain_without_first, new_chain};
+
+use smx_types::Message;
+use std::alloc::AllocError;
+
+/// A queued message, and the key of the next node in its queue. In the last node of a queue, this key has no meaning.
+#[derive(Debug, Drop)]
+pub struct Node {
+    pub message: Message,
+    pub next: usize,
+}
+
+impl Clone for Node {
+    ghost is_clone = { λ node copy. copy ≡ node };
+
+    fn clone(&self) -> Result<Node, AllocError> {
+        Ok(Node {
+            message: self.message.clone()?,
+            next: self.next,
+        })
+    }
+}
 
 /// The keys of the first and the last node of a place's queue, the number of its messages, the sum of their bytes, its
 /// full mark and its water marks.

@@ -1,19 +1,20 @@
 //! The queued messages and full marks of all places, by place.
 
-ghost use Rattle.std.specs.Prelude.{◌≡◌, ◌≢◌, ◌+◌, ◌<◌, ◌≤◌, ◌^◌, ◌++◌, [], false, length, map, slice_get};
+ghost use Rattle.std.specs.Prelude.{◌≡◌, ◌≢◌, ◌+◌, ◌<◌, ◌≤◌, ◌^◌, ◌++◌, List, [], false, drop, length, map, slice_get};
 ghost use Rattle.std.specs.Prelude.{vec_capacity, Some, option_copied, IfOk, IfNone, IfSome, IsSome, OnOk, OnSome};
+ghost use Rattle.std.specs.Iterator.{YieldsFirstBy};
 ghost use Rattle.std.specs.List.{list_any};
 ghost use Rattle.std.specs.Option.{is_some};
 ghost use Rattle.smx_types.specs.declared.message.Message.{Message};
 ghost use Rattle.smx_types.specs.declared.stream.Place.{Place as PlaceValue};
-ghost use Rattle.smx_model.specs.Configuration.{same_place};
+ghost use Rattle.smx_model.specs.Configuration.{QueuedMessage, same_place};
 ghost use Rattle.smx_model.specs.DriverList.{IsDriverList};
 ghost use Rattle.smx_model.specs.KnownStreams.{IsKnown};
 ghost use Rattle.smx_model.specs.Queues.{first_message, queue};
-ghost use Rattle.smx_queues.specs.FlowTables.{after_arrival, after_leaving, without_place};
+ghost use Rattle.smx_queues.specs.FlowTables.{FlowLists, after_arrival, after_leaving, without_place, IsFlow, flow_of};
+ghost use Rattle.smx_queues.specs.FlowTables.{fulls_of, leaving_message};
 ghost use Rattle.smx_queues.specs.PlaceLists.{places_of};
 
-use crate::leaving_messages::LeavingMessages;
 use crate::places::Places;
 use crate::queues::Queues;
 use smx_types::{DriverSpec, Message, NoMemory, Place};
@@ -39,9 +40,6 @@ impl Drop for FlowTable {
 }
 
 impl Model for FlowTable {
-    ghost use Rattle.smx_queues.specs.FlowTables.{FlowLists, flow_of, fulls_of, IsFlow};
-    ghost use Rattle.smx_queues.specs.PlaceLists.{places_of};
-
     ghost Value = { FlowLists };
 
     ghost view = { λ t. record {
@@ -215,7 +213,11 @@ impl FlowTable {
         ensures { result ≡ self.flow }
     {
         let FlowTable { places, queues } = self;
-        LeavingMessages::new(places, queues)
+        LeavingMessages {
+            places,
+            queues,
+            next: 0,
+        }
     }
 
     /// Returns the full places, in order. Fails only if out of memory.
@@ -239,5 +241,38 @@ impl FlowTable {
             places: self.places.copy(alloc)?,
             queues: self.queues.copy(alloc)?,
         })
+    }
+}
+
+/// An iterator over the messages of a table that `into_messages` has consumed. It moves the messages out, in order of
+/// place. Contracts see the list of the messages that are left. Takes no memory.
+#[derive(Drop)]
+pub struct LeavingMessages {
+    places: Places,
+    queues: Queues,
+    // The number of a place. No place with a lower number has messages left.
+    next: usize,
+}
+
+impl Model for LeavingMessages {
+    ghost Value = { List QueuedMessage };
+
+    ghost view = { λ it. flow_of (drop it.next (places_of it.places)) (drop it.next it.queues.queues) };
+
+    ghost invariant = { λ it. IsFlow it.places it.queues.queues };
+}
+
+impl LeavingMessages {
+    /// Returns the next message and its place, if one is left. Takes no memory.
+    pub fn next(&mut self) -> Option<(Place, Message)>
+        ensures { YieldsFirstBy leaving_message (λ rest. rest) self.old result self.new }
+    {
+        while self.next < self.places.len() {
+            if let Some(message) = self.queues.take(self.next) {
+                return Some((self.places.at(self.next), message));
+            }
+            self.next += 1;
+        }
+        None
     }
 }

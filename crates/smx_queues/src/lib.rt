@@ -4,14 +4,11 @@
 mod bits;
 mod chain;
 mod flow_table;
-mod leaving_messages;
-mod node;
 mod places;
 mod queues;
 mod rings;
 
 pub use bits::Bits;
-pub use flow_table::FlowTable;
-pub use leaving_messages::LeavingMessages;
+pub use flow_table::{FlowTable, LeavingMessages};
 pub use queues::{PlaceId, Queues};
 pub use rings::Rings;

@@ -1,12 +1,13 @@
 //! The places of some drivers, that is, both sides of each of their streams, and the numbers of these places.
 
 ghost use Rattle.std.specs.Prelude.{◌≡◌, ◌≤◌, ◌++◌, ◌<◌, ◌+◌, ◌^◌, false, Some, IfOk, OnOk, IfSome, IsSome, IfNone};
-ghost use Rattle.std.specs.Prelude.{length, slice_get};
+ghost use Rattle.std.specs.Prelude.{List, length, slice_get};
 ghost use Rattle.std.specs.List.{list_any};
+ghost use Rattle.smx_types.specs.declared.driver.DriverSpec.{DriverSpec as DriverValue};
 ghost use Rattle.smx_model.specs.Configuration.{same_place, side_number};
 ghost use Rattle.smx_model.specs.DriverList.{high_of, low_of, minors_of, IsDriverList};
 ghost use Rattle.smx_model.specs.KnownStreams.{IsKnown};
-ghost use Rattle.smx_queues.specs.PlaceLists.{new_queues, places_of, sides_of};
+ghost use Rattle.smx_queues.specs.PlaceLists.{ArePlaces, new_queues, places_of, sides_of};
 
 use crate::queues::Queues;
 use smx_types::{DriverSpec, NoMemory, Place, Side, StreamId};
@@ -31,11 +32,7 @@ pub struct Places {
 }
 
 impl Model for Places {
-    ghost use Rattle.std.specs.Prelude.{List};
-    ghost use Rattle.smx_types.specs.declared.driver.DriverSpec.{DriverSpec};
-    ghost use Rattle.smx_queues.specs.PlaceLists.{ArePlaces};
-
-    ghost Value = { List DriverSpec };
+    ghost Value = { List DriverValue };
 
     ghost view = { λ p. p.drivers.items };
 
@@ -52,10 +49,7 @@ fn side_number(side: Side) -> usize
 fn row_at(rows: &[DriverRow], driver: u8) -> Option<DriverRow>
     ensures { result ≡ slice_get rows.now driver }
 {
-    match rows.get(driver as usize) {
-        Some(row) => Some(*row),
-        None => None,
-    }
+    rows.get(driver as usize).copied()
 }
 
 // Returns the high and the low water mark of a driver that exists.

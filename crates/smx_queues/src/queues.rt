@@ -2,19 +2,45 @@
 
 mod reading;
 
-ghost use Rattle.std.specs.Prelude.{◌≡◌, ◌≢◌, ◌↔◌, ◌+◌, ◌-◌, ◌<◌, ◌≤◌, ◌^◌, [], ◌∷◌, ◌++◌, length, map, Some};
-ghost use Rattle.std.specs.Prelude.{None, false, OnOk, OnErr, OnSome, IfOk, IfNone, IsTrue, slice_get};
-ghost use Rattle.std.specs.Prelude.{slice_set, Option};
+ghost use Rattle.std.specs.Prelude.{◌≡◌, ◌≢◌, ◌↔◌, ◌+◌, ◌-◌, ◌<◌, ◌≤◌, ◌^◌, [], ◌∷◌, ◌++◌, length, map, Some, None};
+ghost use Rattle.std.specs.Prelude.{false, OnOk, OnErr, OnSome, IfOk, IfNone, IsTrue, slice_get, slice_set};
+ghost use Rattle.slab.specs.Slab.{ContainsKey, slab_len};
 ghost use Rattle.smx_types.specs.declared.message.Message.{Message};
-ghost use Rattle.smx_queues.specs.QueueTable.{queue_at, IsPlace, empty_queue, least_vacant, with_place};
+ghost use Rattle.smx_queues.specs.Chains.{IsSound, slot_of, with_follower};
+ghost use Rattle.smx_queues.specs.QueueTable.{QueueTable, queue_at, IsPlace, empty_queue, least_vacant, with_place};
 ghost use Rattle.smx_queues.specs.QueueTable.{with_queue, with_arrival, without_front, without_messages};
 
-use crate::chain::{Chain, first_gone};
-use crate::node::{Node, follow, sized};
+use crate::chain::{Chain, Node, first_gone};
 use slab::Slab;
-use smx_types::{Message, NoMemory};
+use smx_types::{Bytes, Message, NoMemory};
 use std::alloc::Global;
 use std::marker::Model;
+
+// Makes `key` the successor of the last node of a chain, if the chain has a node.
+fn follow(nodes: &mut Slab<Node>, chain: Chain, key: usize)
+    requires { 0 < chain.count → ContainsKey nodes.old chain.last }
+    ensures { nodes.new ≡ with_follower nodes.old chain key }
+{
+    if chain.count > 0 {
+        nodes[chain.last].next = key;
+    }
+}
+
+// Returns the message, and the number of its bytes. This number is below 2^63, as the length of any vector is.
+fn sized(message: Message) -> (Message, usize)
+    ensures same { result.0 ≡ message }
+    ensures size { result.1 ≡ length message.bytes }
+    ensures few { result.1 < 2 ^ 63 }
+{
+    let bytes = message.bytes.into_vec();
+    let size = bytes.len();
+    let message = Message {
+        serial: message.serial,
+        addr: message.addr,
+        bytes: Bytes::from_vec(bytes),
+    };
+    (message, size)
+}
 
 /// The number of a place, from 0 on.
 pub type PlaceId = usize;
@@ -30,13 +56,7 @@ pub struct Queues {
 }
 
 impl Model for Queues {
-    ghost use Rattle.std.specs.Prelude.{map, ◌-◌};
-    ghost use Rattle.slab.specs.Slab.{slab_len};
-    ghost use Rattle.smx_queues.specs.QueueTable.{QueueTable};
-
     ghost Value = { QueueTable };
-
-    ghost use Rattle.smx_queues.specs.Chains.{slot_of, IsSound};
 
     ghost view = { λ q. record {
       queues = map (slot_of q.nodes) q.chains.items;

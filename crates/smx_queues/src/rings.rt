@@ -1,8 +1,8 @@
 //! Rings of numbers, as linked lists.
 
-ghost use Rattle.std.specs.Prelude.{◌≡◌, ◌≢◌, ℕ, suc, ◌+◌, ◌<◌, ◌≤◌, ◌^◌, length, slice_set, IfNone, IfOk, IfSome};
+ghost use Rattle.std.specs.Prelude.{◌≡◌, ◌≢◌, ℕ, suc, ◌<◌, ◌≤◌, ◌^◌, length, slice_set, IfNone, IfOk, IfSome};
 ghost use Rattle.std.specs.List.{range_with_len};
-ghost use Rattle.smx_queues.specs.Rings.{at, ring_count};
+ghost use Rattle.smx_queues.specs.Rings.{AreRings, RingTable, at, ring_count};
 
 use smx_types::NoMemory;
 use std::alloc::Global;
@@ -22,8 +22,6 @@ pub struct Rings {
 }
 
 impl Model for Rings {
-    ghost use Rattle.smx_queues.specs.Rings.{AreRings, RingTable};
-
     ghost Value = { RingTable };
 
     ghost view = { λ r. record { count = r.count; owners = r.owners.items } };

@@ -6,3 +6,7 @@ pub mod MeetingLemmas
 pub mod ProgramOrderLemmas
 pub mod RunLemmas
 pub mod StopLemmas
+pub mod InputLemmas
+pub mod OutputLemmas
+pub mod ReadingLemmas
+pub mod RefusalLemmas

@@ -9,3 +9,8 @@ pub mod Reports
 pub mod RunFaults
 pub mod WorkedRuns
 pub mod WorkedFaults
+pub mod Input
+pub mod Devices
+pub mod Refusals
+pub mod Statuses
+pub mod WorkedStatuses

@@ -5,7 +5,7 @@ use Rattle.smx_types.specs.declared.version.Version.{Version}
 use Rattle.smx_model.specs.Histories.{after}
 use Rattle.smx_model.specs.Views.{view}
 use Rattle.smx_shared.specs.Recorded.{Recorded, IsSoundSystem}
-use Rattle.smx_run.specs.declared.report.Report.{Report}
+use Rattle.smx_run.specs.declared.gathering.Report.{Report}
 
 -- the transcript of a report, in a text of this version: everything except the fronts
 abbrev pub transcript_of : Version → Report → Transcript

@@ -9,8 +9,8 @@ use Rattle.smx_shared.specs.declared.shared_fault.ApplyFault.{ApplyFault}
 use Rattle.smx_shared.specs.declared.shared_fault.ApplyFault.TheVariants as apply
 use Rattle.smx_run.specs.declared.run_fault.RunFault.{RunFault}
 use Rattle.smx_run.specs.declared.run_fault.RunFault.TheVariants as run
-use Rattle.smx_run.specs.declared.worker_fault.WorkerFault.{WorkerFault}
-use Rattle.smx_run.specs.declared.worker_fault.WorkerFault.TheVariants as worker
+use Rattle.smx_run.specs.declared.run_fault.WorkerFault.{WorkerFault}
+use Rattle.smx_run.specs.declared.run_fault.WorkerFault.TheVariants as worker
 
 -- out-of-memory is one fault, whoever met it
 abbrev pub run_fault_of : ConfigFault → RunFault

@@ -1,5 +1,5 @@
-//! Makes a report of a system, if its history agrees with the transcripts of its callers. Here the transcript of a
-//! process is not a text: it is the list of entries that the caller of this process has kept.
+//! The report of a system, and how it is made if the history of the system agrees with the transcripts of its callers.
+//! Here the transcript of a process is not a text: it is the list of entries that the caller of this process has kept.
 
 ghost use Rattle.std.specs.Prelude.{◌≡◌, ◌≤◌, ◌<◌, ◌↔◌, ℕ, List, [], ◌∷◌, ◌++◌, All, length, replicate};
 ghost use Rattle.std.specs.Prelude.{slice_index_or, IsTrue, IfOk, IfSome, IfNone, Err, None, Some};
@@ -8,17 +8,54 @@ ghost use Rattle.smx_types.specs.declared.command.Entry.{Entry as Made};
 ghost use Rattle.smx_shared.specs.Seats.{entries_of};
 ghost use Rattle.smx_run.specs.Gathering.{IsBorneOut, IsLeastStrange, IsMet};
 ghost use Rattle.smx_run.specs.declared.run_fault.GatherFault.TheVariants as gathered;
-ghost use Rattle.smx_run.specs.Reports.{Reports};
+ghost use Rattle.smx_run.specs.Reports.{Reports, transcript_of};
 
-use crate::report::Report;
 use crate::run_fault::GatherFault;
 use smx_shared::{Fronts, System};
 use smx_types::{
-    Copied, DriverSpec, Drivers, Entries, Entry, MAX_PROCESSES, NoMemory, Process, Same,
+    ConfigView, Copied, DriverSpec, Drivers, Entries, Entry, MAX_PROCESSES, NoMemory, Process,
+    Same, Transcript, Version,
 };
 use std::alloc::Global;
 
 const PROCESSES: usize = MAX_PROCESSES as usize;
+
+/// The drivers of a run, its history, and the configuration at its end.
+#[derive(Debug, Drop, PartialEq)]
+pub struct Report {
+    pub drivers: Drivers,
+    pub entries: Entries,
+    pub view: ConfigView,
+    /// For each process, the front (the numbers of entries and links) that was seen after its program had ended. A run
+    /// fills this list; `gather` leaves it empty.
+    pub fronts: Fronts,
+}
+
+impl Report {
+    /// Returns a copy of the report. Fails only if it is out of memory.
+    pub fn copy(&self, alloc: Global) -> Result<Report, NoMemory>
+        ensures { IfOk result (λ c. c ≡ self.now) }
+    {
+        Ok(Report {
+            drivers: self.drivers.copy(alloc)?,
+            entries: self.entries.copy(alloc)?,
+            view: self.view.copy(alloc)?,
+            fronts: self.fronts.copy(alloc)?,
+        })
+    }
+
+    /// Returns the transcript of the report, for a text of this version: everything except the fronts. Takes no memory.
+    pub fn into_transcript(self, version: Version) -> Transcript
+        ensures { result ≡ transcript_of version self }
+    {
+        Transcript {
+            version,
+            drivers: self.drivers,
+            entries: self.entries,
+            view: self.view,
+        }
+    }
+}
 
 /// Makes a report of a system, if the transcript of each process (the list of entries that its caller has kept) equals
 /// the entries of that process in the history. If the number of a process is not below `transcripts.len()`, its
@@ -34,11 +71,11 @@ pub fn gather(alloc: Global, system: System, transcripts: &[Entries]) -> Result<
     if let Some(process) = find_strange(system.entries(), transcripts) {
         return Err(GatherFault::Strange(process));
     }
-    Ok(report(alloc, system, Fronts::new(alloc))?)
+    Ok(report_of(alloc, system, Fronts::new(alloc))?)
 }
 
 /// Makes a report of a system, with these fronts. Fails only if it is out of memory.
-pub fn report(alloc: Global, system: System, fronts: Fronts) -> Result<Report, NoMemory>
+pub fn report_of(alloc: Global, system: System, fronts: Fronts) -> Result<Report, NoMemory>
     ensures report { IfOk result (Reports system) }
     ensures fronts { IfOk result (λ r. r.fronts ≡ fronts) }
 {

@@ -2,9 +2,8 @@
 //! counterexamples of each definition.
 
 ghost use Rattle.std.specs.Prelude.{◌≡◌, ℕ, List, [], ◌∷◌, true, false, Result, Err};
-ghost use Rattle.smx_run.specs.RunFaults.{EitherFails};
-ghost use Rattle.smx_run.specs.declared.worker_fault.WorkerFault.{WorkerFault};
-ghost use Rattle.smx_run.specs.declared.worker_fault.WorkerFault.TheVariants as worker;
+ghost use Rattle.smx_run.specs.declared.run_fault.WorkerFault.{WorkerFault};
+ghost use Rattle.smx_run.specs.declared.run_fault.WorkerFault.TheVariants as worker;
 ghost use Rattle.smx_types.specs.declared.driver.DriverSpec.{DriverSpec};
 ghost use Rattle.smx_model.specs.Worked.Common.{mux, ip, OpenClone, Dup, CloseAll};
 ghost use Rattle.smx_model.specs.Worked.Reports.{copied, drivers, exited, opened, programs};
@@ -15,7 +14,7 @@ ghost use Rattle.smx_run.specs.Assignments.{called, given, HasCalled, KnowsItFul
 ghost use Rattle.smx_run.specs.Fronts.{AreFrontsFrom};
 ghost use Rattle.smx_run.specs.Gathering.{IsLeastStrange};
 ghost use Rattle.smx_run.specs.ProgramOrder.{calls_from, numbered, BeginsCalls};
-ghost use Rattle.smx_run.specs.RunFaults.{RefusesAlone, RefusesRun};
+ghost use Rattle.smx_run.specs.RunFaults.{EitherFails, RefusesAlone, RefusesRun};
 ghost use Rattle.smx_run.specs.WorkedRuns.{ended_at, second, to_run, HasEndedOf, IsFirstToRun, KeepsBehind};
 ghost use Rattle.smx_run.specs.declared.run_fault.RunFault.{RunFault};
 ghost use Rattle.smx_run.specs.declared.run_fault.RunFault.TheVariants as run;

@@ -16,11 +16,10 @@ ghost use Rattle.smx_run.specs.Reports.{transcript_in, transcript_of};
 ghost use Rattle.smx_run.specs.RunFaults.{RefusesAlone, RefusesRun};
 ghost use Rattle.smx_run.specs.declared.run.TheConstants.{MAX_WORKERS};
 
-use crate::gate::Gate;
-use crate::gathering::report;
-use crate::report::Report;
+use crate::gathering::{Report, report_of};
 use crate::run_fault::RunFault;
 use crate::threads::run_together;
+use crate::worker::Gate;
 use smx_config::Config;
 use smx_shared::{ApplyFault, EntrySink, Front, Fronts, System};
 use smx_types::{Commands, DriverSpec, MAX_COMMANDS, Process, ProgramList, Programs};
@@ -57,7 +56,7 @@ pub fn run_programs<R: Threads + Wait + Sync, G: Gate + Sync>(
         → IfOk result (λ r. map call_of r.entries ≡ calls_from 0 programs.programs) }
 {
     let (system, fronts) = run_system(rt, alloc, programs, Vec::new(alloc), workers, gate)?;
-    Ok(report(alloc, system, fronts)?)
+    Ok(report_of(alloc, system, fronts)?)
 }
 
 /// Runs the programs as `run_programs` does, on a new system whose entries go to `sink`. Returns the system after all

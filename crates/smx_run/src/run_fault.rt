@@ -1,9 +1,16 @@
 //! The reasons why a run is refused, and the words that they print.
 
-use crate::worker_fault::WorkerFault;
+ghost use Rattle.std.specs.Prelude.{◌≡◌, Some};
+ghost use Rattle.smx_run.specs.FaultWords.{gather_fault_words, run_fault_words};
+ghost use Rattle.smx_run.specs.RunFaults.{fault_of_call, fault_of_worker, run_fault_of, worker_fault_of};
+ghost use Rattle.smx_run.specs.declared.run_fault.GatherFault.TheVariants as gathered;
+ghost use Rattle.smx_run.specs.declared.run_fault.RunFault.TheVariants as run;
+ghost use Rattle.smx_run.specs.declared.run_fault.WorkerFault.TheVariants as worker;
+
 use smx_config::ConfigFault;
 use smx_shared::{ApplyFault, CloseFault};
 use smx_types::{NoMemory, Process};
+use std::alloc::AllocError;
 use std::fmt;
 
 /// The reason why a run was refused.
@@ -40,10 +47,18 @@ pub enum GatherFault {
     NoMemory,
 }
 
-impl From<ConfigFault> for RunFault {
-    ghost use Rattle.std.specs.Prelude.{◌≡◌};
-    ghost use Rattle.smx_run.specs.RunFaults.{run_fault_of};
+/// Why the workers of a run failed.
+#[derive(Clone, Copy)]
+pub enum WorkerFault {
+    /// An allocation failed.
+    NoMemory,
+    /// The thread of a worker could not be started, or there was no memory for the values that the thread gets.
+    NoThread,
+    /// The history is full.
+    HistoryFull,
+}
 
+impl From<ConfigFault> for RunFault {
     ghost from_gives = { λ f e. e ≡ run_fault_of f };
 
     fn from(fault: ConfigFault) -> RunFault {
@@ -57,9 +72,6 @@ impl From<ConfigFault> for RunFault {
 }
 
 impl From<NoMemory> for RunFault {
-    ghost use Rattle.std.specs.Prelude.{◌≡◌};
-    ghost use Rattle.smx_run.specs.declared.run_fault.RunFault.TheVariants as run;
-
     ghost from_gives = { λ _ e. e ≡ run.NoMemory };
 
     fn from(_error: NoMemory) -> RunFault {
@@ -68,9 +80,6 @@ impl From<NoMemory> for RunFault {
 }
 
 impl From<ApplyFault> for RunFault {
-    ghost use Rattle.std.specs.Prelude.{◌≡◌};
-    ghost use Rattle.smx_run.specs.RunFaults.{fault_of_call};
-
     ghost from_gives = { λ f e. e ≡ fault_of_call f };
 
     fn from(fault: ApplyFault) -> RunFault {
@@ -82,9 +91,6 @@ impl From<ApplyFault> for RunFault {
 }
 
 impl From<WorkerFault> for RunFault {
-    ghost use Rattle.std.specs.Prelude.{◌≡◌};
-    ghost use Rattle.smx_run.specs.RunFaults.{fault_of_worker};
-
     ghost from_gives = { λ f e. e ≡ fault_of_worker f };
 
     fn from(fault: WorkerFault) -> RunFault {
@@ -97,9 +103,6 @@ impl From<WorkerFault> for RunFault {
 }
 
 impl From<CloseFault> for RunFault {
-    ghost use Rattle.std.specs.Prelude.{◌≡◌};
-    ghost use Rattle.smx_run.specs.declared.run_fault.RunFault.TheVariants as run;
-
     ghost from_gives = { λ _ e. e ≡ run.Held };
 
     fn from(fault: CloseFault) -> RunFault {
@@ -109,10 +112,34 @@ impl From<CloseFault> for RunFault {
     }
 }
 
-impl From<NoMemory> for GatherFault {
-    ghost use Rattle.std.specs.Prelude.{◌≡◌};
-    ghost use Rattle.smx_run.specs.declared.run_fault.GatherFault.TheVariants as gathered;
+impl From<NoMemory> for WorkerFault {
+    ghost from_gives = { λ _ e. e ≡ worker.NoMemory };
 
+    fn from(_error: NoMemory) -> WorkerFault {
+        WorkerFault::NoMemory
+    }
+}
+
+impl From<AllocError> for WorkerFault {
+    ghost from_gives = { λ _ e. e ≡ worker.NoMemory };
+
+    fn from(_error: AllocError) -> WorkerFault {
+        WorkerFault::NoMemory
+    }
+}
+
+impl From<ApplyFault> for WorkerFault {
+    ghost from_gives = { λ f e. e ≡ worker_fault_of f };
+
+    fn from(fault: ApplyFault) -> WorkerFault {
+        match fault {
+            ApplyFault::HistoryFull => WorkerFault::HistoryFull,
+            ApplyFault::NoMemory => WorkerFault::NoMemory,
+        }
+    }
+}
+
+impl From<NoMemory> for GatherFault {
     ghost from_gives = { λ _ e. e ≡ gathered.NoMemory };
 
     fn from(_error: NoMemory) -> GatherFault {
@@ -121,9 +148,6 @@ impl From<NoMemory> for GatherFault {
 }
 
 impl fmt::Display for RunFault {
-    ghost use Rattle.std.specs.Prelude.{Some};
-    ghost use Rattle.smx_run.specs.FaultWords.{run_fault_words};
-
     ghost output = { λ fault. Some (run_fault_words fault) };
 
     fn fmt<W: fmt::Write>(&self, f: &mut fmt::Formatter<W>) -> fmt::Result {
@@ -143,9 +167,6 @@ impl fmt::Display for RunFault {
 }
 
 impl fmt::Display for GatherFault {
-    ghost use Rattle.std.specs.Prelude.{Some};
-    ghost use Rattle.smx_run.specs.FaultWords.{gather_fault_words};
-
     ghost output = { λ fault. Some (gather_fault_words fault) };
 
     fn fmt<W: fmt::Write>(&self, f: &mut fmt::Formatter<W>) -> fmt::Result {

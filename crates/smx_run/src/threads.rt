@@ -1,28 +1,26 @@
 //! Runs several workers on threads. The first worker runs on the calling thread.
 
-ghost use Rattle.std.specs.Prelude.{◌≡◌, ◌≢◌, ◌≤◌, ◌⊎◌, List, [], ◌∷◌, ◌++◌, All, length, map, Err};
-ghost use Rattle.std.specs.Prelude.{IfOk, IfErr, IsErrOf};
+ghost use Rattle.std.specs.Prelude.{◌≡◌, ◌≢◌, ◌≤◌, List, [], ◌∷◌, ◌++◌, All, length, map, Err, IfOk, IfErr, IsErrOf};
 ghost use Rattle.std.specs.List.{range_with_len};
 ghost use Rattle.smx_types.specs.declared.limits.TheConstants.{MAX_PROCESSES};
 ghost use Rattle.smx_model.specs.DriverList.{IsDriverList};
 ghost use Rattle.smx_model.specs.Histories.{HoldsPrograms};
-ghost use Rattle.smx_shared.specs.Recorded.{IsSoundSystem};
+ghost use Rattle.smx_shared.specs.Calls.{EndsAs};
+ghost use Rattle.smx_shared.specs.Recorded.{IsSoundSystem, Recorded};
 ghost use Rattle.smx_shared.specs.Seats.{SharedId};
 ghost use Rattle.smx_run.specs.Assignments.{assigned_calls, made_calls, AllHaveEnded, AreFresh, HaveCalled, HaveEnded};
 ghost use Rattle.smx_run.specs.Assignments.{IsFresh, IsSeenFull};
 ghost use Rattle.smx_run.specs.Fronts.{AreFrontsFrom};
+ghost use Rattle.smx_run.specs.Meeting.{IsBorneOutBy, IsKnownTo};
 ghost use Rattle.smx_run.specs.ProgramOrder.{Calls, numbered};
 ghost use Rattle.smx_run.specs.RunFaults.{EitherFails, RefusesRun};
-ghost use Rattle.smx_run.specs.declared.worker_fault.WorkerFault.TheVariants as worker;
+ghost use Rattle.smx_run.specs.declared.run_fault.WorkerFault.TheVariants as worker;
 
 use crate::assignments::{assign, collect};
-use crate::gate::Gate;
-use crate::meeting::meet_all;
-use crate::run_fault::RunFault;
-use crate::worker::{EndedProgram, SeatedProgram, run_assigned};
-use crate::worker_fault::WorkerFault;
+use crate::run_fault::{RunFault, WorkerFault};
+use crate::worker::{EndedProgram, Gate, SeatedProgram, run_assigned};
 use smx_shared::{EntrySink, Fronts, Seat, Shared, System};
-use smx_types::ProgramList;
+use smx_types::{NoMemory, ProgramList};
 use std::alloc::Global;
 use std::snapshot::Snapshot;
 use std::sync::Wait;
@@ -101,10 +99,6 @@ fn run_worker<R: Wait, K: EntrySink, G: Gate>(
 struct Runs<K: EntrySink>(Snapshot<Vec<SeatedProgram<Seat<K>>>>, Snapshot<Shared<K>>);
 
 impl<K: EntrySink> Promise<Result<Vec<EndedProgram<Seat<K>>>, WorkerFault>> for Runs<K> {
-    ghost use Rattle.std.specs.Prelude.{◌≡◌, IfOk, IsErrOf};
-    ghost use Rattle.smx_run.specs.Assignments.{assigned_calls, made_calls, HaveEnded, IsSeenFull};
-    ghost use Rattle.smx_run.specs.declared.worker_fault.WorkerFault.TheVariants as worker;
-
     ghost kept_by = { λ runs result.
         IfOk result (λ v. (made_calls v ≡ assigned_calls runs.0.value) × HaveEnded runs.1.value.name v)
         × (IsErrOf result worker.HistoryFull → IsSeenFull runs.1.value.name) };
@@ -212,4 +206,32 @@ fn and_then<K: EntrySink>(
             WorkerFault::HistoryFull,
         ),
     }
+}
+
+// Lets the first seat meet all the others. Returns this seat, and the front that each seat saw when its program had
+// ended. If the returned seat closes the shared system, then for each process the system has exactly the entries that
+// were made with the seat of this process.
+fn meet_all<K: EntrySink>(
+    alloc: Global,
+    shared: &Shared<K>,
+    mut ended: Vec<EndedProgram<Seat<K>>>,
+) -> Result<(Seat<K>, Fronts), NoMemory>
+    requires some { ended.items ≢ [] }
+    requires ended { HaveEnded shared.now.name ended }
+    ensures seat { IfOk result (λ r. r.0.shared ≡ shared.now.name) }
+    ensures met { IfOk result (λ r. (s : Recorded) → EndsAs r.0.known r.0.met s → All (IsBorneOutBy s) ended.items) }
+    ensures known { IfOk result (λ r. All (IsKnownTo r.0) ended.items) }
+    ensures fronts { IfOk result (λ r. r.1 ≡ map (λ d. d.front) ended.items) }
+{
+    let mut fronts = Vec::with_capacity(alloc, ended.len())?;
+    let EndedProgram {
+        seat: mut first,
+        front,
+    } = ended.remove(0);
+    fronts.push_reserved(front);
+    for done in ended {
+        shared.meet(&mut first, done.seat);
+        fronts.push_reserved(done.front);
+    }
+    Ok((first, Fronts::from_vec(fronts)))
 }

@@ -1,4 +1,4 @@
-//! A worker: the processes that one thread runs.
+//! A worker: the processes that one thread runs, and a hook for the commands that it performs.
 
 ghost use Rattle.std.specs.Prelude.{◌≡◌, All, map, IfOk, OnOk, OnErr, IsErrOf};
 ghost use Rattle.smx_shared.specs.declared.shared_fault.ApplyFault.TheVariants as apply;
@@ -6,11 +6,30 @@ ghost use Rattle.smx_run.specs.Alone.{StopsAmong};
 ghost use Rattle.smx_run.specs.Assignments.{called, given, HasCalled, HasEndedWith, IsToRunWith, KnowsItFull};
 ghost use Rattle.smx_run.specs.Assignments.{SomeKnowsItFull};
 
-use crate::gate::Gate;
 use smx_shared::{ApplyFault, Door, Front};
-use smx_types::Commands;
+use smx_types::{Commands, Process};
 use std::alloc::Global;
 use std::sync::Wait;
+
+/// A hook that a worker calls for each command, once before and once after. During these calls the worker doesn't have
+/// the turn (the right to change the shared system), so a gate may wait for other workers.
+pub trait Gate {
+    /// Called right before the worker performs command `number` of `process`; commands count from 0.
+    fn before(&self, process: Process, number: usize);
+
+    /// Called right after command `number` of `process` was performed or refused.
+    fn after(&self, process: Process, number: usize);
+}
+
+/// A gate that does nothing.
+#[derive(Clone, Copy, Debug)]
+pub struct NoGate;
+
+impl Gate for NoGate {
+    fn before(&self, _process: Process, _number: usize) {}
+
+    fn after(&self, _process: Process, _number: usize) {}
+}
 
 /// A process to run: its seat and its program.
 #[derive(Drop)]

@@ -24,8 +24,8 @@ use Rattle.smx_words.specs.Spellable.{FitsCall, FitsCallIn}
 use Rattle.smx_words.specs.Spelling.{call_words}
 use Rattle.smx_words.specs.Words.{line_of}
 use Rattle.smx_session.specs.Sessions.{HasDrivers, IsStartOf, Performs, StartsAs, State}
-use Rattle.smx_session.specs.declared.start_fault.StartFault.{StartFault}
-use Rattle.smx_session.specs.declared.start_fault.StartFault.TheVariants.{NoMemory, Text, Drivers}
+use Rattle.smx_session.specs.declared.faults.StartFault.{StartFault}
+use Rattle.smx_session.specs.declared.faults.StartFault.TheVariants.{NoMemory, Text, Drivers}
 
 -- ---- what other crates' laws say
 

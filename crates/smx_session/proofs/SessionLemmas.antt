@@ -15,8 +15,8 @@ use Rattle.smx_text.specs.ProgramsText.{programs_grammar}
 use Rattle.smx_text.specs.declared.text_fault.Cause.TheVariants as cause
 use Rattle.smx_text.specs.declared.text_fault.TextFault.{TextFault}
 use Rattle.smx_session.specs.Sessions.{IsStartOf, StartsAs}
-use Rattle.smx_session.specs.declared.start_fault.StartFault.{StartFault}
-use Rattle.smx_session.specs.declared.start_fault.StartFault.TheVariants.{NoMemory, Text, Drivers}
+use Rattle.smx_session.specs.declared.faults.StartFault.{StartFault}
+use Rattle.smx_session.specs.declared.faults.StartFault.TheVariants.{NoMemory, Text, Drivers}
 
 -- a session doesn't start over a text that has a fault, or for which memory ran out
 pub at_fault : (text : List ℕ) (fault : TextFault) (t : StartFault) → ReadsAny programs_grammar text (Err fault)

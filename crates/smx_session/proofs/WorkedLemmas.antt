@@ -12,7 +12,7 @@ use Rattle.smx_text.specs.declared.text_fault.Cause.TheVariants as cause
 use Rattle.smx_text.specs.declared.text_fault.TextFault.{TextFault}
 use Rattle.smx_session.specs.Sessions.{IsLastLine, IsStartOf, Performs, StartsAs, State}
 use Rattle.smx_session.specs.WorkedSessions.{begun, drivers, hung, opened, table}
-use Rattle.smx_session.specs.declared.start_fault.StartFault.TheVariants.{NoMemory}
+use Rattle.smx_session.specs.declared.faults.StartFault.TheVariants.{NoMemory}
 use Rattle.smx_session.proofs.LawLemmas.{AreDistinguished, HasOneReading, IsReportedBefore, before_the_fault, one_step}
 
 -- programs of the worked drivers, without a process

@@ -3,12 +3,12 @@ use Rattle.std.specs.Prelude.{ℕ, List, codes}
 use Rattle.smx_types.specs.FaultWords.{no_memory_words}
 use Rattle.smx_config.specs.FaultWords.{config_fault_words}
 use Rattle.smx_text.specs.FaultWords.{text_fault_words}
-use Rattle.smx_session.specs.declared.entry_fault.EntryFault.{EntryFault}
-use Rattle.smx_session.specs.declared.entry_fault.EntryFault.TheVariants as entry
-use Rattle.smx_session.specs.declared.line_fault.LineFault.{LineFault}
-use Rattle.smx_session.specs.declared.line_fault.LineFault.TheVariants as line
-use Rattle.smx_session.specs.declared.start_fault.StartFault.{StartFault}
-use Rattle.smx_session.specs.declared.start_fault.StartFault.TheVariants as start
+use Rattle.smx_session.specs.declared.faults.EntryFault.{EntryFault}
+use Rattle.smx_session.specs.declared.faults.EntryFault.TheVariants as entry
+use Rattle.smx_session.specs.declared.faults.LineFault.{LineFault}
+use Rattle.smx_session.specs.declared.faults.LineFault.TheVariants as line
+use Rattle.smx_session.specs.declared.faults.StartFault.{StartFault}
+use Rattle.smx_session.specs.declared.faults.StartFault.TheVariants as start
 
 -- the words of a text's fault, of a fault of its drivers, or for out-of-memory
 abbrev pub start_fault_words : StartFault → List ℕ

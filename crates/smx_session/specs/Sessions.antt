@@ -20,13 +20,13 @@ use Rattle.smx_words.specs.LineReading.{IsCallLine, IsNoCallLine}
 use Rattle.smx_words.specs.Spellable.{FitsCallIn}
 use Rattle.smx_words.specs.Spelling.{call_words, entry_line}
 use Rattle.smx_words.specs.Words.{line_of}
-use Rattle.smx_session.specs.declared.entry_fault.EntryFault.{EntryFault}
-use Rattle.smx_session.specs.declared.entry_fault.EntryFault.TheVariants as entry_fault
-use Rattle.smx_session.specs.declared.line_fault.LineFault.{LineFault}
-use Rattle.smx_session.specs.declared.line_fault.LineFault.TheVariants as line_fault
-use Rattle.smx_session.specs.declared.start_fault.StartFault.{StartFault}
-use Rattle.smx_session.specs.declared.start_fault.StartFault.TheVariants as start
-use Rattle.smx_session.specs.declared.start_fault.StartFault.TheVariants.{Text, Drivers}
+use Rattle.smx_session.specs.declared.faults.EntryFault.{EntryFault}
+use Rattle.smx_session.specs.declared.faults.EntryFault.TheVariants as entry_fault
+use Rattle.smx_session.specs.declared.faults.LineFault.{LineFault}
+use Rattle.smx_session.specs.declared.faults.LineFault.TheVariants as line_fault
+use Rattle.smx_session.specs.declared.faults.StartFault.{StartFault}
+use Rattle.smx_session.specs.declared.faults.StartFault.TheVariants as start
+use Rattle.smx_session.specs.declared.faults.StartFault.TheVariants.{Text, Drivers}
 
 -- the version of its texts, its drivers, its configuration, and its last entry
 pub record State : Type 0 where

@@ -8,9 +8,9 @@ use Rattle.smx_model.specs.Worked.Common.{Done, Fd, Hangup, OpenClone, ◌does�
 use Rattle.smx_model.specs.Worked.Common.{eth, leaf}
 use Rattle.smx_session.specs.FaultWords.{entry_fault_words, line_fault_words, start_fault_words}
 use Rattle.smx_session.specs.Sessions.{State, shown_lines}
-use Rattle.smx_session.specs.declared.entry_fault.EntryFault.TheVariants as entry
-use Rattle.smx_session.specs.declared.line_fault.LineFault.TheVariants as line
-use Rattle.smx_session.specs.declared.start_fault.StartFault.TheVariants as start
+use Rattle.smx_session.specs.declared.faults.EntryFault.TheVariants as entry
+use Rattle.smx_session.specs.declared.faults.LineFault.TheVariants as line
+use Rattle.smx_session.specs.declared.faults.StartFault.TheVariants as start
 
 -- the table with one driver that has two minors
 abbrev pub table : List ℕ

@@ -13,19 +13,18 @@ ghost use Rattle.smx_words.specs.Spellable.{FitsEntry};
 ghost use Rattle.smx_session.specs.Sessions.{HasNoLine, IsAfter, IsLastLine, IsNotPerformed, IsStartOf, Performs};
 ghost use Rattle.smx_session.specs.Sessions.{StartsAs, State, shown_lines};
 ghost use Rattle.smx_session.specs.WorkedSessions.{begun, hung, opened, table};
-ghost use Rattle.smx_session.specs.declared.entry_fault.EntryFault.TheVariants as entry_fault;
-ghost use Rattle.smx_session.specs.declared.entry_fault.EntryFault.TheVariants.{NoEntry};
-ghost use Rattle.smx_session.specs.declared.line_fault.LineFault.TheVariants as line_fault;
-ghost use Rattle.smx_session.specs.declared.line_fault.LineFault.TheVariants.{NoCommand};
-ghost use Rattle.smx_session.specs.declared.start_fault.StartFault.{StartFault};
-ghost use Rattle.smx_session.specs.declared.start_fault.StartFault.TheVariants.{NoMemory, Text};
+ghost use Rattle.smx_session.specs.declared.faults.EntryFault.TheVariants as entry_fault;
+ghost use Rattle.smx_session.specs.declared.faults.EntryFault.TheVariants.{NoEntry};
+ghost use Rattle.smx_session.specs.declared.faults.LineFault.TheVariants as line_fault;
+ghost use Rattle.smx_session.specs.declared.faults.LineFault.TheVariants.{NoCommand};
+ghost use Rattle.smx_session.specs.declared.faults.StartFault.{StartFault};
+ghost use Rattle.smx_session.specs.declared.faults.StartFault.TheVariants.{NoMemory, Text};
 
-use smx_config::laws_of_drivers::drivers_have_one_fault;
+use smx_config::laws::drivers_have_one_fault;
 use smx_model::laws::one_entry_more;
 use smx_text::laws::{one_text_has_one_reading, want_of_memory_comes_before};
 use smx_text::worked_texts::wrong_programs;
-use smx_words::laws::one_value_each;
-use smx_words::laws_of_reading::{each_line_has_a_reading, which_lines_are_calls};
+use smx_words::laws::{each_line_has_a_reading, one_value_each, which_lines_are_calls};
 
 /// Apart from out-of-memory, a text has only one result: a session with the drivers of the text, or a fault. If a text
 /// has a fault at line 1 or 2, out-of-memory is never reported for this text.

@@ -2,14 +2,9 @@
 //! can be shown at any time.
 #![tactic(auto)]
 
-mod entry_fault;
+mod faults;
 pub mod laws_of_sessions;
-mod line_fault;
 mod session;
-mod start_fault;
-mod text;
 
-pub use entry_fault::EntryFault;
-pub use line_fault::LineFault;
+pub use faults::{EntryFault, LineFault, StartFault};
 pub use session::Session;
-pub use start_fault::StartFault;

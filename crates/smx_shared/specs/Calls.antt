@@ -11,8 +11,8 @@ use Rattle.smx_shared.specs.declared.shared_fault.ApplyFault.{ApplyFault}
 use Rattle.smx_shared.specs.declared.shared_fault.ApplyFault.TheVariants as apply
 use Rattle.smx_shared.specs.declared.front.Front.{Front}
 use Rattle.smx_shared.specs.declared.seat_view.MetSeat.{MetSeat}
-use Rattle.smx_shared.specs.declared.try_fault.TryFault.{TryFault}
-use Rattle.smx_shared.specs.declared.try_fault.TryFault.TheVariants as try
+use Rattle.smx_shared.specs.declared.shared_fault.TryFault.{TryFault}
+use Rattle.smx_shared.specs.declared.shared_fault.TryFault.TheVariants as try
 
 -- the caller knows no less than before
 pub record HasSeenMore (old new : Known) : Type 0 where

@@ -3,8 +3,8 @@ use Rattle.std.specs.Prelude.{◌≡◌, ℕ, true, List, codes}
 use Rattle.smx_types.specs.declared.command.Entry.{Entry}
 use Rattle.smx_shared.specs.Fronts.{IsFrontOf}
 use Rattle.smx_shared.specs.Seats.{Known, IsBeginningOf}
-use Rattle.smx_shared.specs.declared.close_fault.CloseFault.{CloseFault}
-use Rattle.smx_shared.specs.declared.close_fault.CloseFault.TheVariants.{Held}
+use Rattle.smx_shared.specs.declared.shared_fault.CloseFault.{CloseFault}
+use Rattle.smx_shared.specs.declared.shared_fault.CloseFault.TheVariants.{Held}
 use Rattle.smx_shared.specs.declared.front.Front.{Front}
 
 -- the front shows a turn that was never given back

@@ -4,8 +4,8 @@ use Rattle.smx_shared.specs.CloseFaults.{turn_held_words}
 use Rattle.smx_shared.specs.FaultWords.{apply_fault_words}
 use Rattle.smx_shared.specs.declared.shared_fault.ApplyFault.{ApplyFault}
 use Rattle.smx_shared.specs.declared.shared_fault.ApplyFault.TheVariants as apply
-use Rattle.smx_shared.specs.declared.try_fault.TryFault.{TryFault}
-use Rattle.smx_shared.specs.declared.try_fault.TryFault.TheVariants as try
+use Rattle.smx_shared.specs.declared.shared_fault.TryFault.{TryFault}
+use Rattle.smx_shared.specs.declared.shared_fault.TryFault.TheVariants as try
 
 -- the fault of a try that got the turn, from the fault of its call
 abbrev pub try_fault_of : ApplyFault → TryFault

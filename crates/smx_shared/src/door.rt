@@ -1,8 +1,5 @@
 //! The calls of a shared system as a trait, so that another implementation can take the place of `Shared`.
 
-ghost use Rattle.std.specs.Prelude.{◌≡◌, IfErr, IfOk, OnErr, OnOk};
-ghost use Rattle.smx_shared.specs.Calls.{AddsEntry, AnswersEntry, HasSeenMore, Refuses, SeesFront};
-
 use crate::front::Front;
 use crate::shared_fault::ApplyFault;
 use smx_types::{Command, Entry, Process};

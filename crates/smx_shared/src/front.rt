@@ -3,8 +3,7 @@
 ghost use Rattle.std.specs.Prelude.{◌≡◌, ◌*◌, ◌<◌, ◌^◌};
 ghost use Rattle.smx_shared.specs.Fronts.{word_of};
 
-use smx_types::{Copied, Items, NoMemory};
-use std::alloc::Global;
+use smx_types::Items;
 
 /// The number of entries of a shared system so far, the number of its links, and whether a seat has the turn. A caller
 /// gets a front at once, without waiting.
@@ -33,11 +32,5 @@ impl Front {
             links: (word % 4096 / 2) as u32,
             held: word % 2 == 1,
         }
-    }
-}
-
-impl Copied for Front {
-    fn copied(&self, _alloc: Global) -> Result<Front, NoMemory> {
-        Ok(*self)
     }
 }

@@ -15,9 +15,9 @@ ghost use Rattle.smx_shared.specs.TurnRule.{Slot};
 ghost use Rattle.smx_shared.specs.WorkedCalls.{astray, blind, exited, front, idle, keeps, knows, meets, opened, passed};
 ghost use Rattle.smx_shared.specs.WorkedCalls.{sits, strayed, twice};
 ghost use Rattle.smx_shared.specs.WorkedSystems.{with_first};
-ghost use Rattle.smx_shared.specs.declared.close_fault.CloseFault.TheVariants.{Held};
+ghost use Rattle.smx_shared.specs.declared.shared_fault.CloseFault.TheVariants.{Held};
 ghost use Rattle.smx_shared.specs.declared.shared_fault.ApplyFault.TheVariants as apply;
-ghost use Rattle.smx_shared.specs.declared.try_fault.TryFault.TheVariants as try;
+ghost use Rattle.smx_shared.specs.declared.shared_fault.TryFault.TheVariants as try;
 
 use crate::laws_of_systems::an_example_is_sound;
 

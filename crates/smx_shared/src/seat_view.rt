@@ -1,11 +1,16 @@
 //! The state that the proofs keep of each seat, the rule of the turn, and the kinds of step that keep this rule.
 
-use crate::boxed_system::BoxedSystem;
+ghost use Rattle.smx_shared.specs.Recorded.{Recorded};
+ghost use Rattle.smx_shared.specs.SeatViews.{after_meeting, first_view, spent_view, view_beside, without_right};
+ghost use Rattle.smx_shared.specs.SeatViews.{Looked, Published, Taken, TookName};
+ghost use Rattle.smx_shared.specs.TurnRule.{TurnRule};
+
 use crate::entry_sink::EntrySink;
 use crate::system::System;
 use atomic_table::{Join, Play, Split, TableRule};
 use smx_types::{DriverSpec, Entry};
 use std::collections::LinkedList;
+use std::marker::Model;
 use std::snapshot::Snapshot;
 
 /// The knowledge, rights and steps of a seat. It exists only in proofs: no value of it is made.
@@ -49,6 +54,18 @@ pub struct MetSeat {
     pub own: LinkedList<Entry>,
 }
 
+/// A system in a box, so that a turn moves a pointer and not the system. Contracts see the system itself.
+#[derive(Drop)]
+pub struct BoxedSystem<K: EntrySink> {
+    pub system: Box<System<K>>,
+}
+
+impl<K: EntrySink> Model for BoxedSystem<K> {
+    ghost Value = { Recorded };
+
+    ghost view = { λ b. b.system.value };
+}
+
 /// The rule of the turn.
 pub struct OneTurn;
 
@@ -60,9 +77,6 @@ pub struct Start<K: EntrySink> {
 }
 
 impl<K: EntrySink> TableRule<Option<BoxedSystem<K>>, SeatView, Start<K>> for OneTurn {
-    ghost use Rattle.smx_shared.specs.TurnRule.{TurnRule};
-    ghost use Rattle.smx_shared.specs.SeatViews.{first_view};
-
     ghost holds = { λ start. TurnRule start.system.value.drivers start.system.value.limit start.system.value.history
         start.processes };
 
@@ -73,8 +87,6 @@ impl<K: EntrySink> TableRule<Option<BoxedSystem<K>>, SeatView, Start<K>> for One
 pub struct Look;
 
 impl<K: EntrySink> Play<Option<BoxedSystem<K>>, SeatView> for Look {
-    ghost use Rattle.smx_shared.specs.SeatViews.{Looked};
-
     ghost then = { Looked };
 }
 
@@ -82,8 +94,6 @@ impl<K: EntrySink> Play<Option<BoxedSystem<K>>, SeatView> for Look {
 pub struct Take;
 
 impl<K: EntrySink> Play<Option<BoxedSystem<K>>, SeatView> for Take {
-    ghost use Rattle.smx_shared.specs.SeatViews.{Taken};
-
     ghost then = { Taken };
 }
 
@@ -91,8 +101,6 @@ impl<K: EntrySink> Play<Option<BoxedSystem<K>>, SeatView> for Take {
 pub struct Publish;
 
 impl<K: EntrySink> Play<Option<BoxedSystem<K>>, SeatView> for Publish {
-    ghost use Rattle.smx_shared.specs.SeatViews.{Published};
-
     ghost then = { Published };
 }
 
@@ -100,8 +108,6 @@ impl<K: EntrySink> Play<Option<BoxedSystem<K>>, SeatView> for Publish {
 pub struct TakeName;
 
 impl<K: EntrySink> Play<Option<BoxedSystem<K>>, SeatView> for TakeName {
-    ghost use Rattle.smx_shared.specs.SeatViews.{TookName};
-
     ghost then = { TookName };
 }
 
@@ -109,8 +115,6 @@ impl<K: EntrySink> Play<Option<BoxedSystem<K>>, SeatView> for TakeName {
 pub struct Deal;
 
 impl Split<SeatView> for Deal {
-    ghost use Rattle.smx_shared.specs.SeatViews.{view_beside, without_right};
-
     ghost left = { without_right };
 
     ghost right = { view_beside };
@@ -120,8 +124,6 @@ impl Split<SeatView> for Deal {
 pub struct Meet;
 
 impl Join<SeatView> for Meet {
-    ghost use Rattle.smx_shared.specs.SeatViews.{after_meeting, spent_view};
-
     ghost both = { after_meeting };
 
     ghost spent = { spent_view };

@@ -1,31 +1,48 @@
 //! A system that many threads share: they take turns, and look without waiting.
 
-ghost use Rattle.std.specs.Prelude.{◌≡◌, ◌≤◌, ◌+◌, [], map, vec_capacity};
-ghost use Rattle.std.specs.Prelude.{IfOk, IfErr, IsOk, OnErr, OnOk};
+ghost use Rattle.std.specs.Prelude.{◌≡◌, ◌≤◌, ◌+◌, [], map, vec_capacity, IfOk, IfErr, IsOk, OnErr, OnOk};
 ghost use Rattle.std.specs.List.{range_with_len};
 ghost use Rattle.smx_types.specs.declared.limits.TheConstants.{MAX_PROCESSES};
-ghost use Rattle.smx_shared.specs.Calls.{AddsEntry, AnswersEntry, EndsAs, GoesOnFrom, HasSeenMore, LooksOnce};
-ghost use Rattle.smx_shared.specs.Calls.{Meets};
+ghost use Rattle.smx_shared.specs.Calls.{AddsEntry, AnswersEntry, EndsAs, GoesOnFrom, HasSeenMore, LooksOnce, Meets};
 ghost use Rattle.smx_shared.specs.Calls.{Refuses, RefusesTry, Rests};
 ghost use Rattle.smx_shared.specs.CloseFaults.{IsHeld};
 ghost use Rattle.smx_shared.specs.Recorded.{IsSoundSystem};
-ghost use Rattle.smx_shared.specs.SeatViews.{first_view};
-ghost use Rattle.smx_shared.specs.Seats.{first_seat, HasMetAll};
+ghost use Rattle.smx_shared.specs.SeatViews.{first_view, seated_of, IsSeatOf};
+ghost use Rattle.smx_shared.specs.Seats.{first_seat, shared_as, HasMetAll, Seated, SharedAs};
 
-use crate::close_fault::CloseFault;
 use crate::door::Door;
 use crate::entry_sink::EntrySink;
 use crate::front::Front;
-use crate::hold::Hold;
-use crate::seat::Seat;
-use crate::shared_fault::ApplyFault;
+use crate::shared_fault::{ApplyFault, CloseFault, TryFault};
 use crate::system::System;
-use crate::try_fault::TryFault;
 use crate::turn_table::{Token, TurnTable};
 use smx_types::{Command, Entry, NoMemory, Process};
 use std::alloc::Global;
 use std::marker::Model;
 use std::sync::Wait;
+
+/// Code that runs while the seat of a call has the turn. The call runs this code once, right before it performs its
+/// command. No other seat can have the turn before this code returns.
+pub trait Hold {
+    /// Runs while the turn is held.
+    fn inside(&self);
+}
+
+/// The right to perform the commands of one process on a shared system. Contracts also see the part of the history that
+/// the seat has seen. A seat takes a few bytes. It may be sent to another thread, or dropped.
+#[derive(Drop)]
+pub struct Seat<K: EntrySink = Vec<Entry>> {
+    process: Process,
+    token: Token<K>,
+}
+
+impl<K: EntrySink> Model for Seat<K> {
+    ghost Value = { Seated };
+
+    ghost view = { λ s. seated_of s.token.table_id s.token.me.0 };
+
+    ghost invariant = { λ s. IsSeatOf s.process s.token.me };
+}
 
 /// A system that many threads share: they take turns, and each call adds one entry. Contracts see a name that no other
 /// shared system has, the system as it was when it was shared, and the number of processes. They see later entries only
@@ -36,8 +53,6 @@ pub struct Shared<K: EntrySink = Vec<Entry>> {
 }
 
 impl<K: EntrySink> Model for Shared<K> {
-    ghost use Rattle.smx_shared.specs.Seats.{SharedAs, shared_as};
-
     ghost Value = { SharedAs };
 
     ghost view = { λ s. shared_as s.turns.table.shared.table_id s.turns.table.shared.key.system.value
@@ -146,8 +161,7 @@ impl<K: EntrySink> Shared<K> {
 
     /// Returns the system with its whole history, after all its callers have ended. Fails only if a turn was never
     /// given back. The system is then dropped, and the fault has the front, with its mark that a seat has the turn.
-    /// Never fails for a seat that has met the
-    /// seats of all other processes. Takes no memory.
+    /// Never fails for a seat that has met the seats of all other processes. Takes no memory.
     pub fn close(self, seat: Seat<K>) -> Result<System<K>, CloseFault>
         requires { seat.shared ≡ self.name }
         ensures ends { IfOk result (EndsAs seat.known seat.met) }

@@ -6,7 +6,7 @@ ghost use Rattle.smx_model.specs.Configuration.{empty};
 ghost use Rattle.smx_model.specs.DriverList.{IsDriverList};
 ghost use Rattle.smx_model.specs.Histories.{after};
 ghost use Rattle.smx_config.specs.DriverFaults.{RefusesDrivers};
-ghost use Rattle.smx_shared.specs.Recorded.{IsSoundSystem, next_entry, with_entry};
+ghost use Rattle.smx_shared.specs.Recorded.{next_entry, recorded_of, with_entry, IsRecord, IsSoundSystem, Recorded};
 ghost use Rattle.smx_shared.specs.declared.shared_fault.ApplyFault.TheVariants.{HistoryFull};
 
 use crate::entry_sink::EntrySink;
@@ -40,8 +40,6 @@ impl<K: EntrySink> Drop for System<K> {
 }
 
 impl<K: EntrySink> Model for System<K> {
-    ghost use Rattle.smx_shared.specs.Recorded.{Recorded, recorded_of, IsRecord};
-
     ghost Value = { Recorded };
 
     ghost view = { λ s. recorded_of s.config s.limit (K.entries s.sink) };

@@ -1,19 +1,20 @@
 //! The two words and the slot of a shared system, and the steps that seats make on them.
 
-ghost use Rattle.std.specs.Prelude.{◌≡◌, ◌<◌, ◌≤◌, ◌+◌, ◌*◌, ◌%◌, [], true, false, Some, None};
-ghost use Rattle.std.specs.Prelude.{IfOk, IfErr, IsOk, OnErr, OnOk};
+ghost use Rattle.std.specs.Prelude.{◌≡◌, ◌<◌, ◌≤◌, ◌+◌, ◌*◌, ◌%◌, [], true, false, Some, None, IfOk, IfErr, IsOk};
+ghost use Rattle.std.specs.Prelude.{OnErr, OnOk};
 ghost use Rattle.smx_shared.specs.Calls.{AddsEntry, AnswersEntry, Refuses, EndsAs, GoesOnFrom};
 ghost use Rattle.smx_shared.specs.Fronts.{front_of};
 ghost use Rattle.smx_shared.specs.Recorded.{IsSoundSystem};
 ghost use Rattle.smx_shared.specs.declared.turn_table.TheConstants.{MOST_TRIES};
 ghost use Rattle.smx_shared.specs.Seats.{shared_as, HasMetAll};
-ghost use Rattle.smx_shared.specs.SeatViews.{first_view, view_beside, without_right, with_next_name, known_of};
-ghost use Rattle.smx_shared.specs.SeatViews.{system_of, IsAtRest, IsInformed};
-ghost use Rattle.smx_shared.specs.SeatViews.{RestsAfter, HasTurn, HasGrown, HasMet, FoundWord, IsWordFrom, AddsFor};
+ghost use Rattle.smx_shared.specs.SeatViews.{first_view, view_beside, without_right, with_next_name, known_of, AddsFor};
+ghost use Rattle.smx_shared.specs.SeatViews.{system_of, FoundWord, HasGrown, HasMet, HasTurn, IsAtRest, IsInformed};
+ghost use Rattle.smx_shared.specs.SeatViews.{IsWordFrom, RestsAfter};
 
-use crate::boxed_system::BoxedSystem;
 use crate::entry_sink::EntrySink;
-use crate::seat_view::{Deal, Look, Meet, OneTurn, Publish, SeatView, Start, Take, TakeName};
+use crate::seat_view::{
+    BoxedSystem, Deal, Look, Meet, OneTurn, Publish, SeatView, Start, Take, TakeName,
+};
 use crate::shared_fault::ApplyFault;
 use crate::system::System;
 use atomic_table::Table;
@@ -102,9 +103,9 @@ impl<K: EntrySink> TurnTable<K> {
             processes,
         };
         let front = front_word(&system);
-        let boxed = BoxedSystem::from_system(alloc, system)?;
+        let system = Box::new(alloc, system)?;
         let mut slots = Vec::with_capacity(alloc, 1)?;
-        slots.push_reserved(Some(boxed));
+        slots.push_reserved(Some(BoxedSystem { system }));
         match Table::new(alloc, &[front, 0], slots, &about) {
             Ok((table, token)) => Ok((TurnTable { table }, token)),
             Err(_) => Err(NoMemory),
@@ -206,7 +207,7 @@ impl<K: EntrySink> TurnTable<K> {
         ensures seen { token.new.me.0.seen ≡ system.history }
         ensures counted { token.new.me.0.looks ≡ token.old.me.0.looks + 1 }
     {
-        let front = front_word(system.system());
+        let front = front_word(&system.system);
         self.table.shared.exchange(token, SYSTEM, Some(system));
         self.table.shared.store::<Publish>(token, FRONT, front);
     }
@@ -227,9 +228,9 @@ impl<K: EntrySink> TurnTable<K> {
         ensures counted { token.new.me.0.looks ≡ token.old.me.0.looks + 1 }
         ensures refused { IfErr result (Refuses (known_of token.old.me.0) (known_of token.new.me.0)) }
     {
-        let mut system = self.take_out(token);
-        let outcome = system.apply(process, command);
-        self.give_back(token, system);
+        let mut boxed = self.take_out(token);
+        let outcome = boxed.system.apply(process, command);
+        self.give_back(token, boxed);
         outcome
     }
 
@@ -250,9 +251,9 @@ impl<K: EntrySink> TurnTable<K> {
         ensures refused { IfErr result (Refuses (known_of token.old.me.0) (known_of token.new.me.0)) }
         ensures kept { OnErr result (command.new ≡ command.old) }
     {
-        let mut system = self.take_out(token);
-        let outcome = system.perform(process, command);
-        self.give_back(token, system);
+        let mut boxed = self.take_out(token);
+        let outcome = boxed.system.perform(process, command);
+        self.give_back(token, boxed);
         outcome
     }
 
@@ -289,7 +290,7 @@ impl<K: EntrySink> TurnTable<K> {
             return Err(word);
         }
         match slot {
-            Some(system) => Ok(system.into_system()),
+            Some(boxed) => Ok(Box::into_inner(boxed.system)),
             None => unreachable!(),
         }
     }

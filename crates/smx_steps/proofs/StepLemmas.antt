@@ -35,8 +35,8 @@ use Rattle.smx_steps.specs.Pages.{HasStepOf, IsPageOf, RefusesPage}
 use Rattle.smx_steps.specs.Stepping.{HasStepped, IsStopped, PerformsStep}
 use Rattle.smx_steps.specs.Steps.{AddsEntry, AddsStep, AddsSteps, step_text}
 use Rattle.smx_steps.specs.declared.frame.TheConstants.{FOOT, HEAD}
-use Rattle.smx_steps.specs.declared.page_fault.PageFault.{PageFault}
-use Rattle.smx_steps.specs.declared.page_fault.PageFault.TheVariants.{Refused, TooLong}
+use Rattle.smx_steps.specs.declared.pages.PageFault.{PageFault}
+use Rattle.smx_steps.specs.declared.pages.PageFault.TheVariants.{Refused, TooLong}
 use Rattle.smx_steps.specs.declared.pages.TheConstants.{MAX_STEPS}
 
 -- ---- steps

@@ -12,8 +12,8 @@ use Rattle.smx_trace.specs.Prefixes.{first_entries}
 use Rattle.smx_trace.specs.Replays.{IsReplayOf}
 use Rattle.smx_steps.specs.Steps.{AddsEntry, AddsStep, AddsSteps}
 use Rattle.smx_steps.specs.declared.frame.TheConstants.{FOOT, HEAD}
-use Rattle.smx_steps.specs.declared.page_fault.PageFault.{PageFault}
-use Rattle.smx_steps.specs.declared.page_fault.PageFault.TheVariants.{Refused, TooLong}
+use Rattle.smx_steps.specs.declared.pages.PageFault.{PageFault}
+use Rattle.smx_steps.specs.declared.pages.PageFault.TheVariants.{Refused, TooLong}
 use Rattle.smx_steps.specs.declared.pages.TheConstants.{MAX_PAGE, MAX_STEPS}
 
 -- the step of the beginning: its lines are the header and the lines of the drivers, and its picture is that of the empty

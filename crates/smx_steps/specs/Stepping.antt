@@ -10,8 +10,8 @@ use Rattle.smx_config.specs.declared.config_fault.ConfigFault.TheVariants.{NoMem
 use Rattle.smx_trace.specs.Answers.{answered, answers}
 use Rattle.smx_steps.specs.Steps.{AddsEntry, AddsSteps}
 use Rattle.smx_steps.specs.declared.frame.TheConstants.{FOOT}
-use Rattle.smx_steps.specs.declared.page_fault.PageFault.{PageFault}
-use Rattle.smx_steps.specs.declared.page_fault.PageFault.TheVariants.{Refused, TooLong}
+use Rattle.smx_steps.specs.declared.pages.PageFault.{PageFault}
+use Rattle.smx_steps.specs.declared.pages.PageFault.TheVariants.{Refused, TooLong}
 use Rattle.smx_steps.specs.declared.pages.TheConstants.{MAX_PAGE}
 
 -- the command of an entry is performed, and its step is appended, with the reply that it gets

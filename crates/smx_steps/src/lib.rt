@@ -3,9 +3,6 @@
 
 mod frame;
 pub mod laws_of_pages;
-mod page_fault;
 mod pages;
-mod pieces;
 
-pub use page_fault::PageFault;
-pub use pages::{MAX_PAGE, MAX_STEPS, page};
+pub use pages::{MAX_PAGE, MAX_STEPS, PageFault, page};

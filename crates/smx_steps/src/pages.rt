@@ -1,20 +1,21 @@
 //! Makes the text of a page from a transcript.
 
-ghost use Rattle.std.specs.Prelude.{ℕ, ◌+◌, ◌<◌, ◌≤◌, List, [], codes, length, IfOk, IfErr, OnOk};
+ghost use Rattle.std.specs.Prelude.{◌≡◌, ℕ, ◌+◌, ◌<◌, ◌≤◌, List, [], ◌++◌, codes, length, IfOk, IfErr, OnOk};
 ghost use Rattle.std.specs.Bool.{OnFalse, OnTrue};
 ghost use Rattle.smx_types.specs.declared.driver.DriverSpec.{DriverSpec as AnyDriver};
 ghost use Rattle.smx_model.specs.Views.{view};
+ghost use Rattle.smx_config.specs.declared.config_fault.ConfigFault.TheVariants.{NoMemory as OutOfMemory};
 ghost use Rattle.smx_trace.specs.Tracing.{IsNow};
+ghost use Rattle.smx_steps.specs.Escapes.{escaped, escaped_byte};
 ghost use Rattle.smx_steps.specs.Pages.{IsPageOf, RefusesPage};
 ghost use Rattle.smx_steps.specs.Stepping.{HasStepped, IsStopped, PerformsStep};
-ghost use Rattle.smx_steps.specs.Steps.{AddsStep};
+ghost use Rattle.smx_steps.specs.Steps.{AddsStep, step_text};
 ghost use Rattle.smx_steps.specs.declared.frame.TheConstants.{FOOT as AnyFoot};
+ghost use Rattle.smx_steps.specs.declared.pages.PageFault.TheVariants.{Refused};
 
 use crate::frame::{FOOT, HEAD};
-use crate::page_fault::PageFault;
-use crate::pieces::{put, put_step};
 use itoa::Buffer;
-use smx_config::Config;
+use smx_config::{Config, ConfigFault};
 use smx_draw::write_svg;
 use smx_text::transcript_opening;
 use smx_trace::trace_entry;
@@ -27,6 +28,31 @@ pub const MAX_STEPS: usize = 1_000;
 /// The largest number of bytes of a page.
 pub const MAX_PAGE: usize = 33_554_432;
 
+/// Why a transcript has no page.
+#[derive(Clone, Copy, Debug, PartialEq, Eq)]
+pub enum PageFault {
+    /// The drivers are not valid, or memory ran out.
+    Refused(ConfigFault),
+    /// A page of this number of entries is over the limit of entries, or over the limit of bytes.
+    TooLong(usize),
+}
+
+impl From<ConfigFault> for PageFault {
+    ghost from_gives = { λ f fault. fault ≡ Refused f };
+
+    fn from(fault: ConfigFault) -> PageFault {
+        PageFault::Refused(fault)
+    }
+}
+
+impl From<NoMemory> for PageFault {
+    ghost from_gives = { λ _ fault. fault ≡ Refused OutOfMemory };
+
+    fn from(_error: NoMemory) -> PageFault {
+        PageFault::Refused(ConfigFault::NoMemory)
+    }
+}
+
 /// Performs the commands of a transcript, each for its process, in order, starting with the empty configuration.
 /// Ignores the replies that the transcript has. Returns a page in HTML: a step for the beginning, and a step for each
 /// entry. The step of an entry has its line with the new reply, its changes, the `waits` lines of all queues (why each
@@ -38,16 +64,6 @@ pub fn page(alloc: Global, transcript: Transcript) -> Result<Vec<u8>, PageFault>
     ensures few { OnOk result (length transcript.entries ≤ MAX_STEPS) }
     ensures short { IfOk result (λ text. length text.items ≤ MAX_PAGE) }
     ensures refused { IfErr result (RefusesPage transcript) }
-{
-    page_of(alloc, &transcript)
-}
-
-// Makes the page as `page` does.
-fn page_of(alloc: Global, transcript: &Transcript) -> Result<Vec<u8>, PageFault>
-    ensures written { IfOk result (λ text. IsPageOf transcript.now text.items) }
-    ensures few { OnOk result (length transcript.now.entries ≤ MAX_STEPS) }
-    ensures short { IfOk result (λ text. length text.items ≤ MAX_PAGE) }
-    ensures refused { IfErr result (RefusesPage transcript.now) }
 {
     let entries = transcript.entries.as_slice();
     if entries.len() > MAX_STEPS {
@@ -81,8 +97,7 @@ fn write_beginning(
     Ok(view)
 }
 
-// Performs the commands of all entries, and appends their steps. Fails if the page would be too long, or if it is out
-// of memory.
+// Performs the commands of all entries, and appends their steps. Also fails if the page would be too long.
 fn write_steps(
     alloc: Global,
     config: &mut Config,
@@ -120,8 +135,7 @@ fn fits(out: &Vec<u8>) -> bool
     out.len() <= MAX_PAGE - FOOT.len()
 }
 
-// Performs the command of an entry, and appends its step. `number` is the number of the entry, counted from 1. Returns
-// the view after the command. Fails only if out of memory.
+// Performs the command of entry `number`, counted from 1, and appends its step. Returns the view after the command.
 fn write_step(
     alloc: Global,
     config: &mut Config,
@@ -146,4 +160,49 @@ fn write_step(
         picture.as_slice(),
     )?;
     Ok(after)
+}
+
+fn put(out: &mut Vec<u8>, text: &[u8]) -> Result<(), NoMemory>
+    ensures { OnOk result (out.new.items ≡ out.old.items ++ text.now) }
+{
+    out.extend_from_slice(text)?;
+    Ok(())
+}
+
+// Appends a text with `&`, `<` and `>` escaped for HTML. Fails only if out of memory.
+fn put_escaped(out: &mut Vec<u8>, text: &[u8]) -> Result<(), NoMemory>
+    ensures { OnOk result (out.new.items ≡ out.old.items ++ escaped text.now) }
+{
+    for byte in text {
+        put_escaped_byte(out, *byte)?;
+    }
+    Ok(())
+}
+
+fn put_escaped_byte(out: &mut Vec<u8>, byte: u8) -> Result<(), NoMemory>
+    ensures { OnOk result (out.new.items ≡ out.old.items ++ escaped_byte byte) }
+{
+    match byte {
+        b'&' => put(out, b"&amp;"),
+        b'<' => put(out, b"&lt;"),
+        b'>' => put(out, b"&gt;"),
+        _ => put(out, &[byte]),
+    }
+}
+
+// Appends a step with this name: the lines of a trace, and below them a picture. Fails only if out of memory; `out` may
+// then contain a part of the step.
+fn put_step(out: &mut Vec<u8>, name: &[u8], lines: &[u8], picture: &[u8]) -> Result<(), NoMemory>
+    ensures { OnOk result (out.new.items ≡ out.old.items ++ step_text name.now lines.now picture.now) }
+{
+    put(out, b"<section id='")?;
+    put(out, name)?;
+    put(out, b"'>\n<h2>")?;
+    put(out, name)?;
+    put(out, b"</h2>\n<pre>")?;
+    put_escaped(out, lines)?;
+    put(out, b"</pre>\n")?;
+    put(out, picture)?;
+    put(out, b"</section>\n")?;
+    Ok(())
 }

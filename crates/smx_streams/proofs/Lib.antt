@@ -9,4 +9,3 @@ pub mod NextLemmas
 pub mod WentLemmas
 pub mod HungLemmas
 pub mod HungNextLemmas
-pub mod CopyLemmas

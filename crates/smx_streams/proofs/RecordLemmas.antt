@@ -4,7 +4,8 @@ use Rattle.smx_model.proofs.Common.{None, if◌then◌else◌, refl, sym, ap, �
 use Rattle.smx_model.proofs.Common.{both_ways, ltb-true, lt-ltb, nat_lt, is_some, nat_tests, same_Some, MAX_DRIVERS}
 use Rattle.smx_model.proofs.Common.{StreamId, same_stream, rules}
 use Rattle.std.proofs.lemmas.List.{length-map}
-use Rattle.slab.specs.Slab.{Slab, get, Updates}
+use Rattle.std.proofs.lemmas.List.Elements.{same_from_all_zip}
+use Rattle.slab.specs.Slab.{Slab, get, IsSlabClone, IsSlotClone, Updates}
 use Rattle.smx_streams.specs.declared.records.Record.{Record}
 use Rattle.smx_streams.specs.RecordGrids.{Grid, key_at, record_of_key, opens_of, holds_of, uses_of, AreSet, AreRecords}
 use Rattle.smx_streams.specs.RecordGrids.{AreSound, IsRecord, IsSet, hung_of, is_used_and_hung}
@@ -259,3 +260,41 @@ pub key_tells : (grid : Grid) (records : Slab Record) (s : StreamId) → AreReco
     → is_some (key_at grid s)
     ≡ nat_lt 0 (number_at (uses_of grid records).opens s + number_at (uses_of grid records).holds s)
 key_tells grid records s whole = grind (arith, opens_at grid records s, holds_at grid records s)
+
+-- a clone
+
+-- a clone of a slot is the same slot
+same_slot : (x y : Option Record) → IsSlotClone (λ old copy. copy ≡ old) x y → y ≡ x
+same_slot None y h = h
+same_slot (Some r) None h = absurd h
+same_slot (Some r) (Some copy) h = rw h refl
+
+-- a clone of the records has the same slots
+pub same_slots : (records copy : Slab Record) → IsSlabClone (λ old copy. copy ≡ old) records copy
+    → copy.slots ≡ records.slots
+same_slots records copy h = same_from_all_zip _ records.slots copy.slots h.slots same_slot
+
+-- records with the same slots fit the same keys
+pub same_records : (grid : Grid) (records copy : Slab Record) → copy.slots ≡ records.slots → AreRecords grid records
+    → AreRecords grid copy
+same_records grid records copy same whole = record {
+  few = whole.few;
+  listed = λ s key there. rw same (whole.listed s key there);
+  recorded = λ key r there. whole.recorded key r (rw same at there);
+}
+
+-- records with the same slots have the same record at each key
+same_of_key : (records copy : Slab Record) → copy.slots ≡ records.slots → (key : Option ℕ)
+    → record_of_key copy key ≡ record_of_key records key
+same_of_key records copy same None = refl
+same_of_key records copy same (Some key) = rw same refl
+
+-- records with the same slots have the same numbers and flags
+pub same_uses : (grid : Grid) (records copy : Slab Record) → copy.slots ≡ records.slots
+    → uses_of grid copy ≡ uses_of grid records
+same_uses grid records copy same = λ i. record {
+  minors = map length grid;
+  opens = map (map (λ key. opens_of (same_of_key records copy same key i))) grid;
+  holds = map (map (λ key. holds_of (same_of_key records copy same key i))) grid;
+  hungs = map (map (λ key. hung_of (same_of_key records copy same key i))) grid;
+}

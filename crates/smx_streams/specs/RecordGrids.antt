@@ -4,7 +4,7 @@ use Rattle.std.specs.Prelude.{slice_index_or, slice_set, Option, Some, None, if�
 use Rattle.slab.specs.Slab.{Slab, get}
 use Rattle.smx_types.specs.declared.limits.TheConstants.{MAX_DRIVERS}
 use Rattle.smx_types.specs.declared.stream.StreamId.{StreamId}
-use Rattle.smx_model.specs.Configuration.{pair_before, same_stream}
+use Rattle.smx_model.specs.Configuration.{same_stream}
 use Rattle.smx_streams.specs.declared.records.Record.{Record}
 use Rattle.smx_streams.specs.HungRows.{flag_at}
 use Rattle.smx_streams.specs.StreamTables.{is_in_range, number_at}
@@ -94,23 +94,6 @@ pub record AreRecords (grid : Grid) (records : Slab Record) : Type 0 where
 -- the record counts at least one descriptor or hold, and its stream has hung up
 abbrev pub is_used_and_hung : Record → Bool
 is_used_and_hung r = nat_lt 0 (r.opens + r.holds) && r.hung
-
--- each driver has as many numbers and flags as minors
-pub record HasRows (u : Uses) : Type 0 where
-  pub opens : map length u.opens ≡ u.minors
-  pub holds : map length u.holds ≡ u.minors
-  pub hungs : map length u.hungs ≡ u.minors
-
--- `v` has the numbers and flags of `u` for all streams before minor m of driver d, and nothing for the others
-pub record IsCopyBefore (u : Uses) (d m : ℕ) (v : Uses) : Type 0 where
-  pub rows : HasRows u × HasRows v
-  pub minors : v.minors ≡ u.minors
-  pub opens : (x : StreamId)
-      → number_at v.opens x ≡ (if pair_before x.driver x.minor d m then number_at u.opens x else 0)
-  pub holds : (x : StreamId)
-      → number_at v.holds x ≡ (if pair_before x.driver x.minor d m then number_at u.holds x else 0)
-  pub hungs : (x : StreamId)
-      → flag_at v.hungs x ≡ (if pair_before x.driver x.minor d m then flag_at u.hungs x else false)
 
 -- the stream has the numbers and the flag of record `r`, and no other stream has changed
 pub record IsSet (grid : Grid) (records : Slab Record) (r : Record) (new_grid : Grid) (new : Slab Record) : Type 0 where

@@ -1,18 +1,81 @@
 //! The descriptors of all processes.
 
-ghost use Rattle.std.specs.Prelude.{◌≡◌, ◌<◌, false, true, not, [], length, filter, replicate, slice_index};
-ghost use Rattle.std.specs.Prelude.{slice_index_or, ℕ, None, IfNone, IfOk, IsOk, OnOk, OnErr};
+ghost use Rattle.std.specs.Prelude.{◌≡◌, ◌<◌, ℕ, false, true, not, List, [], length, filter, replicate, Option, None};
+ghost use Rattle.std.specs.Prelude.{slice_index, slice_index_or, slice_set, IfNone, IfOk, IsOk, OnOk, OnErr};
 ghost use Rattle.std.specs.List.{list_any};
 ghost use Rattle.smx_types.specs.declared.limits.TheConstants.{MAX_DESCRIPTORS, MAX_PROCESSES};
+ghost use Rattle.smx_types.specs.declared.stream.StreamId.{StreamId as StreamValue};
 ghost use Rattle.smx_model.specs.Configuration.{is_fd, fd_before};
 ghost use Rattle.smx_model.specs.Ordered.{with_inserted};
-ghost use Rattle.smx_streams.specs.DescriptorRows.{IsListed, cell_at, with_cell, with_room_at};
+ghost use Rattle.smx_streams.specs.DescriptorRows.{AreRows, IsListed, Listed, cell_at, listed_of, with_cell};
+ghost use Rattle.smx_streams.specs.DescriptorRows.{with_room_at};
+ghost use Rattle.smx_streams.specs.RowRoom.{AreAllOrNone, with_room};
 ghost use Rattle.smx_streams.specs.StreamTables.{stream_at, least_fd, IsNext};
 
-use crate::descriptor_row::DescriptorRow;
 use smx_types::{Descriptor, MAX_DESCRIPTORS, MAX_PROCESSES, NoMemory, Process, StreamId};
 use std::alloc::Global;
 use std::marker::Model;
+
+// The descriptors of one process: for each descriptor number a cell, with the stream of this descriptor or `None`. The
+// row has no cells until the first open of the process. From then on it has cells for all numbers.
+#[derive(Debug, Drop)]
+struct DescriptorRow {
+    cells: Vec<Option<StreamId>>,
+}
+
+impl Model for DescriptorRow {
+    ghost Value = { List (Option StreamValue) };
+
+    ghost view = { λ n. n.cells.items };
+
+    ghost invariant = { λ n. AreAllOrNone n.cells.items };
+}
+
+impl DescriptorRow {
+    fn new(alloc: Global) -> DescriptorRow
+        ensures { result ≡ [] }
+    {
+        DescriptorRow {
+            cells: Vec::new(alloc),
+        }
+    }
+
+    fn get(&self, fd: u32) -> Option<StreamId>
+        ensures { result ≡ slice_index_or self.now fd None }
+    {
+        match self.cells.get(fd as usize) {
+            Some(cell) => *cell,
+            None => None,
+        }
+    }
+
+    // Makes cells for all numbers, if the row has none.
+    fn make_room(&mut self, alloc: Global) -> Result<(), NoMemory>
+        ensures ok { OnOk result (self.new ≡ with_room self.old) }
+        ensures err { OnErr result (self.new ≡ self.old) }
+        ensures in_place { 0 < length self.old → IsOk result }
+    {
+        if self.cells.is_empty() {
+            self.cells = vec![in alloc; None; MAX_DESCRIPTORS as usize]?;
+        }
+        Ok(())
+    }
+
+    fn set(&mut self, fd: u32, cell: Option<StreamId>)
+        requires { fd < length self.old }
+        ensures { self.new ≡ slice_set self.old fd cell }
+    {
+        self.cells[fd as usize] = cell;
+    }
+
+    fn copy(&self, alloc: Global) -> Result<DescriptorRow, NoMemory>
+        ensures { IfOk result (λ n. n ≡ self.now) }
+    {
+        Ok(DescriptorRow {
+            cells: Vec::from_slice(alloc, &self.cells)?,
+        })
+    }
+}
 
 /// Descriptors by process and number. A process has either no cells at all, or a cell for each descriptor number.
 /// Contracts see the list, and how many cells each process has.
@@ -22,8 +85,6 @@ pub struct Descriptors {
 }
 
 impl Model for Descriptors {
-    ghost use Rattle.smx_streams.specs.DescriptorRows.{Listed, listed_of, AreRows};
-
     ghost Value = { Listed };
 
     ghost view = { λ d. listed_of d.processes.items };

@@ -1,8 +1,9 @@
 //! An iterator over the hung-up streams.
 
-ghost use Rattle.std.specs.Prelude.{◌≡◌};
+ghost use Rattle.std.specs.Prelude.{◌≡◌, List};
 ghost use Rattle.std.specs.Iterator.{YieldsFirstBy};
-ghost use Rattle.smx_streams.specs.HungRows.{hungs_from, IsNextOf};
+ghost use Rattle.smx_types.specs.declared.stream.StreamId.{StreamId as StreamValue};
+ghost use Rattle.smx_streams.specs.HungRows.{hungs_from, streams_from, IsNextOf};
 ghost use Rattle.smx_streams.specs.RecordGrids.{AreSound};
 
 use crate::records::Records;
@@ -20,12 +21,7 @@ pub struct HungStreams<'a> {
 }
 
 impl<'a> Model for HungStreams<'a> {
-    ghost use Rattle.std.specs.Prelude.{List};
-    ghost use Rattle.smx_types.specs.declared.stream.StreamId.{StreamId};
-    ghost use Rattle.smx_streams.specs.HungRows.{hungs_from, streams_from};
-    ghost use Rattle.smx_streams.specs.RecordGrids.{AreSound};
-
-    ghost Value = { List StreamId };
+    ghost Value = { List StreamValue };
 
     ghost view = { λ it. streams_from it.driver it.minor (hungs_from 0 it.records.now.hungs) };
 
@@ -67,9 +63,7 @@ impl<'a> HungStreams<'a> {
             minor: 0,
         }
     }
-}
 
-impl<'a> HungStreams<'a> {
     /// Returns the next stream, if one is left. Does not allocate.
     pub fn next(&mut self) -> Option<StreamId>
         ensures { YieldsFirstBy (λ item. item) (λ rest. rest) self.old result self.new }

@@ -1,6 +1,7 @@
 //! The streams of one driver: for each minor, the key of the stream's record.
 
-ghost use Rattle.std.specs.Prelude.{◌≡◌, ◌<◌, None, length, replicate, slice_set, slice_index_or, IfOk};
+ghost use Rattle.std.specs.Prelude.{◌≡◌, ◌<◌, ℕ, List, Option, None, length, replicate, IfOk, slice_set};
+ghost use Rattle.std.specs.Prelude.{slice_index_or};
 
 use smx_types::NoMemory;
 use std::alloc::Global;
@@ -13,8 +14,6 @@ pub struct Keys {
 }
 
 impl Model for Keys {
-    ghost use Rattle.std.specs.Prelude.{ℕ, ◌<◌, List, Option, length};
-
     ghost Value = { List (Option ℕ) };
 
     ghost view = { λ k. k.cells.items };

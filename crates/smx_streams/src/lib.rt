@@ -2,7 +2,6 @@
 //! is held. (A hold keeps a stream in the table even if no descriptor names it.)
 #![tactic(auto)]
 
-mod descriptor_row;
 mod descriptors;
 mod hung_streams;
 mod keys;

@@ -1,31 +1,38 @@
 //! The records of streams, found by driver and minor.
 
-ghost use Rattle.std.specs.Prelude.{◌≡◌, ◌≢◌, ◌+◌, ◌-◌, ◌<◌, ◌≤◌, ◌==◌, nat_lt, ◌&&◌, true, false, [], None, Some};
-ghost use Rattle.std.specs.Prelude.{map, length, replicate, slice_get, slice_index, slice_index_or};
-ghost use Rattle.std.specs.Prelude.{IfOk, IsOk, OnOk, OnErr};
+ghost use Rattle.std.specs.Prelude.{◌≡◌, ◌≢◌, ◌+◌, ◌-◌, ◌<◌, ◌≤◌, ◌==◌, nat_lt, ◌&&◌, true, false, [], None, Some, map};
+ghost use Rattle.std.specs.Prelude.{length, replicate, slice_get, slice_index_or, IfOk, IsOk, OnOk, OnErr};
 ghost use Rattle.std.specs.List.{list_all};
 ghost use Rattle.slab.specs.Slab.{get, Updates};
 ghost use Rattle.smx_types.specs.declared.limits.TheConstants.{MAX_DRIVERS};
 ghost use Rattle.smx_types.specs.declared.stream.StreamId.{StreamId};
-ghost use Rattle.smx_streams.specs.RecordGrids.{key_at, with_key, is_used_and_hung, AreRecords, AreSet, AreSound};
-ghost use Rattle.smx_streams.specs.RecordGrids.{HasRows, IsCopyBefore, IsRecordOf, IsSet};
+ghost use Rattle.smx_streams.specs.RecordGrids.{key_at, with_key, is_used_and_hung, AreRecords, AreSet, AreSound, Uses};
+ghost use Rattle.smx_streams.specs.RecordGrids.{uses_of, IsRecordOf, IsSet};
 ghost use Rattle.smx_streams.specs.HungRows.{flag_at};
 ghost use Rattle.smx_streams.specs.StreamTables.{is_in_range, number_at};
 
 use crate::keys::Keys;
 use slab::Slab;
 use smx_types::{NoMemory, StreamId};
-use std::alloc::Global;
+use std::alloc::{AllocError, Global};
 use std::marker::Model;
 
 /// A stream, the number of its descriptors, the number of its holds, and whether it is hung up. There is at least one
 /// descriptor or hold.
-#[derive(Clone, Copy, Debug)]
+#[derive(Copy, Debug)]
 pub struct Record {
     pub stream: StreamId,
     pub opens: u32,
     pub holds: u32,
     pub hung: bool,
+}
+
+impl Clone for Record {
+    ghost is_clone = { λ old copy. copy ≡ old };
+
+    fn clone(&self) -> Result<Record, AllocError> {
+        Ok(*self)
+    }
 }
 
 /// The records in one slab, and for each driver the keys of the records of its streams. Contracts see the number of
@@ -38,8 +45,6 @@ pub struct Records {
 }
 
 impl Model for Records {
-    ghost use Rattle.smx_streams.specs.RecordGrids.{Uses, uses_of, AreRecords};
-
     ghost Value = { Uses };
 
     ghost view = { λ r. uses_of r.drivers.items r.records };
@@ -90,15 +95,15 @@ fn new_keys(alloc: Global, minors: &[u8]) -> Result<Vec<Keys>, NoMemory>
     Ok(drivers)
 }
 
-// Returns the number of minors of each driver.
-fn minors_of_each(alloc: Global, drivers: &[Keys]) -> Result<Vec<u8>, NoMemory>
-    ensures { IfOk result (λ v. v.items ≡ map length drivers.now) }
+// Copies the rows of keys.
+fn copy_keys(alloc: Global, drivers: &[Keys]) -> Result<Vec<Keys>, NoMemory>
+    ensures { IfOk result (λ v. v.items ≡ drivers.now) }
 {
-    let mut minors = Vec::with_capacity(alloc, drivers.len())?;
+    let mut made = Vec::with_capacity(alloc, drivers.len())?;
     for keys in drivers {
-        minors.push(keys.len())?;
+        made.push(keys.copy(alloc)?)?;
     }
-    Ok(minors)
+    Ok(made)
 }
 
 // Returns whether the record has at least one descriptor or hold.
@@ -147,7 +152,6 @@ impl Records {
         ensures minors { IfOk result (λ r. r.minors ≡ minors.now) }
         ensures none { IfOk result (λ r. (s : StreamId) → (number_at r.opens s ≡ 0) × (number_at r.holds s ≡ 0)) }
         ensures hungs { IfOk result (λ r. (s : StreamId) → flag_at r.hungs s ≡ false) }
-        ensures rows { IfOk result HasRows }
         ensures sound { IfOk result AreSound }
     {
         Ok(Records {
@@ -250,7 +254,6 @@ impl Records {
         requires used { 0 < record.opens + record.holds }
         ensures ok { OnOk result (AreSet self.old record.stream record.opens record.holds record.hung self.new) }
         ensures err { OnErr result (self.new ≡ self.old) }
-        ensures rows { HasRows self.new }
         ensures sound { OnOk result (AreSound self.new) }
     {
         put(&mut self.drivers, &mut self.records, record)?;
@@ -338,39 +341,13 @@ impl Records {
         }
     }
 
-    // Copies the record of the stream from `others` to `self`, if the stream has one.
-    fn copy_record(&mut self, others: &Records, stream: StreamId) -> Result<(), NoMemory>
-        requires before { IsCopyBefore others.now stream.driver stream.minor self.old }
-        requires range { is_in_range others.now.minors stream.driver stream.minor ≡ true }
-        ensures { OnOk result (IsCopyBefore others.now stream.driver (stream.minor + 1) self.new) }
-    {
-        if let Some(record) = others.record_of(stream) {
-            self.add(Record { stream, ..record })?;
-        }
-        Ok(())
-    }
-
-    // Copies the records of a driver's streams from `others` to `self`.
-    fn copy_driver(&mut self, others: &Records, driver: u8, minors: u8) -> Result<(), NoMemory>
-        requires before { IsCopyBefore others.now driver 0 self.old }
-        requires minors { minors ≡ slice_index others.now.minors driver }
-        ensures { OnOk result (IsCopyBefore others.now (driver + 1) 0 self.new) }
-    {
-        for minor in 0..minors {
-            self.copy_record(others, StreamId { driver, minor })?;
-        }
-        Ok(())
-    }
-
     /// Copies the records. The copy gets its memory from this allocator.
     pub fn copy(&self, alloc: Global) -> Result<Records, NoMemory>
         ensures { IfOk result (λ r. r ≡ self.now) }
     {
-        let minors = minors_of_each(alloc, &self.drivers)?;
-        let mut copy = Records::new(alloc, &minors)?;
-        for driver in 0..minors.len() {
-            copy.copy_driver(self, driver as u8, minors[driver])?;
-        }
-        Ok(copy)
+        Ok(Records {
+            drivers: copy_keys(alloc, &self.drivers)?,
+            records: self.records.clone()?,
+        })
     }
 }

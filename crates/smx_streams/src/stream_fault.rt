@@ -1,5 +1,8 @@
 //! The reasons for not opening a descriptor.
 
+ghost use Rattle.std.specs.Prelude.{◌≡◌};
+ghost use Rattle.smx_streams.specs.declared.stream_fault.StreamFault.TheVariants as fault;
+
 use smx_types::NoMemory;
 
 /// The reason why no descriptor was opened.
@@ -18,9 +21,6 @@ pub enum StreamFault {
 }
 
 impl From<NoMemory> for StreamFault {
-    ghost use Rattle.std.specs.Prelude.{◌≡◌};
-    ghost use Rattle.smx_streams.specs.declared.stream_fault.StreamFault.TheVariants as fault;
-
     ghost from_gives = { λ _ e. e ≡ fault.NoMemory };
 
     fn from(_e: NoMemory) -> StreamFault {

@@ -1,16 +1,16 @@
 //! The table of streams.
 
-ghost use Rattle.std.specs.Prelude.{◌≡◌, ℕ, ◌+◌, ◌-◌, ◌<◌, ◌≤◌, not, false, true, [], length, slice_index};
-ghost use Rattle.std.specs.Prelude.{Some, Ok, Err, IfOk, IfErr, IfSome, IfNone, IsOk, OnOk, OnErr};
+ghost use Rattle.std.specs.Prelude.{◌≡◌, ℕ, ◌+◌, ◌-◌, ◌<◌, ◌≤◌, not, false, true, [], length, slice_index, Some, Ok};
+ghost use Rattle.std.specs.Prelude.{Err, IfOk, IfErr, IfSome, IfNone, IsOk, OnOk, OnErr};
 ghost use Rattle.smx_types.specs.declared.limits.TheConstants.{MAX_DESCRIPTORS, MAX_DRIVERS};
 ghost use Rattle.smx_types.specs.declared.stream.StreamId.{StreamId};
 ghost use Rattle.std.specs.Option.{option_map};
 ghost use Rattle.std.specs.List.{All, list_all};
 ghost use Rattle.smx_streams.specs.StreamTables.{number_at, is_in_range, exists, stream_at, is_last, least_fd};
-ghost use Rattle.smx_streams.specs.StreamTables.{least_minor, numbered, clone_answer, minor_answer, dup_answer};
-ghost use Rattle.smx_streams.specs.StreamTables.{IsNext, IsRefused};
+ghost use Rattle.smx_streams.specs.StreamTables.{least_minor, numbered, clone_answer, minor_answer, dup_answer, IsNext};
+ghost use Rattle.smx_streams.specs.StreamTables.{IsRefused, HasOneMore, HasOneLess, HasNoneOf, HasHolds, HasHungUp};
+ghost use Rattle.smx_streams.specs.StreamTables.{AreHungsSound};
 ghost use Rattle.smx_model.specs.Hangups.{is_hung};
-ghost use Rattle.smx_streams.specs.StreamTables.{HasOneMore, HasOneLess, HasNoneOf, HasHolds, HasHungUp, AreHungsSound};
 
 use crate::descriptors::Descriptors;
 use crate::hung_streams::HungStreams;

@@ -19,3 +19,15 @@ pub mod DriverNameLemmas
 pub mod DriverListLemmas
 pub mod WalkLemmas
 pub mod KeptLemmas
+pub mod DescriptorLemmas
+pub mod DroppedLemmas
+pub mod ReplyLemmas
+pub mod KnownLemmas
+pub mod SendLemmas
+pub mod LookupLemmas
+pub mod AcceptedLemmas
+pub mod MoveLemmas
+pub mod DoneLemmas
+pub mod ClosingLemmas
+pub mod TablesLemmas
+pub mod PlaceNumberLemmas

@@ -5,3 +5,13 @@ pub mod TouchedStreams
 pub mod KeptHolds
 pub mod SweepReserves
 pub mod DroppedMessages
+pub mod Machine
+pub mod WorkedMemory
+pub mod StepErrors
+pub mod Sending
+pub mod MessageStreams
+pub mod Refinement
+pub mod ModelOfTables
+pub mod SecondReplies
+pub mod UnlinkTargets
+pub mod Closing

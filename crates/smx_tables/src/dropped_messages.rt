@@ -7,7 +7,7 @@ ghost use Rattle.smx_model.specs.Configuration.{QueuedMessage, same_place, same_
 ghost use Rattle.smx_model.specs.Removal.{serials, serials_that_left};
 ghost use Rattle.smx_tables.specs.DroppedMessages.{is_flushed_at, AreDropped, EmptiesPlaces, HasRoom, NamesDropped};
 
-use crate::comparisons::same_side;
+use crate::properties::same_side;
 use smx_queues::FlowTable;
 use smx_types::{Place, Reply, Serials, Side, Sides, StreamId};
 use std::mem::replace;

@@ -3,29 +3,30 @@
 ghost use Rattle.std.specs.Prelude.{◌≡◌, ◌<◌, length, map, IfOk};
 ghost use Rattle.std.specs.List.{All};
 ghost use Rattle.smx_model.specs.DriverList.{name_of};
-ghost use Rattle.smx_model.specs.Views.{view_of_fd, view_of_link, view_of_bind, view_of_route};
-ghost use Rattle.smx_model.specs.Views.{view_of_message, view_of_full, view_of_hung};
+ghost use Rattle.smx_model.specs.KeptConfigurations.{IsSound};
+ghost use Rattle.smx_model.specs.Views.{view, view_of_fd, view_of_link, view_of_bind, view_of_route, view_of_message};
+ghost use Rattle.smx_model.specs.Views.{view_of_full, view_of_hung};
 
+use crate::tables::Tables;
 use smx_addresses::{Bindings, Routes};
 use smx_links::LinkTable;
 use smx_queues::FlowTable;
 use smx_streams::Streams;
 use smx_types::{
-    Binding, BindingLine, Descriptor, DescriptorLine, DriverSpec, FullLine, HungLine, Link,
-    LinkLine, Message, MessageLine, Name, NoMemory, Place, Route, RouteLine, StreamId,
+    BindingLine, BindingLines, ConfigView, Descriptor, DescriptorLine, DescriptorLines, DriverSpec,
+    FullLine, FullLines, HungLine, HungLines, LinkLine, LinkLines, MessageLine, MessageLines, Name,
+    NoMemory, RouteLine, RouteLines,
 };
 use std::alloc::Global;
 
-/// Returns the name of a driver.
-pub fn name_of(drivers: &[DriverSpec], driver: u8) -> Name
+fn name_of(drivers: &[DriverSpec], driver: u8) -> Name
     requires { driver < length drivers.now }
     ensures { result ≡ name_of drivers.now driver }
 {
     drivers[driver as usize].name
 }
 
-/// Returns the line of a descriptor.
-pub fn descriptor_line(drivers: &[DriverSpec], d: &Descriptor) -> DescriptorLine
+fn descriptor_line(drivers: &[DriverSpec], d: &Descriptor) -> DescriptorLine
     requires { d.now.stream.driver < length drivers.now }
     ensures { result ≡ view_of_fd drivers.now d.now }
 {
@@ -37,86 +38,9 @@ pub fn descriptor_line(drivers: &[DriverSpec], d: &Descriptor) -> DescriptorLine
     }
 }
 
-/// Returns the line of a link.
-pub fn link_line(drivers: &[DriverSpec], l: &Link) -> LinkLine
-    requires ctl { l.now.ctl.driver < length drivers.now }
-    requires lower { l.now.lower.driver < length drivers.now }
-    ensures { result ≡ view_of_link drivers.now l.now }
-{
-    LinkLine {
-        id: l.id,
-        ctl_driver: name_of(drivers, l.ctl.driver),
-        ctl_minor: u32::from(l.ctl.minor),
-        lower_driver: name_of(drivers, l.lower.driver),
-        lower_minor: u32::from(l.lower.minor),
-        kind: l.kind,
-    }
-}
-
-/// Returns the line of a binding.
-pub fn binding_line(drivers: &[DriverSpec], b: &Binding) -> BindingLine
-    requires { b.now.driver < length drivers.now }
-    ensures { result ≡ view_of_bind drivers.now b.now }
-{
-    BindingLine {
-        driver: name_of(drivers, b.driver),
-        addr: b.addr,
-        minor: u32::from(b.minor),
-    }
-}
-
-/// Returns the line of a route.
-pub fn route_line(drivers: &[DriverSpec], r: &Route) -> RouteLine
-    requires { r.now.driver < length drivers.now }
-    ensures { result ≡ view_of_route drivers.now r.now }
-{
-    RouteLine {
-        driver: name_of(drivers, r.driver),
-        addr: r.addr,
-        id: r.id,
-    }
-}
-
-// Returns the line of a message at a place.
-fn message_line(drivers: &[DriverSpec], place: Place, message: Message) -> MessageLine
-    requires { place.stream.driver < length drivers.now }
-    ensures { result ≡ view_of_message drivers.now (record { place = place; message = message }) }
-{
-    MessageLine {
-        driver: name_of(drivers, place.stream.driver),
-        minor: u32::from(place.stream.minor),
-        side: place.side,
-        message,
-    }
-}
-
-/// Returns the line of a full place.
-pub fn full_line(drivers: &[DriverSpec], p: &Place) -> FullLine
-    requires { p.now.stream.driver < length drivers.now }
-    ensures { result ≡ view_of_full drivers.now p.now }
-{
-    FullLine {
-        driver: name_of(drivers, p.stream.driver),
-        minor: u32::from(p.stream.minor),
-        side: p.side,
-    }
-}
-
-/// Returns the line of a hung-up stream.
-pub fn hung_line(drivers: &[DriverSpec], stream: StreamId) -> HungLine
-    requires { stream.driver < length drivers.now }
-    ensures { result ≡ view_of_hung drivers.now stream }
-{
-    HungLine {
-        driver: name_of(drivers, stream.driver),
-        minor: u32::from(stream.minor),
-    }
-}
-
-/// Returns the lines of all descriptors, by rising process, and by rising number within a process. Fails only if out of
-/// memory.
+// Returns the lines of all descriptors, by rising process, and by rising number within a process.
 #[tactic(auto, using(crate::proofs::WalkLemmas::walk_of_fds))]
-pub fn descriptor_lines(
+fn descriptor_lines(
     alloc: Global,
     drivers: &[DriverSpec],
     streams: &Streams,
@@ -133,8 +57,8 @@ pub fn descriptor_lines(
     Ok(lines)
 }
 
-/// Returns the lines of all links, by rising id. Fails only if out of memory.
-pub fn link_lines(
+// Returns the lines of all links, by rising id.
+fn link_lines(
     alloc: Global,
     drivers: &[DriverSpec],
     links: &LinkTable,
@@ -146,14 +70,20 @@ pub fn link_lines(
     let listed = links.links();
     let mut lines = Vec::with_capacity(alloc, listed.len())?;
     for l in listed {
-        lines.push(link_line(drivers, l))?;
+        lines.push(LinkLine {
+            id: l.id,
+            ctl_driver: name_of(drivers, l.ctl.driver),
+            ctl_minor: u32::from(l.ctl.minor),
+            lower_driver: name_of(drivers, l.lower.driver),
+            lower_minor: u32::from(l.lower.minor),
+            kind: l.kind,
+        })?;
     }
     Ok(lines)
 }
 
-/// Returns the lines of all bindings, by rising driver, and by rising address within a driver. Fails only if out of
-/// memory.
-pub fn binding_lines(
+// Returns the lines of all bindings, by rising driver, and by rising address within a driver.
+fn binding_lines(
     alloc: Global,
     drivers: &[DriverSpec],
     binds: &Bindings,
@@ -164,14 +94,17 @@ pub fn binding_lines(
     let list = binds.list(alloc)?;
     let mut lines = Vec::with_capacity(alloc, list.len())?;
     for b in &list {
-        lines.push(binding_line(drivers, b))?;
+        lines.push(BindingLine {
+            driver: name_of(drivers, b.driver),
+            addr: b.addr,
+            minor: u32::from(b.minor),
+        })?;
     }
     Ok(lines)
 }
 
-/// Returns the lines of all routes, by rising driver, and by rising address within a driver. Fails only if out of
-/// memory.
-pub fn route_lines(
+// Returns the lines of all routes, by rising driver, and by rising address within a driver.
+fn route_lines(
     alloc: Global,
     drivers: &[DriverSpec],
     routes: &Routes,
@@ -182,14 +115,18 @@ pub fn route_lines(
     let list = routes.list(alloc)?;
     let mut lines = Vec::with_capacity(alloc, list.len())?;
     for r in &list {
-        lines.push(route_line(drivers, r))?;
+        lines.push(RouteLine {
+            driver: name_of(drivers, r.driver),
+            addr: r.addr,
+            id: r.id,
+        })?;
     }
     Ok(lines)
 }
 
-/// Returns the lines of all queued messages, by rising place, and in order of arrival within a place. Consumes the
-/// table of queues, and moves the messages out of it. Fails only if out of memory.
-pub fn message_lines(
+// Returns the lines of all queued messages, by rising place, and in order of arrival within a place. Moves the messages
+// out of the table of queues.
+fn message_lines(
     alloc: Global,
     drivers: &[DriverSpec],
     queues: FlowTable,
@@ -200,13 +137,18 @@ pub fn message_lines(
     let mut lines = Vec::with_capacity(alloc, queues.len())?;
     let mut rest = queues.into_messages();
     while let Some((place, message)) = rest.next() {
-        lines.push(message_line(drivers, place, message))?;
+        lines.push(MessageLine {
+            driver: name_of(drivers, place.stream.driver),
+            minor: u32::from(place.stream.minor),
+            side: place.side,
+            message,
+        })?;
     }
     Ok(lines)
 }
 
-/// Returns the lines of all full places, by rising place. Fails only if out of memory.
-pub fn full_lines(
+// Returns the lines of all full places, by rising place.
+fn full_lines(
     alloc: Global,
     drivers: &[DriverSpec],
     queues: &FlowTable,
@@ -217,13 +159,17 @@ pub fn full_lines(
     let fulls = queues.fulls(alloc)?;
     let mut lines = Vec::with_capacity(alloc, fulls.len())?;
     for place in &fulls {
-        lines.push(full_line(drivers, place))?;
+        lines.push(FullLine {
+            driver: name_of(drivers, place.stream.driver),
+            minor: u32::from(place.stream.minor),
+            side: place.side,
+        })?;
     }
     Ok(lines)
 }
 
-/// Returns the lines of all hung-up streams, by rising stream. Fails only if out of memory.
-pub fn hung_lines(
+// Returns the lines of all hung-up streams, by rising stream.
+fn hung_lines(
     alloc: Global,
     drivers: &[DriverSpec],
     streams: &Streams,
@@ -234,7 +180,45 @@ pub fn hung_lines(
     let mut lines = Vec::new(alloc);
     let mut rest = streams.hungs();
     while let Some(stream) = rest.next() {
-        lines.push(hung_line(drivers, stream))?;
+        lines.push(HungLine {
+            driver: name_of(drivers, stream.driver),
+            minor: u32::from(stream.minor),
+        })?;
     }
     Ok(lines)
+}
+
+impl Tables {
+    /// Returns the view of the configuration: the lines that show it. Fails only if out of memory.
+    pub fn show(&self) -> Result<ConfigView, NoMemory>
+        requires { IsSound self.now.drivers self.now.configuration }
+        ensures { IfOk result (λ v. v ≡ view self.now.drivers self.now.configuration) }
+    {
+        self.copy(self.alloc)?.into_view()
+    }
+
+    /// Returns the same view as `show`, and consumes the tables: it moves the messages instead of copying them. Fails
+    /// only if out of memory.
+    pub fn into_view(self) -> Result<ConfigView, NoMemory>
+        requires { IsSound self.drivers self.configuration }
+        ensures { IfOk result (λ v. v ≡ view self.drivers self.configuration) }
+    {
+        let Tables {
+            alloc,
+            drivers,
+            lists,
+            ..
+        } = self;
+        Ok(ConfigView {
+            next_id: lists.links.next_id(),
+            next_serial: lists.next_serial,
+            fds: DescriptorLines::from_vec(descriptor_lines(alloc, &drivers, &lists.streams)?),
+            links: LinkLines::from_vec(link_lines(alloc, &drivers, &lists.links)?),
+            binds: BindingLines::from_vec(binding_lines(alloc, &drivers, &lists.binds)?),
+            routes: RouteLines::from_vec(route_lines(alloc, &drivers, &lists.routes)?),
+            fulls: FullLines::from_vec(full_lines(alloc, &drivers, &lists.queues)?),
+            hungs: HungLines::from_vec(hung_lines(alloc, &drivers, &lists.streams)?),
+            msgs: MessageLines::from_vec(message_lines(alloc, &drivers, lists.into_queues())?),
+        })
+    }
 }

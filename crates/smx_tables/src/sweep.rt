@@ -18,8 +18,7 @@ ghost use Rattle.smx_tables.specs.TouchedStreams.{is_dead, is_there_or_touched, 
 
 use crate::dropped_messages::{drop_sides, name_dropped};
 use crate::lists::Lists;
-use crate::orphans::release_orphans;
-use crate::removal::drop_links;
+use crate::removal::{drop_links, release_orphans};
 use smx_addresses::Bindings;
 use smx_types::{DriverSpec, NoMemory, Reply, Sides, StreamId};
 use std::alloc::Global;
@@ -126,24 +125,6 @@ fn drop_orphans(drivers: &[DriverSpec], lists: &mut Lists, room: &mut SweepReser
     drop_links(lists, &room.orphaned, &mut room.dropped);
 }
 
-// Removes the ordinary links whose controlling stream doesn't exist, and then everything that belongs to streams that
-// don't exist. Requires that each stream that doesn't exist, but to which something still belongs, is in `touched`.
-// Afterwards `room` has the serials of all messages that were dropped since it was reserved.
-fn sweep(drivers: &[DriverSpec], lists: &mut Lists, room: &mut SweepReserve)
-    requires kept { KeepsHolds lists.old }
-    requires known { AreControllingKnown drivers.now lists.old.links.links }
-    requires touched { IsTouched lists.old.streams room.old.touched.items (configuration_of lists.old) }
-    requires room { IsReserveFor 0 lists.old.links.links lists.old.queues.flow room.old }
-    ensures value { configuration_of lists.new ≡ after_sweep drivers.now (configuration_of lists.old) }
-    ensures dropped { DropsMore lists.old.queues.flow room.old.dropped.items
-        lists.new.queues.flow room.new.dropped.items }
-    ensures kept { KeepsHolds lists.new }
-    ensures drivers { sizes_of lists.new ≡ sizes_of lists.old }
-{
-    drop_orphans(drivers, lists, room);
-    drop_dead(lists, &room.seen, &mut room.dropped);
-}
-
 /// Clears the lists, and reserves room in them for the sweep after a change that touches at most `streams` streams.
 /// Fails only if out of memory.
 #[tactic(auto, using(crate::proofs::DropLemmas::none_dropped))]
@@ -168,7 +149,9 @@ pub fn reserve_for_sweep(
     Ok(())
 }
 
-/// Sweeps after a change. Replies with the messages that were dropped since room was reserved.
+/// Sweeps after a change: removes the ordinary links whose controlling stream doesn't exist, and then everything that
+/// belongs to streams that don't exist. Requires that each stream that doesn't exist, but to which something still
+/// belongs, is in `touched`. Replies with the messages that were dropped since room was reserved.
 pub fn sweep_and_reply(drivers: &[DriverSpec], lists: &mut Lists, room: &mut SweepReserve) -> Reply
     requires kept { KeepsHolds lists.old }
     requires known { AreControllingKnown drivers.now lists.old.links.links }
@@ -179,6 +162,7 @@ pub fn sweep_and_reply(drivers: &[DriverSpec], lists: &mut Lists, room: &mut Swe
     ensures kept { KeepsHolds lists.new }
     ensures drivers { sizes_of lists.new ≡ sizes_of lists.old }
 {
-    sweep(drivers, lists, room);
+    drop_orphans(drivers, lists, room);
+    drop_dead(lists, &room.seen, &mut room.dropped);
     name_dropped(&mut room.dropped)
 }

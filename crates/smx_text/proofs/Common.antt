@@ -32,5 +32,5 @@ pub use Rattle.smx_text.specs.TranscriptLines.{TranscriptLine}
 pub use Rattle.smx_text.specs.TranscriptText.{transcript_grammar, view_body}
 pub use Rattle.smx_text.specs.declared.text_fault.Cause.{Cause}
 pub use Rattle.smx_text.specs.declared.text_fault.TextFault.{TextFault}
-pub use Rattle.smx_text.specs.declared.transcript.draft.Stage.{Stage}
-pub use Rattle.smx_text.specs.declared.transcript.draft.TranscriptDraft.{TranscriptDraft}
+pub use Rattle.smx_text.specs.declared.transcript.Stage.{Stage}
+pub use Rattle.smx_text.specs.declared.transcript.TranscriptDraft.{TranscriptDraft}

@@ -2,7 +2,7 @@
 use Rattle.smx_text.proofs.Common.{MAX_COMMANDS, Transcript, ConfigView, Stage, TranscriptDraft, lines}
 use Rattle.smx_text.proofs.Common.{TranscriptLine, most_drivers, Version}
 use Rattle.std.specs.Prelude.{◌≡◌, ◌≤◌, ℕ, Bool, true, false, ◌&&◌, ◌==◌, nat_le, List, [], ◌∷◌, ◌++◌, length}
-use Rattle.smx_text.specs.declared.transcript.draft.Stage.TheVariants as stage
+use Rattle.smx_text.specs.declared.transcript.Stage.TheVariants as stage
 use Rattle.smx_text.specs.Drafts.{is_view, takes_fds, takes_links, takes_binds, takes_routes, takes_msgs, takes_fulls}
 use Rattle.smx_text.specs.Drafts.{takes_hungs}
 use Rattle.smx_text.specs.TranscriptLines as line

@@ -10,7 +10,7 @@ use Rattle.smx_types.specs.declared.view.FullLine.{FullLine}
 use Rattle.smx_types.specs.declared.view.LinkLine.{LinkLine}
 use Rattle.smx_types.specs.declared.view.MessageLine.{MessageLine}
 use Rattle.smx_types.specs.declared.view.RouteLine.{RouteLine}
-use Rattle.smx_text.specs.declared.transcript.draft.Stage.TheVariants as stage
+use Rattle.smx_text.specs.declared.transcript.Stage.TheVariants as stage
 use Rattle.smx_text.specs.Drafts.{is_view}
 use Rattle.smx_text.specs.TranscriptLines as line
 use Rattle.smx_text.specs.TranscriptText.{FitsLine, body}

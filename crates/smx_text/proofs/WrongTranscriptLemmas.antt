@@ -15,7 +15,7 @@ use Rattle.smx_words.proofs.DecidedCommandLemmas.{command_has_words, entry_has_w
 use Rattle.smx_words.proofs.DecidedLemmas.{by_line, refused}
 use Rattle.smx_words.proofs.DecidedWordLemmas.{name, number, process}
 use Rattle.smx_text.specs.declared.text_fault.Cause.TheVariants as cause
-use Rattle.smx_text.specs.declared.transcript.draft.Stage.TheVariants as stage
+use Rattle.smx_text.specs.declared.transcript.Stage.TheVariants as stage
 use Rattle.smx_text.specs.TranscriptLines as line
 use Rattle.smx_text.specs.TranscriptText.{FitsLine, line_words}
 use Rattle.smx_text.specs.WorkedFaults.{IsWrongTranscript, with_drivers, with_line_3, with_line_5}

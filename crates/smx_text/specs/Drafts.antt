@@ -5,9 +5,9 @@ use Rattle.smx_types.specs.declared.command.Command.{Command}
 use Rattle.smx_types.specs.declared.limits.TheConstants.{MAX_COMMANDS}
 use Rattle.smx_types.specs.declared.transcript.Transcript.{Transcript}
 use Rattle.smx_types.specs.declared.view.ConfigView.{ConfigView}
-use Rattle.smx_text.specs.declared.transcript.draft.Stage.{Stage}
-use Rattle.smx_text.specs.declared.transcript.draft.Stage.TheVariants as stage
-use Rattle.smx_text.specs.declared.transcript.draft.TranscriptDraft.{TranscriptDraft}
+use Rattle.smx_text.specs.declared.transcript.Stage.{Stage}
+use Rattle.smx_text.specs.declared.transcript.Stage.TheVariants as stage
+use Rattle.smx_text.specs.declared.transcript.TranscriptDraft.{TranscriptDraft}
 use Rattle.smx_text.specs.Grammar.{Grammar}
 use Rattle.smx_text.specs.TranscriptLines.{TranscriptLine}
 use Rattle.smx_text.specs.TranscriptLines as line

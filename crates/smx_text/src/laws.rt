@@ -14,17 +14,23 @@ ghost use Rattle.smx_text.specs.TranscriptText.{IsAllowed as TranscriptIsAllowed
 ghost use Rattle.smx_text.specs.Grammar.{IsFault, ReadsAny, last_line};
 ghost use Rattle.smx_text.specs.ProgramsText.{IsAllowed, SpellsPrograms, programs_grammar, programs_text};
 
-/// The text that `write_programs` writes is read as the same programs, unless memory runs out.
+/// A text that was written is read as the same value, unless memory runs out. `write_programs` writes the text of any
+/// programs, `write_transcript` that of a transcript within the limits.
 pub fn written_is_read()
-    ensures { (v : ProgramLists) (r : Result ProgramLists TextFault)
+    ensures programs { (v : ProgramLists) (r : Result ProgramLists TextFault)
         → IsAllowed v.version v → ReadsAny programs_grammar (programs_text v) r
         → MatchResult r (λ w. w ≡ v) (λ f. f.cause ≡ NoMemory) }
+    ensures transcripts { (t : Transcript) (r : Result Transcript TextFault)
+        → TranscriptIsAllowed t.version t → ReadsAny transcript_grammar (transcript_text t) r
+        → MatchResult r (λ u. u ≡ t) (λ f. f.cause ≡ NoMemory) }
 {}
 
-/// If a text is read as some programs, then it is the text that is written for these programs.
+/// If a text is read as some value, then it is the text that is written for this value.
 pub fn read_is_written()
-    ensures { (bytes : List ℕ) (v : ProgramLists)
+    ensures programs { (bytes : List ℕ) (v : ProgramLists)
         → ReadsAny programs_grammar bytes (Ok v) → bytes ≡ programs_text v }
+    ensures transcripts { (bytes : List ℕ) (t : Transcript)
+        → ReadsAny transcript_grammar bytes (Ok t) → bytes ≡ transcript_text t }
 {}
 
 /// Two readings of one text have the same result, including the fault and its line, unless memory runs out.
@@ -34,33 +40,31 @@ pub fn one_text_has_one_reading()
         → IfErr r (λ f. f.cause ≢ NoMemory) → IfErr s (λ f. f.cause ≢ NoMemory) → r ≡ s }
 {}
 
+/// Two readings of one text have the same result, including the fault and its line, unless memory runs out.
+pub fn one_transcript_has_one_reading()
+    ensures { (bytes : List ℕ) (r s : Result Transcript TextFault)
+        → ReadsAny transcript_grammar bytes r → ReadsAny transcript_grammar bytes s
+        → IfErr r (λ f. f.cause ≢ NoMemory) → IfErr s (λ f. f.cause ≢ NoMemory) → r ≡ s }
+{}
+
 /// For any bytes, there is a result other than out of memory that a reader may return.
 pub fn each_text_has_a_reading()
-    ensures { (bytes : List ℕ) → (r : Result ProgramLists TextFault)
+    ensures programs { (bytes : List ℕ) → (r : Result ProgramLists TextFault)
         × ReadsAny programs_grammar bytes r × IfErr r (λ f. f.cause ≢ NoMemory) }
+    ensures transcripts { (bytes : List ℕ) → (r : Result Transcript TextFault)
+        × ReadsAny transcript_grammar bytes r × IfErr r (λ f. f.cause ≢ NoMemory) }
 {}
 
 /// If a text has a fault, a reader may report out of memory only at an earlier line. So a reader that gets as far as
-/// the line of the fault reports the fault, and not out of memory. If a text spells some programs, a reader may report
-/// out of memory only at a line before `end`.
+/// the line of the fault reports the fault, and not out of memory. If a text spells a value, a reader may report out of
+/// memory only at a line before `end`.
 pub fn want_of_memory_comes_before()
-    ensures { (version : Version) (bytes : List ℕ) (line : ℕ) (r : Result ProgramLists TextFault)
+    ensures programs { (version : Version) (bytes : List ℕ) (line : ℕ) (r : Result ProgramLists TextFault)
         → IsFault (programs_grammar version) bytes line NoMemory → ReadsAny programs_grammar bytes r
         → IfErr r (λ f. f.cause ≢ NoMemory) → line < last_line (programs_grammar version) r }
-{}
-
-/// The text that `write_transcript` writes for a transcript within the limits is read as the same transcript, unless
-/// memory runs out.
-pub fn transcript_written_is_read()
-    ensures { (t : Transcript) (r : Result Transcript TextFault)
-        → TranscriptIsAllowed t.version t → ReadsAny transcript_grammar (transcript_text t) r
-        → MatchResult r (λ u. u ≡ t) (λ f. f.cause ≡ NoMemory) }
-{}
-
-/// If a text is read as a transcript, then it is the text that is written for this transcript.
-pub fn transcript_read_is_written()
-    ensures { (bytes : List ℕ) (t : Transcript)
-        → ReadsAny transcript_grammar bytes (Ok t) → bytes ≡ transcript_text t }
+    ensures transcripts { (version : Version) (bytes : List ℕ) (line : ℕ) (r : Result Transcript TextFault)
+        → IsFault (transcript_grammar version) bytes line NoMemory → ReadsAny transcript_grammar bytes r
+        → IfErr r (λ f. f.cause ≢ NoMemory) → line < last_line (transcript_grammar version) r }
 {}
 
 /// A transcript is allowed in its version exactly if it is within the limits of the version, all of it can be spelled,
@@ -72,28 +76,6 @@ pub fn allowed_transcripts_can_be_spelled()
     ensures allowed { (version : Version) (t : Transcript)
         → t.version ≡ version → length t.drivers ≤ most_drivers version → length t.entries ≤ MAX_COMMANDS
         → IsSpellable t → (version ≡ V1 → least_of_transcript t ≡ V1) → TranscriptIsAllowed version t }
-{}
-
-/// Two readings of one text have the same result, including the fault and its line, unless memory runs out.
-pub fn one_transcript_has_one_reading()
-    ensures { (bytes : List ℕ) (r s : Result Transcript TextFault)
-        → ReadsAny transcript_grammar bytes r → ReadsAny transcript_grammar bytes s
-        → IfErr r (λ f. f.cause ≢ NoMemory) → IfErr s (λ f. f.cause ≢ NoMemory) → r ≡ s }
-{}
-
-/// For any bytes, there is a result other than out of memory that a reader may return.
-pub fn each_transcript_has_a_reading()
-    ensures { (bytes : List ℕ) → (r : Result Transcript TextFault)
-        × ReadsAny transcript_grammar bytes r × IfErr r (λ f. f.cause ≢ NoMemory) }
-{}
-
-/// If a text has a fault, a reader may report out of memory only at an earlier line. So a reader that gets as far as
-/// the line of the fault reports the fault, and not out of memory. If a text spells a transcript, a reader may report
-/// out of memory only at a line before `end`.
-pub fn transcript_want_of_memory_comes_before()
-    ensures { (version : Version) (bytes : List ℕ) (line : ℕ) (r : Result Transcript TextFault)
-        → IsFault (transcript_grammar version) bytes line NoMemory → ReadsAny transcript_grammar bytes r
-        → IfErr r (λ f. f.cause ≢ NoMemory) → line < last_line (transcript_grammar version) r }
 {}
 
 /// If bytes spell programs, these are within the limits. If bytes spell a transcript, it has at most 100,000 entries.

@@ -6,7 +6,6 @@ mod programs;
 mod reading;
 mod text_fault;
 mod transcript;
-mod transcript_pieces;
 pub mod worked_texts;
 mod write;
 
@@ -23,5 +22,7 @@ pub use smx_types::{
 };
 pub use text_fault::{Cause, TextFault};
 pub use transcript::read_transcript;
-pub use transcript_pieces::{add_entry_line, finish_transcript, transcript_opening, write_view};
-pub use write::{write_programs, write_transcript};
+pub use write::{
+    add_entry_line, finish_transcript, transcript_opening, write_programs, write_transcript,
+    write_view,
+};

@@ -3,8 +3,7 @@
 ghost use Rattle.std.specs.Prelude.{◌≡◌, ◌≢◌, ◌<◌, ◌-◌, ◌^◌, ◌∷◌, ◌++◌, [], List, codes};
 ghost use Rattle.std.specs.Prelude.{IfOk, IfErr, MatchOption, OnOk};
 ghost use Rattle.smx_types.specs.declared.version.Version.{Version as AnyVersion};
-ghost use Rattle.smx_text.specs.Grammar.{Grammar, IsBegun, IsOneLine, IsFault, ReadsAny, header};
-ghost use Rattle.smx_text.specs.Grammar.{line_text};
+ghost use Rattle.smx_text.specs.Grammar.{Grammar, IsBegun, IsOneLine, IsFault, ReadsAny, header, line_text};
 ghost use Rattle.smx_words.specs.Words.{LINE_FEED};
 ghost use Rattle.smx_text.specs.Reading.{AnswersText, EndsAs, EndsText};
 

@@ -1,6 +1,7 @@
 //! Why a text is refused.
 
-ghost use Rattle.std.specs.Prelude.{◌≡◌};
+ghost use Rattle.std.specs.Prelude.{◌≡◌, Some};
+ghost use Rattle.smx_text.specs.FaultWords.{cause_words, text_fault_words};
 ghost use Rattle.smx_text.specs.declared.text_fault.Cause.TheVariants.{NoMemory as memory};
 
 use smx_types::NoMemory;
@@ -58,9 +59,6 @@ impl From<NoMemory> for Cause {
 }
 
 impl fmt::Display for Cause {
-    ghost use Rattle.std.specs.Prelude.{Some};
-    ghost use Rattle.smx_text.specs.FaultWords.{cause_words};
-
     ghost output = { λ cause. Some (cause_words cause) };
 
     fn fmt<W: fmt::Write>(&self, f: &mut fmt::Formatter<W>) -> fmt::Result {
@@ -76,9 +74,6 @@ impl fmt::Display for Cause {
 }
 
 impl fmt::Display for TextFault {
-    ghost use Rattle.std.specs.Prelude.{Some};
-    ghost use Rattle.smx_text.specs.FaultWords.{text_fault_words};
-
     ghost output = { λ fault. Some (text_fault_words fault) };
 
     fn fmt<W: fmt::Write>(&self, f: &mut fmt::Formatter<W>) -> fmt::Result {

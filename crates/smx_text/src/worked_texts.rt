@@ -60,10 +60,8 @@ pub fn wrong_programs()
     ensures out_of_turn { AreWrongPrograms (with_line_4 (codes "process 2")) 4 Form }
     ensures late_driver { AreWrongPrograms (with_line_4 (codes "driver eth leaf 2 8 3 16")) 4 Form }
     ensures no_process { AreWrongPrograms (codes "programs 1\nclone ip\nend\n") 2 Form }
-    ensures no_end { AreWrongPrograms
-        (codes "programs 1\ndriver ip mux 4 8 3 16\nprocess 0\nclone ip\n") 5 Cut }
-    ensures cut_line { AreWrongPrograms
-        (codes "programs 1\ndriver ip mux 4 8 3 16\nprocess 0\nclone ip") 4 Cut }
+    ensures no_end { AreWrongPrograms (codes "programs 1\ndriver ip mux 4 8 3 16\nprocess 0\nclone ip\n") 5 Cut }
+    ensures cut_line { AreWrongPrograms (codes "programs 1\ndriver ip mux 4 8 3 16\nprocess 0\nclone ip") 4 Cut }
     ensures process_65 { AreWrongPrograms (with_processes 65) 67 Many }
     ensures a_space_behind { AreWrongPrograms (codes "programs 1\nprocess 0\nend\n ") 4 Trailing }
 {}

@@ -3,14 +3,9 @@
 #![tactic(auto)]
 
 mod changes;
-mod configurations;
-pub mod laws_of_replays;
-pub mod laws_of_traces;
-pub mod laws_of_waits;
-mod missing;
+pub mod laws;
 mod moves;
 mod pieces;
-mod prefix;
 mod queues;
 mod ranks;
 mod reasons;
@@ -18,7 +13,6 @@ mod replaying;
 mod tracing;
 
 pub use changes::write_changes;
-pub use prefix::first_entries;
 pub use queues::write_waits;
-pub use replaying::replay;
+pub use replaying::{first_entries, replay};
 pub use tracing::{trace, trace_entry};

@@ -7,8 +7,7 @@ ghost use Rattle.smx_model.specs.Changes as change;
 ghost use Rattle.smx_trace.specs.Serials.{AreSerialsApart, FindsBySerial, same_line};
 ghost use Rattle.smx_trace.specs.TraceWords.{changes_text, marked, moved_words};
 
-use crate::missing::write_marked;
-use crate::pieces::{put, put_number, put_place_words};
+use crate::pieces::{put, put_number, put_place_words, write_marked};
 use indexmap::IndexMap;
 use smx_text::Same;
 use smx_types::{MessageLine, NoMemory};
@@ -29,7 +28,6 @@ fn index_of(alloc: Global, lines: &[MessageLine]) -> Result<IndexMap<u32, usize>
     Ok(index)
 }
 
-// Returns the line with this serial, if there is one.
 fn with_serial<'a>(
     index: &IndexMap<u32, usize>,
     lines: &'a [MessageLine],
@@ -103,13 +101,8 @@ fn write_arrival(
 {
     match with_serial(index, before, line.message.serial) {
         None => write_marked(out, b"  + ", line),
-        Some(was) => {
-            if was.is_same(line) {
-                Ok(())
-            } else {
-                write_moved(out, was, line)
-            }
-        }
+        Some(was) if was.is_same(line) => Ok(()),
+        Some(was) => write_moved(out, was, line),
     }
 }
 

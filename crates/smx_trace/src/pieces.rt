@@ -5,10 +5,11 @@ ghost use Rattle.std.specs.Fmt.{decimal};
 ghost use Rattle.smx_model.specs.DriverList.{name_of};
 ghost use Rattle.smx_words.specs.Spelling.{side_word};
 ghost use Rattle.smx_words.specs.Words.{line_of};
-ghost use Rattle.smx_trace.specs.TraceWords.{place_words, stream_words};
+ghost use Rattle.smx_trace.specs.TraceWords.{marked, place_words, stream_words};
 
 use itoa::Buffer;
 use smx_types::{DriverSpec, NoMemory, Place, Side, StreamId};
+use smx_words::Spell;
 
 /// Appends these bytes.
 pub fn put(out: &mut Vec<u8>, text: &[u8]) -> Result<(), NoMemory>
@@ -25,7 +26,6 @@ pub fn put_number(out: &mut Vec<u8>, number: u32) -> Result<(), NoMemory>
     put(out, Buffer::new().format(number).as_bytes())
 }
 
-// Returns the word of a side.
 fn word_of_side(side: Side) -> &'static [u8]
     ensures { result.now ≡ side_word side }
 {
@@ -82,4 +82,13 @@ pub fn put_place(out: &mut Vec<u8>, drivers: &[DriverSpec], place: Place) -> Res
     put_stream(out, drivers, place.stream)?;
     put(out, b" ")?;
     put(out, word_of_side(place.side))
+}
+
+/// Appends a mark, and then the line. Fails only if out of memory.
+pub fn write_marked<T: Spell>(out: &mut Vec<u8>, mark: &[u8], line: &T) -> Result<(), NoMemory>
+    ensures { OnOk result (out.new.items ≡ out.old.items ++ marked mark.now (T.words line.now)) }
+{
+    put(out, mark)?;
+    line.write_line(out)?;
+    Ok(())
 }

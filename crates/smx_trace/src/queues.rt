@@ -13,8 +13,7 @@ ghost use Rattle.smx_trace.specs.Traces.{queue_lines, trace_lines_text};
 
 use crate::reasons::write_wait;
 use smx_config::Config;
-use smx_tables::comparisons::same_side;
-use smx_tables::driver_specs::driver_of;
+use smx_tables::{driver_of, same_side};
 use smx_types::{DriverSpec, MessageLine, NoMemory, Place, StreamId};
 use smx_words::Spell;
 
@@ -32,7 +31,6 @@ fn begin_with_place(lines: &[MessageLine], line: &MessageLine) -> bool
     }
 }
 
-// Returns the place of a queued message.
 fn place_of(drivers: &[DriverSpec], line: &MessageLine) -> Option<Place>
     ensures { (h : Queued) → IsDriverList drivers.now → IsKnown drivers.now h.place.stream
         → line.now ≡ view_of_message drivers.now h → result ≡ Some h.place }
@@ -49,8 +47,7 @@ fn place_of(drivers: &[DriverSpec], line: &MessageLine) -> Option<Place>
     Some(Place { stream, side })
 }
 
-// Appends the `waits` line of the queue of `line`, unless `rest` has more messages of this queue. Fails only if out of
-// memory.
+// Appends the `waits` line of the queue of `line`, unless `rest` has more messages of this queue.
 fn write_wait_of_last(
     out: &mut Vec<u8>,
     config: &Config,

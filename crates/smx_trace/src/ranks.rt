@@ -1,10 +1,11 @@
 //! The order in which a view lists the lines of one kind.
 
-ghost use Rattle.std.specs.Prelude.{◌≡◌, ◌<◌};
+ghost use Rattle.std.specs.Prelude.{◌≡◌, ◌<◌, ℕ, List};
+ghost use Rattle.smx_types.specs.declared.driver.DriverSpec.{DriverSpec as AnyDriver};
 ghost use Rattle.smx_model.specs.Configuration.{pair_before};
-ghost use Rattle.smx_trace.specs.Ranks.{number_of};
+ghost use Rattle.smx_trace.specs.Ranks.{bind_rank, fd_rank, full_rank, hung_rank, link_rank, number_of, route_rank};
 
-use smx_tables::driver_specs::driver_of;
+use smx_tables::driver_of;
 use smx_text::Same;
 use smx_types::{
     BindingLine, DescriptorLine, DriverSpec, FullLine, HungLine, LinkLine, Name, RouteLine, Side,
@@ -14,9 +15,6 @@ use smx_words::Spell;
 /// A kind of line. Each line of this kind has two numbers. A view lists the lines in rising order of the first number.
 /// It lists lines with the same first number in rising order of the second.
 pub trait Ranked: Same + Spell {
-    ghost use Rattle.std.specs.Prelude.{◌≡◌, ℕ, List};
-    ghost use Rattle.smx_types.specs.declared.driver.DriverSpec.{DriverSpec as AnyDriver};
-
     ghost rank: { List AnyDriver → Self → ℕ × ℕ };
 
     /// Returns the two numbers of the line. `drivers` are the drivers of the view.
@@ -42,8 +40,6 @@ fn number_of(drivers: &[DriverSpec], name: &Name) -> u64
 }
 
 impl Ranked for DescriptorLine {
-    ghost use Rattle.smx_trace.specs.Ranks.{fd_rank};
-
     ghost rank = { fd_rank };
 
     fn rank_of(&self, _drivers: &[DriverSpec]) -> (u64, u64) {
@@ -52,8 +48,6 @@ impl Ranked for DescriptorLine {
 }
 
 impl Ranked for LinkLine {
-    ghost use Rattle.smx_trace.specs.Ranks.{link_rank};
-
     ghost rank = { link_rank };
 
     fn rank_of(&self, _drivers: &[DriverSpec]) -> (u64, u64) {
@@ -62,8 +56,6 @@ impl Ranked for LinkLine {
 }
 
 impl Ranked for BindingLine {
-    ghost use Rattle.smx_trace.specs.Ranks.{bind_rank};
-
     ghost rank = { bind_rank };
 
     fn rank_of(&self, drivers: &[DriverSpec]) -> (u64, u64) {
@@ -72,8 +64,6 @@ impl Ranked for BindingLine {
 }
 
 impl Ranked for RouteLine {
-    ghost use Rattle.smx_trace.specs.Ranks.{route_rank};
-
     ghost rank = { route_rank };
 
     fn rank_of(&self, drivers: &[DriverSpec]) -> (u64, u64) {
@@ -82,8 +72,6 @@ impl Ranked for RouteLine {
 }
 
 impl Ranked for FullLine {
-    ghost use Rattle.smx_trace.specs.Ranks.{full_rank};
-
     ghost rank = { full_rank };
 
     fn rank_of(&self, drivers: &[DriverSpec]) -> (u64, u64) {
@@ -99,8 +87,6 @@ impl Ranked for FullLine {
 }
 
 impl Ranked for HungLine {
-    ghost use Rattle.smx_trace.specs.Ranks.{hung_rank};
-
     ghost rank = { hung_rank };
 
     fn rank_of(&self, drivers: &[DriverSpec]) -> (u64, u64) {

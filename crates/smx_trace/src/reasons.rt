@@ -11,10 +11,9 @@ ghost use Rattle.smx_trace.specs.Traces.{trace_lines_text, wait_line};
 
 use crate::pieces::{put, put_name, put_number, put_place, put_stream};
 use smx_config::Config;
-use smx_tables::driver_specs::is_mux;
+use smx_tables::is_mux;
 use smx_types::{DriverSpec, NoMemory, Place, Side, StreamId};
 
-// Appends that the stream has hung up.
 fn put_hung(out: &mut Vec<u8>, drivers: &[DriverSpec], stream: StreamId) -> Result<(), NoMemory>
     ensures { OnOk result (out.new.items
         ≡ out.old.items ++ line_of (reason_words drivers.now (reason.HungStream stream))) }

@@ -1,18 +1,30 @@
-//! Makes the text of a replay from a transcript.
+//! Makes the text of a replay from a transcript, or from its first entries.
 
-ghost use Rattle.std.specs.Prelude.{◌∷◌, ◌++◌, [], List, IfOk, IfErr, OnOk};
+ghost use Rattle.std.specs.Prelude.{◌≡◌, ◌∷◌, ◌++◌, [], List, IfOk, IfErr, OnOk};
 ghost use Rattle.smx_types.specs.declared.command.Entry.{Entry as AnyEntry};
 ghost use Rattle.smx_types.specs.declared.driver.DriverSpec.{DriverSpec as AnyDriver};
-ghost use Rattle.smx_types.specs.declared.view.ConfigView.{ConfigView as AnyView};
 ghost use Rattle.smx_config.specs.DriverFaults.{RefusesDrivers};
-ghost use Rattle.smx_text.specs.GrowingTranscripts.{transcript_with};
 ghost use Rattle.smx_trace.specs.Answers.{HasCome};
+ghost use Rattle.smx_trace.specs.Prefixes.{first_entries};
 ghost use Rattle.smx_trace.specs.Replays.{IsReplayText};
 
 use smx_config::{Config, ConfigFault};
 use smx_text::{add_entry_line, finish_transcript};
-use smx_types::{DriverSpec, Entries, Entry, NoMemory, Transcript, Version};
+use smx_types::{Entries, Entry, NoMemory, Transcript};
 use std::alloc::Global;
+
+/// Returns the transcript with only its first `count` entries, or with all of them if it has fewer. The view is
+/// unchanged; a replay ignores it. Does not allocate.
+pub fn first_entries(transcript: Transcript, count: usize) -> Transcript
+    ensures { result ≡ first_entries count transcript }
+{
+    let mut entries = transcript.entries.into_vec();
+    entries.truncate(count);
+    Transcript {
+        entries: Entries::from_vec(entries),
+        ..transcript
+    }
+}
 
 /// Performs the commands of a transcript, each for its process, in order, starting with the empty configuration.
 /// Ignores the replies and the configuration that the transcript has. Returns the text of the transcript that results,
@@ -28,29 +40,14 @@ pub fn replay(alloc: Global, transcript: Transcript, room: Vec<u8>) -> Result<Ve
         entries,
         ..
     } = transcript;
-    replay_entries(alloc, version, drivers.as_slice(), entries, room)
-}
-
-// Replays these entries over these drivers, as `replay` does with those of a transcript.
-fn replay_entries(
-    alloc: Global,
-    version: Version,
-    drivers: &[DriverSpec],
-    entries: Entries,
-    room: Vec<u8>,
-) -> Result<Vec<u8>, ConfigFault>
-    ensures written { (shown : AnyView)
-        → IfOk result (λ text. IsReplayText (transcript_with version drivers.now entries shown) text.items) }
-    ensures refused { IfErr result (RefusesDrivers drivers.now) }
-{
+    let drivers = drivers.as_slice();
     let mut config = Config::new(alloc, drivers)?;
     let lines = perform_all(&mut config, entries, room)?;
     let view = config.into_view()?;
     Ok(finish_transcript(lines, version, drivers, &view)?)
 }
 
-// Performs the commands of all entries. Returns the lines of the entries, each with its new reply. Fails only if it is
-// out of memory.
+// Performs the commands of all entries. Returns the lines of the entries, each with its new reply.
 fn perform_all(config: &mut Config, entries: Entries, room: Vec<u8>) -> Result<Vec<u8>, NoMemory>
     ensures { IfOk result (λ lines. (drivers : List AnyDriver) → HasCome drivers [] config.old []
         → HasCome drivers entries config.new lines.items) }
@@ -63,8 +60,7 @@ fn perform_all(config: &mut Config, entries: Entries, room: Vec<u8>) -> Result<V
     Ok(lines)
 }
 
-// Performs the command of an entry, and appends the line of the entry with its new reply. Fails only if it is out of
-// memory.
+// Performs the command of an entry, and appends the line of the entry with its new reply.
 fn perform_again(config: &mut Config, entry: &Entry, lines: &mut Vec<u8>) -> Result<(), NoMemory>
     ensures { OnOk result ((drivers : List AnyDriver) (asked : List AnyEntry)
         → HasCome drivers asked config.old lines.old.items

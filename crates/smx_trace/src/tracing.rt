@@ -2,22 +2,19 @@
 
 ghost use Rattle.std.specs.Prelude.{◌≡◌, ℕ, ◌++◌, [], List, IfOk, IfErr, OnOk, if◌then◌else◌};
 ghost use Rattle.smx_types.specs.declared.driver.DriverSpec.{DriverSpec as AnyDriver};
-ghost use Rattle.smx_types.specs.declared.view.ConfigView.{ConfigView as AnyView};
 ghost use Rattle.smx_model.specs.Waits.{waits};
 ghost use Rattle.smx_config.specs.DriverFaults.{RefusesDrivers};
-ghost use Rattle.smx_text.specs.GrowingTranscripts.{transcript_with};
 ghost use Rattle.smx_trace.specs.TraceWords.{waits_text};
-ghost use Rattle.smx_trace.specs.Traces.{IsTraceText};
+ghost use Rattle.smx_trace.specs.Traces.{IsTraceText, config_lines, trace_lines_text};
 ghost use Rattle.smx_trace.specs.Tracing.{HasTraced, IsNow, TracesEntry};
 
 use crate::changes::write_changes;
-use crate::configurations::write_configuration;
 use crate::pieces::put;
-use crate::queues::write_waits;
+use crate::queues::{write_queues, write_waits};
 use smx_config::{Config, ConfigFault};
 use smx_text::transcript_opening;
-use smx_types::{ConfigView, DriverSpec, Entries, Entry, NoMemory, Transcript, Version};
-use smx_words::write_entry;
+use smx_types::{ConfigView, Entries, Entry, NoMemory, Transcript};
+use smx_words::{write_entry, write_lines, write_next};
 use std::alloc::Global;
 
 /// Performs the commands of a transcript as `replay` does. Returns the text of the transcript that results, with more
@@ -41,22 +38,7 @@ pub fn trace(
         entries,
         ..
     } = transcript;
-    trace_entries(alloc, version, drivers.as_slice(), entries, each, room)
-}
-
-// Traces these entries over these drivers, as `trace` does with those of a transcript.
-fn trace_entries(
-    alloc: Global,
-    version: Version,
-    drivers: &[DriverSpec],
-    entries: Entries,
-    each: bool,
-    room: Vec<u8>,
-) -> Result<Vec<u8>, ConfigFault>
-    ensures written { (shown : AnyView)
-        → IfOk result (λ text. IsTraceText each (transcript_with version drivers.now entries shown) text.items) }
-    ensures refused { IfErr result (RefusesDrivers drivers.now) }
-{
+    let drivers = drivers.as_slice();
     let mut config = Config::new(alloc, drivers)?;
     let mut text = transcript_opening(room, version, drivers)?;
     let view = trace_all(alloc, &mut config, entries, each, &mut text)?;
@@ -126,4 +108,28 @@ fn write_wanted_waits(
         return Ok(());
     }
     write_waits(text, config, view.msgs.as_slice())
+}
+
+// Appends the lines of the configuration, beginning with the line `config`. After the lines of each queue comes its
+// `waits` line, indented by two spaces. `view` must be the view of the configuration. Fails only if out of memory;
+// `out` may then contain some of the lines.
+fn write_configuration(
+    out: &mut Vec<u8>,
+    config: &Config,
+    view: &ConfigView,
+) -> Result<(), NoMemory>
+    requires { IsNow config.now view.now }
+    ensures { OnOk result (out.new.items ≡ out.old.items
+        ++ trace_lines_text config.now.drivers (config_lines config.now.drivers config.now.configuration)) }
+{
+    put(out, b"config\n")?;
+    write_next(out, view.next_id, view.next_serial)?;
+    write_lines(out, view.fds.as_slice())?;
+    write_lines(out, view.links.as_slice())?;
+    write_lines(out, view.binds.as_slice())?;
+    write_lines(out, view.routes.as_slice())?;
+    write_queues(out, config, view.msgs.as_slice())?;
+    write_lines(out, view.fulls.as_slice())?;
+    write_lines(out, view.hungs.as_slice())?;
+    Ok(())
 }

@@ -3,12 +3,11 @@
 ghost use Rattle.std.specs.Prelude.{◌≡◌, IfOk};
 ghost use Rattle.smx_types.specs.Versions.{is_hangup, is_of_hangup};
 
-use crate::items::{Copied, Items};
-use crate::memory::NoMemory;
+use crate::items::{Copied, Items, NoMemory};
 use crate::message::Bytes;
 use crate::name::Name;
-use crate::process::Process;
 use crate::reply::Reply;
+use crate::stream::Process;
 use std::alloc::Global;
 
 /// The links that `Unlink` or `Punlink` removes.
@@ -219,12 +218,10 @@ impl Entry {
     pub fn copy(&self, alloc: Global) -> Result<Entry, NoMemory>
         ensures { IfOk result (λ c. c ≡ self.now) }
     {
-        let command = self.command.copy(alloc)?;
-        let reply = self.reply.copy(alloc)?;
         Ok(Entry {
             process: self.process,
-            command,
-            reply,
+            command: self.command.copy(alloc)?,
+            reply: self.reply.copy(alloc)?,
         })
     }
 }

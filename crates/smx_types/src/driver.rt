@@ -1,13 +1,12 @@
 //! Driver specifications.
 
-ghost use Rattle.std.specs.Prelude.{◌≡◌};
+ghost use Rattle.std.specs.Prelude.{◌≡◌, Some};
 ghost use Rattle.smx_types.specs.Drivers.{spec_check};
+ghost use Rattle.smx_types.specs.FaultWords.{spec_fault_words};
 
-use crate::items::{Copied, Items};
+use crate::items::Items;
 use crate::limits::{MAX_HIGH, MAX_MESSAGE, MAX_MINORS};
-use crate::memory::NoMemory;
 use crate::name::Name;
-use std::alloc::Global;
 use std::fmt;
 
 /// Whether streams can be linked below a driver.
@@ -69,16 +68,7 @@ impl DriverSpec {
     }
 }
 
-impl Copied for DriverSpec {
-    fn copied(&self, _alloc: Global) -> Result<DriverSpec, NoMemory> {
-        Ok(*self)
-    }
-}
-
 impl fmt::Display for SpecFault {
-    ghost use Rattle.std.specs.Prelude.{Some};
-    ghost use Rattle.smx_types.specs.FaultWords.{spec_fault_words};
-
     ghost output = { λ fault. Some (spec_fault_words fault) };
 
     fn fmt<W: fmt::Write>(&self, f: &mut fmt::Formatter<W>) -> fmt::Result {

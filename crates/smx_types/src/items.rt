@@ -1,10 +1,40 @@
-//! The type of all lists in this crate: a `Vec` that contracts see as a list.
+//! The type of all lists in this crate: a `Vec` that contracts see as a list. Out of memory.
 
-ghost use Rattle.std.specs.Prelude.{◌≡◌, ◌++◌, ◌∷◌, [], IfOk, OnOk, OnErr};
+ghost use Rattle.std.specs.Prelude.{◌≡◌, ◌++◌, ◌∷◌, [], List, Some, IfOk, OnOk, OnErr};
+ghost use Rattle.std.specs.Cmp.Lexicographic.{pointwise};
+ghost use Rattle.std.specs.Cmp.Rules.{comparing};
+ghost use Rattle.std.proofs.Common.{rules};
+ghost use Rattle.smx_types.specs.FaultWords.{no_memory_words};
 
-use crate::memory::NoMemory;
-use std::alloc::{AllocError, Global};
+use std::alloc::{AllocError, AllocFailed, Global};
+use std::fmt;
 use std::marker::Model;
+
+/// An allocation failed. The contract of the call that returns `NoMemory` says what has then changed.
+#[derive(Clone, Copy, Debug, PartialEq, Eq)]
+pub struct NoMemory;
+
+impl From<AllocError> for NoMemory {
+    fn from(_e: AllocError) -> NoMemory {
+        NoMemory
+    }
+}
+
+impl<T: Drop> From<AllocFailed<T>> for NoMemory {
+    fn from(_e: AllocFailed<T>) -> NoMemory {
+        NoMemory
+    }
+}
+
+impl fmt::Display for NoMemory {
+    ghost output = { λ _. Some no_memory_words };
+
+    fn fmt<W: fmt::Write>(&self, f: &mut fmt::Formatter<W>) -> fmt::Result {
+        f.write_str("no memory")
+    }
+}
+
+impl std::error::Error for NoMemory {}
 
 /// Values that can be copied, unless memory runs out.
 pub trait Copied: Drop {
@@ -28,22 +58,12 @@ pub trait Copied: Drop {
     }
 }
 
-impl Copied for u8 {
-    fn copied(&self, _alloc: Global) -> Result<u8, NoMemory> {
+impl<T: Copy> Copied for T {
+    fn copied(&self, _alloc: Global) -> Result<T, NoMemory> {
         Ok(*self)
     }
 
-    fn copies(alloc: Global, items: &[u8]) -> Result<Vec<u8>, NoMemory> {
-        Ok(Vec::from_slice(alloc, items)?)
-    }
-}
-
-impl Copied for u32 {
-    fn copied(&self, _alloc: Global) -> Result<u32, NoMemory> {
-        Ok(*self)
-    }
-
-    fn copies(alloc: Global, items: &[u32]) -> Result<Vec<u32>, NoMemory> {
+    fn copies(alloc: Global, items: &[T]) -> Result<Vec<T>, NoMemory> {
         Ok(Vec::from_slice(alloc, items)?)
     }
 }
@@ -55,8 +75,6 @@ pub struct Items<T> {
 }
 
 impl<T> Model for Items<T> {
-    ghost use Rattle.std.specs.Prelude.{List};
-
     ghost Value = { List T };
 
     ghost view = { λ list. list.items.items };
@@ -129,8 +147,6 @@ impl<T: Copied> Copied for Items<T> {
 }
 
 impl Clone for Items<u8> {
-    ghost use Rattle.std.specs.Prelude.{◌≡◌};
-
     ghost is_clone = { λ list copy. copy ≡ list };
 
     fn clone(&self) -> Result<Items<u8>, AllocError> {
@@ -140,10 +156,6 @@ impl Clone for Items<u8> {
 }
 
 impl<T: PartialEq> PartialEq for Items<T> {
-    ghost use Rattle.std.specs.Cmp.Lexicographic.{pointwise};
-    ghost use Rattle.std.specs.Cmp.Rules.{comparing};
-    ghost use Rattle.std.proofs.Common.{rules};
-
     ghost eq = { λ a b. pointwise T.eq a b };
 
     ghost laws = { Prim.search (comparing, rules) };

@@ -6,10 +6,8 @@ mod driver;
 mod items;
 mod limits;
 mod link;
-mod memory;
 mod message;
 mod name;
-mod process;
 mod programs;
 mod reply;
 mod same;
@@ -20,20 +18,18 @@ mod view;
 
 pub use command::{Command, Commands, Entries, Entry, Sides, Which};
 pub use driver::{DriverKind, DriverSpec, Drivers, SpecFault};
-pub use items::{Copied, Items};
+pub use items::{Copied, Items, NoMemory};
 pub use limits::{
     MAX_COMMANDS, MAX_DESCRIPTORS, MAX_DRIVERS, MAX_DRIVERS_OF_VERSION_1, MAX_HIGH, MAX_LINKS,
     MAX_MESSAGE, MAX_MINORS, MAX_PROCESSES, NUMBER_END,
 };
 pub use link::{Binding, Link, LinkKind, Route};
-pub use memory::NoMemory;
 pub use message::{Bytes, Message, Messages, Serials};
 pub use name::Name;
-pub use process::Process;
 pub use programs::{Many, ProgramList, Programs};
 pub use reply::{Fault, Reply};
 pub use same::Same;
-pub use stream::{Descriptor, Place, Side, StreamId};
+pub use stream::{Descriptor, Place, Process, Side, StreamId};
 pub use transcript::Transcript;
 pub use version::Version;
 pub use view::{

@@ -2,8 +2,7 @@
 
 ghost use Rattle.std.specs.Prelude.{◌≡◌, IfOk};
 
-use crate::items::{Copied, Items};
-use crate::memory::NoMemory;
+use crate::items::{Copied, Items, NoMemory};
 use std::alloc::{AllocError, Global};
 
 /// The bytes of a message, in order.
@@ -30,25 +29,20 @@ impl Message {
     pub fn copy(&self, alloc: Global) -> Result<Message, NoMemory>
         ensures { IfOk result (λ c. c ≡ self.now) }
     {
-        let bytes = self.bytes.copy(alloc)?;
         Ok(Message {
-            serial: self.serial,
-            addr: self.addr,
-            bytes,
+            bytes: self.bytes.copy(alloc)?,
+            ..*self
         })
     }
 }
 
 impl Clone for Message {
-    ghost use Rattle.std.specs.Prelude.{◌≡◌};
-
     ghost is_clone = { λ message copy. copy ≡ message };
 
     fn clone(&self) -> Result<Message, AllocError> {
         Ok(Message {
-            serial: self.serial,
-            addr: self.addr,
             bytes: self.bytes.clone()?,
+            ..*self
         })
     }
 }

@@ -2,7 +2,9 @@
 
 ghost use Rattle.std.specs.Prelude.{◌≡◌, ◌≤◌, ◌↔◌, length, nat_eq, IsSome, IfSome, IsTrue};
 ghost use Rattle.std.specs.Cmp.Lexicographic.{pointwise};
+ghost use Rattle.std.specs.Cmp.Rules.{comparing};
 ghost use Rattle.std.specs.List.{list_all};
+ghost use Rattle.std.proofs.Common.{rules};
 ghost use Rattle.smx_types.specs.Names.{is_name_byte, is_name, padded};
 
 use std::marker::Model;
@@ -17,11 +19,10 @@ pub struct Name {
 
 impl Model for Name {
     ghost use Rattle.std.specs.Prelude.{ℕ, List, take, length};
+    ghost use Rattle.smx_types.specs.NameFields.{IsPadded, padded_view};
     ghost use Rattle.smx_types.specs.Names.{padded};
 
     ghost Value = { List ℕ };
-
-    ghost use Rattle.smx_types.specs.NameFields.{IsPadded, padded_view};
 
     ghost view = { λ n. take n.len n.bytes };
 
@@ -40,11 +41,6 @@ fn are_same(bytes: [u8; 8], others: [u8; 8]) -> bool
 }
 
 impl PartialEq for Name {
-    ghost use Rattle.std.specs.Prelude.{nat_eq};
-    ghost use Rattle.std.specs.Cmp.Lexicographic.{pointwise};
-    ghost use Rattle.std.specs.Cmp.Rules.{comparing};
-    ghost use Rattle.std.proofs.Common.{rules};
-
     ghost eq = { λ a b. pointwise nat_eq a b };
 
     ghost laws = { Prim.search (comparing, rules) };
@@ -55,9 +51,6 @@ impl PartialEq for Name {
 }
 
 impl Eq for Name {
-    ghost use Rattle.std.specs.Cmp.Rules.{comparing};
-    ghost use Rattle.std.proofs.Common.{rules};
-
     ghost laws = { Prim.search (comparing, rules) };
 }
 

@@ -1,17 +1,17 @@
 //! Drivers, and a program of commands for each process.
 
-ghost use Rattle.std.specs.Prelude.{◌≡◌, ◌≤◌, ◌<◌, ◌↔◌, length, IfOk, IfErr, IsOk, IsTrue};
+ghost use Rattle.std.specs.Prelude.{◌≡◌, ◌≤◌, ◌↔◌, length, Some, IfOk, IfErr, IsOk, IsTrue};
 ghost use Rattle.std.specs.List.{list_any, sum_by};
+ghost use Rattle.smx_types.specs.FaultWords.{many_words};
 ghost use Rattle.smx_types.specs.declared.limits.TheConstants.{MAX_COMMANDS};
-ghost use Rattle.smx_types.specs.ProgramLists.{program_lists, raised, AreWithinLimits};
+ghost use Rattle.smx_types.specs.ProgramLists.{program_lists, raised, AreWithinLimits, ProgramLists};
 ghost use Rattle.smx_types.specs.Versions.{is_hangup, least_of_programs};
 
 use crate::command::{Command, Commands};
 use crate::driver::{DriverSpec, Drivers};
-use crate::items::Items;
+use crate::items::{Items, NoMemory};
 use crate::limits::{MAX_COMMANDS, MAX_DRIVERS, MAX_PROCESSES};
-use crate::memory::NoMemory;
-use crate::version::{Version, are_more_drivers, version_2_where};
+use crate::version::Version;
 use std::alloc::Global;
 use std::fmt;
 use std::marker::Model;
@@ -40,9 +40,6 @@ impl Many {
 }
 
 impl fmt::Display for Many {
-    ghost use Rattle.std.specs.Prelude.{Some};
-    ghost use Rattle.smx_types.specs.FaultWords.{many_words};
-
     ghost output = { λ _. Some many_words };
 
     fn fmt<W: fmt::Write>(&self, f: &mut fmt::Formatter<W>) -> fmt::Result {
@@ -62,8 +59,6 @@ pub struct Programs {
 }
 
 impl Model for Programs {
-    ghost use Rattle.smx_types.specs.ProgramLists.{ProgramLists, AreWithinLimits};
-
     ghost Value = { ProgramLists };
 
     ghost view = { λ p. record { version = p.version; drivers = p.drivers; programs = p.programs } };
@@ -89,7 +84,7 @@ impl Programs {
         {
             return Err(Many { drivers, programs });
         }
-        let version = least_of(drivers.as_slice(), programs.as_slice());
+        let version = Version::least(drivers.as_slice(), hang_up(programs.as_slice()));
         Ok(Programs {
             version,
             drivers,
@@ -121,7 +116,7 @@ impl Programs {
     pub fn least(&self) -> Version
         ensures { result ≡ least_of_programs self.now.drivers self.now.programs }
     {
-        least_of(self.drivers.as_slice(), self.programs.as_slice())
+        Version::least(self.drivers.as_slice(), hang_up(self.programs.as_slice()))
     }
 
     /// Returns the drivers. Does not allocate.
@@ -154,11 +149,10 @@ impl Programs {
         ensures { IfOk result (λ c. c ≡ self.now) }
     {
         let drivers = self.drivers.copy(alloc)?;
-        let programs = self.programs.copy(alloc)?;
         Ok(Programs {
             version: self.version,
             drivers,
-            programs,
+            programs: self.programs.copy(alloc)?,
         })
     }
 }
@@ -176,13 +170,6 @@ fn are_few(programs: &[Commands]) -> bool
         room -= count;
     }
     true
-}
-
-// Returns the earliest version that can express these drivers and programs.
-fn least_of(drivers: &[DriverSpec], programs: &[Commands]) -> Version
-    ensures { result ≡ least_of_programs drivers.now programs.now }
-{
-    version_2_where(are_more_drivers(drivers) || hang_up(programs))
 }
 
 // Returns whether a command of some program is a hangup.

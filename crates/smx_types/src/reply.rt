@@ -3,8 +3,7 @@
 ghost use Rattle.std.specs.Prelude.{◌≡◌, IfOk};
 ghost use Rattle.smx_types.specs.Versions.{tells_of_hangup};
 
-use crate::items::Copied;
-use crate::memory::NoMemory;
+use crate::items::{Copied, NoMemory};
 use crate::message::{Bytes, Serials};
 use std::alloc::Global;
 

@@ -1,6 +1,10 @@
 //! The law of `==`: it decides whether two values are equal.
 
+ghost use Rattle.std.specs.Prelude.{◌≡◌, ◌↔◌, IsTrue};
+ghost use Rattle.std.specs.Cmp.Lexicographic.{pointwise_decides};
 ghost use Rattle.std.proofs.Common.{rules};
+ghost use Rattle.smx_types.specs.SameLemmas.{command_tells, drivers_tell, entries_tell, entry_tells, many_tells};
+ghost use Rattle.smx_types.specs.SameLemmas.{programs_tell, view_tells};
 
 use crate::command::{Command, Entry};
 use crate::driver::DriverSpec;
@@ -15,8 +19,6 @@ use crate::view::{
 
 /// A type whose `==` compares everything: it is true exactly if both values are equal.
 pub trait Same: PartialEq {
-    ghost use Rattle.std.specs.Prelude.{◌≡◌, ◌↔◌, IsTrue};
-
     ghost tells: { (a b : Self) → IsTrue (Self.eq a b) ↔ (a ≡ b) };
 
     /// Returns whether both values are equal, as `==` does. Does not allocate.
@@ -28,8 +30,6 @@ pub trait Same: PartialEq {
 }
 
 impl<T: Same> Same for Items<T> {
-    ghost use Rattle.std.specs.Cmp.Lexicographic.{pointwise_decides};
-
     ghost tells = { pointwise_decides T.tells };
 }
 
@@ -82,37 +82,25 @@ impl Same for MessageLine {
 }
 
 impl Same for Command {
-    ghost use Rattle.smx_types.specs.SameLemmas.{command_tells};
-
     ghost tells = { command_tells };
 }
 
 impl Same for Entry {
-    ghost use Rattle.smx_types.specs.SameLemmas.{entry_tells};
-
     ghost tells = { entry_tells };
 }
 
 impl Same for Many {
-    ghost use Rattle.smx_types.specs.SameLemmas.{many_tells};
-
     ghost tells = { many_tells };
 }
 
 impl Same for ConfigView {
-    ghost use Rattle.smx_types.specs.SameLemmas.{view_tells};
-
     ghost tells = { view_tells };
 }
 
 impl Same for Transcript {
-    ghost use Rattle.smx_types.specs.SameLemmas.{drivers_tell, entries_tell, view_tells};
-
     ghost tells = { Prim.search (rules, drivers_tell, entries_tell, view_tells) };
 }
 
 impl Same for Programs {
-    ghost use Rattle.smx_types.specs.SameLemmas.{programs_tell};
-
     ghost tells = { programs_tell };
 }

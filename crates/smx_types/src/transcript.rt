@@ -6,8 +6,8 @@ ghost use Rattle.smx_types.specs.Versions.{is_of_hangup, least_of_transcript};
 
 use crate::command::{Entries, Entry};
 use crate::driver::Drivers;
-use crate::memory::NoMemory;
-use crate::version::{Version, are_more_drivers, version_2_where};
+use crate::items::NoMemory;
+use crate::version::Version;
 use crate::view::ConfigView;
 use std::alloc::Global;
 
@@ -29,10 +29,9 @@ impl Transcript {
     pub fn least(&self) -> Version
         ensures { result ≡ least_of_transcript self.now }
     {
-        version_2_where(
-            are_more_drivers(self.drivers.as_slice())
-                || are_of_hangup(self.entries.as_slice())
-                || !self.view.hungs.as_slice().is_empty(),
+        Version::least(
+            self.drivers.as_slice(),
+            are_of_hangup(self.entries.as_slice()) || !self.view.hungs.as_slice().is_empty(),
         )
     }
 
@@ -40,14 +39,11 @@ impl Transcript {
     pub fn copy(&self, alloc: Global) -> Result<Transcript, NoMemory>
         ensures { IfOk result (λ c. c ≡ self.now) }
     {
-        let drivers = self.drivers.copy(alloc)?;
-        let entries = self.entries.copy(alloc)?;
-        let view = self.view.copy(alloc)?;
         Ok(Transcript {
             version: self.version,
-            drivers,
-            entries,
-            view,
+            drivers: self.drivers.copy(alloc)?,
+            entries: self.entries.copy(alloc)?,
+            view: self.view.copy(alloc)?,
         })
     }
 }

@@ -1,6 +1,6 @@
 //! The versions of the two texts (programs and transcripts), and the values that each version can express.
 
-ghost use Rattle.std.specs.Prelude.{◌≡◌};
+ghost use Rattle.std.specs.Prelude.{◌≡◌, ◌||◌};
 ghost use Rattle.smx_types.specs.Versions.{are_more_drivers, most_drivers, version_2_where};
 
 use crate::driver::DriverSpec;
@@ -25,18 +25,15 @@ impl Version {
             Version::V2 => MAX_DRIVERS,
         }
     }
-}
 
-// Returns version 2 if it is needed, otherwise version 1.
-pub(crate) fn version_2_where(needed: bool) -> Version
-    ensures { result ≡ version_2_where needed }
-{
-    if needed { Version::V2 } else { Version::V1 }
-}
-
-// Returns whether there are more drivers than version 1 allows.
-pub(crate) fn are_more_drivers(drivers: &[DriverSpec]) -> bool
-    ensures { result ≡ are_more_drivers drivers.now }
-{
-    drivers.len() > MAX_DRIVERS_OF_VERSION_1
+    // Returns the earliest version that can express these drivers and, if `hangs` is true, a hangup.
+    pub(crate) fn least(drivers: &[DriverSpec], hangs: bool) -> Version
+        ensures { result ≡ version_2_where (are_more_drivers drivers.now || hangs) }
+    {
+        if drivers.len() > MAX_DRIVERS_OF_VERSION_1 || hangs {
+            Version::V2
+        } else {
+            Version::V1
+        }
+    }
 }

@@ -3,13 +3,11 @@
 
 ghost use Rattle.std.specs.Prelude.{◌≡◌, IfOk};
 
-use crate::items::{Copied, Items};
+use crate::items::{Copied, Items, NoMemory};
 use crate::link::LinkKind;
-use crate::memory::NoMemory;
 use crate::message::Message;
 use crate::name::Name;
-use crate::process::Process;
-use crate::stream::Side;
+use crate::stream::{Process, Side};
 use std::alloc::Global;
 
 /// An open descriptor: its process, its number, and the driver and minor of its stream.
@@ -115,12 +113,9 @@ impl MessageLine {
     pub fn copy(&self, alloc: Global) -> Result<MessageLine, NoMemory>
         ensures { IfOk result (λ c. c ≡ self.now) }
     {
-        let message = self.message.copy(alloc)?;
         Ok(MessageLine {
-            driver: self.driver,
-            minor: self.minor,
-            side: self.side,
-            message,
+            message: self.message.copy(alloc)?,
+            ..*self
         })
     }
 }
@@ -130,65 +125,22 @@ impl ConfigView {
     pub fn copy(&self, alloc: Global) -> Result<ConfigView, NoMemory>
         ensures { IfOk result (λ c. c ≡ self.now) }
     {
-        let fds = self.fds.copy(alloc)?;
-        let links = self.links.copy(alloc)?;
-        let binds = self.binds.copy(alloc)?;
-        let routes = self.routes.copy(alloc)?;
-        let msgs = self.msgs.copy(alloc)?;
-        let fulls = self.fulls.copy(alloc)?;
-        let hungs = self.hungs.copy(alloc)?;
         Ok(ConfigView {
             next_id: self.next_id,
             next_serial: self.next_serial,
-            fds,
-            links,
-            binds,
-            routes,
-            msgs,
-            fulls,
-            hungs,
+            fds: self.fds.copy(alloc)?,
+            links: self.links.copy(alloc)?,
+            binds: self.binds.copy(alloc)?,
+            routes: self.routes.copy(alloc)?,
+            msgs: self.msgs.copy(alloc)?,
+            fulls: self.fulls.copy(alloc)?,
+            hungs: self.hungs.copy(alloc)?,
         })
-    }
-}
-
-impl Copied for DescriptorLine {
-    fn copied(&self, _alloc: Global) -> Result<DescriptorLine, NoMemory> {
-        Ok(*self)
-    }
-}
-
-impl Copied for LinkLine {
-    fn copied(&self, _alloc: Global) -> Result<LinkLine, NoMemory> {
-        Ok(*self)
-    }
-}
-
-impl Copied for BindingLine {
-    fn copied(&self, _alloc: Global) -> Result<BindingLine, NoMemory> {
-        Ok(*self)
-    }
-}
-
-impl Copied for RouteLine {
-    fn copied(&self, _alloc: Global) -> Result<RouteLine, NoMemory> {
-        Ok(*self)
     }
 }
 
 impl Copied for MessageLine {
     fn copied(&self, alloc: Global) -> Result<MessageLine, NoMemory> {
         self.copy(alloc)
-    }
-}
-
-impl Copied for FullLine {
-    fn copied(&self, _alloc: Global) -> Result<FullLine, NoMemory> {
-        Ok(*self)
-    }
-}
-
-impl Copied for HungLine {
-    fn copied(&self, _alloc: Global) -> Result<HungLine, NoMemory> {
-        Ok(*self)
     }
 }

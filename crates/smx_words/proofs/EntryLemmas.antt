@@ -1,13 +1,12 @@
 -- A call, which is a process and its command; and an entry, which also has an equals sign and a reply.
 use Rattle.smx_words.proofs.Common.{◌≡◌, ◌≢◌, ℕ, ◌<◌, List, [], ◌∷◌, ◌++◌, length, refl, sym, ap, ◌∙◌, append_assoc}
-use Rattle.smx_words.proofs.Common.{arith, decimal, Command, FitsNumber, FitsProcess, call_words, command_words}
+use Rattle.smx_words.proofs.Common.{arith, decimal, Command, call_words, command_words}
 use Rattle.smx_words.proofs.Common.{entry_words, reply_words, EQUALS, SPACE, IsFree, line_of}
 use Rattle.std.specs.Prelude.{codes}
 use Rattle.std.proofs.lemmas.List.{append_cancel_right}
 use Rattle.smx_types.specs.declared.command.Entry.{Entry}
 use Rattle.smx_words.specs.Spellable.{FitsCall, FitsEntry}
 use Rattle.smx_words.proofs.CutLemmas.{apart}
-use Rattle.smx_words.proofs.NumberLemmas.{number_free, same_number}
 use Rattle.smx_words.proofs.PlainLemmas.{command_plain, number_plain, plain_words_free, some_command, some_reply}
 use Rattle.smx_words.proofs.LineLemmas.{all_append, line_free}
 
@@ -57,14 +56,6 @@ front w (v ∷ ws) some = refl
 pub call_line : (call : ℕ × Command)
     → line_of (call_words call) ≡ decimal call.0 ++ SPACE ∷ line_of (command_words call.1)
 call_line call = front (decimal call.0) (command_words call.1) (some_command call.1)
-
--- if a line starts with a process, the number before its first space is that process
-pub process_of : (line rest : List ℕ) (n p : ℕ) (after : List ℕ) → FitsProcess p → FitsNumber n
-    → line ≡ decimal n ++ SPACE ∷ rest → line ≡ decimal p ++ SPACE ∷ after → n ≡ p
-process_of line rest n p after fits small is all =
-    let process : FitsNumber p = omega (arith, fits) in
-    same_number n p small process
-    (apart SPACE (decimal n) (decimal p) rest after (number_free n small) (number_free p process) (sym is ∙ all)).0
 
 -- the line of two joined lists of words is the line of the first list, a space, and the line of the second
 line_append : (ws vs : List (List ℕ)) → 0 < length ws → 0 < length vs

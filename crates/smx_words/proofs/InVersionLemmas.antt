@@ -14,13 +14,12 @@ use Rattle.smx_words.proofs.EntryLemmas.{call_line, each_side, entry_line}
 use Rattle.smx_words.proofs.DecidedLemmas.{HasWords, one_line, reading}
 
 -- the number of a process and the line of a command of a version make the line of a call of the version
-pub call_in_is : (v : Version) (line rest : List ℕ) (n p : ℕ) (c : Command) → p ≡ n → FitsProcess n
-    → line ≡ decimal n ++ SPACE ∷ rest → FitsCommandIn v c → rest ≡ line_of (command_words c)
+pub call_in_is : (v : Version) (line rest : List ℕ) (p : ℕ) (c : Command) → FitsProcess p
+    → line ≡ decimal p ++ SPACE ∷ rest → FitsCommandIn v c → rest ≡ line_of (command_words c)
     → FitsCallIn v (p, c) × (line ≡ line_of (call_words (p, c)))
-call_in_is v line rest n p c same small is fits behind = (
-  ((subst FitsProcess (sym same) small, fits.0), fits.1),
-  is ∙ ap (λ (x : List ℕ). decimal n ++ SPACE ∷ x) behind
-      ∙ ap (λ (m : ℕ). decimal m ++ SPACE ∷ line_of (command_words c)) (sym same) ∙ sym (call_line (p, c)),
+call_in_is v line rest p c small is fits behind = (
+  ((small, fits.0), fits.1),
+  is ∙ ap (λ (x : List ℕ). decimal p ++ SPACE ∷ x) behind ∙ sym (call_line (p, c)),
 )
 
 -- a version can express two things together if it can express each

@@ -1,11 +1,10 @@
 -- The results that a reader may return. No reader is mentioned.
-use Rattle.std.specs.Prelude.{◌≡◌, ◌≢◌, ℕ, List, ◌++◌, ◌∷◌, Option, Some, None}
-use Rattle.std.specs.Prelude.{MatchOption}
+use Rattle.std.specs.Prelude.{◌≡◌, ◌≢◌, ℕ, List, ◌++◌, ◌∷◌, Option, Some, None, MatchOption}
 use denote.Ref.{Bor}
 use Rattle.smx_types.specs.declared.version.Version.{Version}
 use Rattle.smx_words.specs.Spellable.{FitsCallIn, FitsCommandIn, FitsEntryIn}
 use Rattle.smx_words.specs.Spelling.{call_words, command_words, entry_words}
-use Rattle.smx_words.specs.Words.{SPACE, line_of}
+use Rattle.smx_words.specs.Words.{AreWords, SPACE, line_of}
 
 -- a value that fits and that the bytes spell, or `None` if they spell no such value
 abbrev pub IsFoundIn : {X : Type 0} → (X → Type 0) → (X → List ℕ) → List ℕ → Option X → Type 0
@@ -31,6 +30,18 @@ IsSpelled {X} Fits spelling bytes = (x : X) × Fits x × (bytes ≡ spelling x)
 -- the line is the words of some value that fits
 abbrev pub IsLineOf : {X : Type 0} → (X → Type 0) → (X → List (List ℕ)) → List ℕ → Type 0
 IsLineOf {X} Fits words_of line = IsSpelled Fits (λ x. line_of (words_of x)) line
+
+-- each value that fits is spelled by one or more words
+abbrev pub AreSpelledByWords : {X : Type 0} → (X → Type 0) → (X → List (List ℕ)) → Type 0
+AreSpelledByWords {X} Fits words_of = (x : X) → Fits x → AreWords (words_of x)
+
+-- two values that fit are equal if their words make the same line
+abbrev pub HaveOwnLines : {X : Type 0} → (X → Type 0) → (X → List (List ℕ)) → Type 0
+HaveOwnLines {X} Fits words_of = (x y : X) → Fits x → Fits y → line_of (words_of x) ≡ line_of (words_of y) → x ≡ y
+
+-- each line has a reading: a value that fits and whose words it is, or none if there is no such value
+abbrev pub HaveReadings : {X : Type 0} → (X → Type 0) → (X → List (List ℕ)) → Type 0
+HaveReadings {X} Fits words_of = (line : List ℕ) → (o : Option X) × IsReadAs Fits words_of line o
 
 -- the line is the words of a command of this version
 abbrev pub IsCommandLine : Version → List ℕ → Type 0

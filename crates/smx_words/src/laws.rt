@@ -1,20 +1,16 @@
-//! Laws of spellings: a spelling consists of words, and a line determines its words and its value.
+//! Laws of spellings: a spelling consists of words, a line determines its words and its value, and any line has a
+//! reading (a result that a reader of the line may return). Examples show right readings and wrong readings.
 
-ghost use Rattle.std.specs.Prelude.{◌≡◌, ◌∷◌, [], ℕ, List, codes};
+ghost use Rattle.std.specs.Fmt.{decimal};
 ghost use Rattle.std.specs.List.{AllByRecursion};
-ghost use Rattle.smx_types.specs.declared.command.Command.{Command};
-ghost use Rattle.smx_types.specs.declared.command.Entry.{Entry};
-ghost use Rattle.smx_types.specs.declared.driver.DriverSpec.{DriverSpec};
-ghost use Rattle.smx_types.specs.declared.view.BindingLine.{BindingLine};
-ghost use Rattle.smx_types.specs.declared.view.DescriptorLine.{DescriptorLine};
-ghost use Rattle.smx_types.specs.declared.view.FullLine.{FullLine};
-ghost use Rattle.smx_types.specs.declared.view.HungLine.{HungLine};
-ghost use Rattle.smx_types.specs.declared.view.LinkLine.{LinkLine};
-ghost use Rattle.smx_types.specs.declared.view.MessageLine.{MessageLine};
-ghost use Rattle.smx_types.specs.declared.view.RouteLine.{RouteLine};
+ghost use Rattle.std.specs.Prelude.{◌≡◌, ◌∷◌, [], ℕ, List, Some, None, codes};
+ghost use Rattle.smx_types.specs.declared.version.Version.{Version};
+ghost use Rattle.smx_types.specs.declared.version.Version.TheVariants.{V1, V2};
+ghost use Rattle.smx_words.specs.LineReading.{AreSpelledByWords, HaveOwnLines, HaveReadings, IsCallLine, IsCommandLine};
+ghost use Rattle.smx_words.specs.LineReading.{IsFoundIn, IsReadAs, IsSpelled};
 ghost use Rattle.smx_words.specs.Spellable.{FitsDriver, FitsNumber, FitsCommand, FitsCall, FitsEntry, FitsNext};
 ghost use Rattle.smx_words.specs.Spellable.{FitsDescriptor, FitsLink, FitsBinding, FitsRoute, FitsMessage, FitsFull};
-ghost use Rattle.smx_words.specs.Spellable.{FitsHung};
+ghost use Rattle.smx_words.specs.Spellable.{FitsHung, FitsCommandIn, FitsEntryIn, FitsCallIn};
 ghost use Rattle.smx_words.specs.Spelling.{driver_words, process_words, command_words, call_words, entry_words};
 ghost use Rattle.smx_words.specs.Spelling.{next_words, descriptor_words, link_words, bind_words, route_words};
 ghost use Rattle.smx_words.specs.Spelling.{message_words, full_words, hung_words};
@@ -22,19 +18,19 @@ ghost use Rattle.smx_words.specs.Words.{AreWords, IsWord, line_of};
 
 /// A value that can be spelled is spelled by one or more words.
 pub fn spellings_are_words()
-    ensures driver { (x : DriverSpec) → FitsDriver x → AreWords (driver_words x) }
-    ensures process { (x : ℕ) → FitsNumber x → AreWords (process_words x) }
-    ensures command { (x : Command) → FitsCommand x → AreWords (command_words x) }
-    ensures call { (x : ℕ × Command) → FitsCall x → AreWords (call_words x) }
-    ensures entry { (x : Entry) → FitsEntry x → AreWords (entry_words x) }
-    ensures next { (x : ℕ × ℕ) → FitsNext x → AreWords (next_words x) }
-    ensures descriptor { (x : DescriptorLine) → FitsDescriptor x → AreWords (descriptor_words x) }
-    ensures link { (x : LinkLine) → FitsLink x → AreWords (link_words x) }
-    ensures bind { (x : BindingLine) → FitsBinding x → AreWords (bind_words x) }
-    ensures route { (x : RouteLine) → FitsRoute x → AreWords (route_words x) }
-    ensures message { (x : MessageLine) → FitsMessage x → AreWords (message_words x) }
-    ensures full { (x : FullLine) → FitsFull x → AreWords (full_words x) }
-    ensures hung { (x : HungLine) → FitsHung x → AreWords (hung_words x) }
+    ensures driver { AreSpelledByWords FitsDriver driver_words }
+    ensures process { AreSpelledByWords FitsNumber process_words }
+    ensures command { AreSpelledByWords FitsCommand command_words }
+    ensures call { AreSpelledByWords FitsCall call_words }
+    ensures entry { AreSpelledByWords FitsEntry entry_words }
+    ensures next { AreSpelledByWords FitsNext next_words }
+    ensures descriptor { AreSpelledByWords FitsDescriptor descriptor_words }
+    ensures link { AreSpelledByWords FitsLink link_words }
+    ensures bind { AreSpelledByWords FitsBinding bind_words }
+    ensures route { AreSpelledByWords FitsRoute route_words }
+    ensures message { AreSpelledByWords FitsMessage message_words }
+    ensures full { AreSpelledByWords FitsFull full_words }
+    ensures hung { AreSpelledByWords FitsHung hung_words }
 {}
 
 /// Two lists of words that make the same line are equal.
@@ -45,32 +41,19 @@ pub fn lines_tell_words_apart()
 
 /// Two values of one kind that can be spelled are equal if their words make the same line.
 pub fn one_value_each()
-    ensures driver { (x y : DriverSpec) → FitsDriver x → FitsDriver y
-        → line_of (driver_words x) ≡ line_of (driver_words y) → x ≡ y }
-    ensures process { (x y : ℕ) → FitsNumber x → FitsNumber y
-        → line_of (process_words x) ≡ line_of (process_words y) → x ≡ y }
-    ensures command { (x y : Command) → FitsCommand x → FitsCommand y
-        → line_of (command_words x) ≡ line_of (command_words y) → x ≡ y }
-    ensures call { (x y : ℕ × Command) → FitsCall x → FitsCall y
-        → line_of (call_words x) ≡ line_of (call_words y) → x ≡ y }
-    ensures entry { (x y : Entry) → FitsEntry x → FitsEntry y
-        → line_of (entry_words x) ≡ line_of (entry_words y) → x ≡ y }
-    ensures next { (x y : ℕ × ℕ) → FitsNext x → FitsNext y
-        → line_of (next_words x) ≡ line_of (next_words y) → x ≡ y }
-    ensures descriptor { (x y : DescriptorLine) → FitsDescriptor x → FitsDescriptor y
-        → line_of (descriptor_words x) ≡ line_of (descriptor_words y) → x ≡ y }
-    ensures link { (x y : LinkLine) → FitsLink x → FitsLink y
-        → line_of (link_words x) ≡ line_of (link_words y) → x ≡ y }
-    ensures bind { (x y : BindingLine) → FitsBinding x → FitsBinding y
-        → line_of (bind_words x) ≡ line_of (bind_words y) → x ≡ y }
-    ensures route { (x y : RouteLine) → FitsRoute x → FitsRoute y
-        → line_of (route_words x) ≡ line_of (route_words y) → x ≡ y }
-    ensures message { (x y : MessageLine) → FitsMessage x → FitsMessage y
-        → line_of (message_words x) ≡ line_of (message_words y) → x ≡ y }
-    ensures full { (x y : FullLine) → FitsFull x → FitsFull y
-        → line_of (full_words x) ≡ line_of (full_words y) → x ≡ y }
-    ensures hung { (x y : HungLine) → FitsHung x → FitsHung y
-        → line_of (hung_words x) ≡ line_of (hung_words y) → x ≡ y }
+    ensures driver { HaveOwnLines FitsDriver driver_words }
+    ensures process { HaveOwnLines FitsNumber process_words }
+    ensures command { HaveOwnLines FitsCommand command_words }
+    ensures call { HaveOwnLines FitsCall call_words }
+    ensures entry { HaveOwnLines FitsEntry entry_words }
+    ensures next { HaveOwnLines FitsNext next_words }
+    ensures descriptor { HaveOwnLines FitsDescriptor descriptor_words }
+    ensures link { HaveOwnLines FitsLink link_words }
+    ensures bind { HaveOwnLines FitsBinding bind_words }
+    ensures route { HaveOwnLines FitsRoute route_words }
+    ensures message { HaveOwnLines FitsMessage message_words }
+    ensures full { HaveOwnLines FitsFull full_words }
+    ensures hung { HaveOwnLines FitsHung hung_words }
 {}
 
 /// A word is one or more bytes, each from `!` to `~`. A line is one or more words.
@@ -80,4 +63,69 @@ pub fn words_are_seen()
     ensures no_delete { IsWord (127 ∷ []) → ⊥ }
     ensures some { IsWord [] → ⊥ }
     ensures one { AreWords [] → ⊥ }
+{}
+
+/// Any line has a correct reading: a value that can be spelled and whose words are this line, or `None` if there is no
+/// such value. `driver_of` and the other readers return such a reading.
+pub fn each_line_has_a_reading()
+    ensures driver { HaveReadings FitsDriver driver_words }
+    ensures process { HaveReadings FitsNumber process_words }
+    ensures command { HaveReadings FitsCommand command_words }
+    ensures entry { HaveReadings FitsEntry entry_words }
+    ensures next { HaveReadings FitsNext next_words }
+    ensures descriptor { HaveReadings FitsDescriptor descriptor_words }
+    ensures link { HaveReadings FitsLink link_words }
+    ensures bind { HaveReadings FitsBinding bind_words }
+    ensures route { HaveReadings FitsRoute route_words }
+    ensures message { HaveReadings FitsMessage message_words }
+    ensures full { HaveReadings FitsFull full_words }
+    ensures hung { HaveReadings FitsHung hung_words }
+    ensures command_in { (v : Version) → HaveReadings (FitsCommandIn v) command_words }
+    ensures entry_in { (v : Version) → HaveReadings (FitsEntryIn v) entry_words }
+    ensures call_in { (v : Version) → HaveReadings (FitsCallIn v) call_words }
+{}
+
+/// A reader of a word may return a value only if the value fits (it can be spelled) and the bytes spell it. It may
+/// return `None` only if the bytes spell no value that fits.
+pub fn what_is_found_in_bytes()
+    ensures found { IsFoundIn FitsNumber decimal (codes "7") (Some 7) }
+    ensures not_another { IsFoundIn FitsNumber decimal (codes "7") (Some 8) → ⊥ }
+    ensures not_too_large { IsFoundIn FitsNumber decimal (codes "4294967296") (Some 4294967296) → ⊥ }
+    ensures none { IsFoundIn FitsNumber decimal (codes "07") None }
+    ensures none_too_large { IsFoundIn FitsNumber decimal (codes "4294967296") None }
+    ensures not_none { IsFoundIn FitsNumber decimal (codes "7") None → ⊥ }
+    ensures spelled { IsSpelled FitsNumber decimal (codes "7") }
+    ensures not_spelled { IsSpelled FitsNumber decimal (codes "07") → ⊥ }
+    ensures too_large_to_be_spelled { IsSpelled FitsNumber decimal (codes "4294967296") → ⊥ }
+{}
+
+/// A line is read as the value whose words it is, with one space between each word and the next. It is read as `None`
+/// only if it is not the words of any value.
+pub fn what_a_line_is_read_as()
+    ensures read { IsReadAs FitsNumber process_words (codes "process 7") (Some 7) }
+    ensures not_without_its_first_word { IsReadAs FitsNumber process_words (codes "7") (Some 7) → ⊥ }
+    ensures not_with_two_spaces { IsReadAs FitsNumber process_words (codes "process  7") (Some 7) → ⊥ }
+    ensures not_none { IsReadAs FitsNumber process_words (codes "process 7") None → ⊥ }
+    ensures none { IsReadAs FitsNumber process_words (codes "process 07") None }
+{}
+
+/// In a version of the texts, a line is the line of a command if two things hold: it is the words of a command that can
+/// be spelled, and the version can express this command.
+pub fn which_lines_are_commands()
+    ensures dup { IsCommandLine V1 (codes "dup 0") }
+    ensures hangup { IsCommandLine V2 (codes "hangup ip 0") }
+    ensures not_of_a_hangup { IsCommandLine V1 (codes "hangup ip 0") → ⊥ }
+    ensures not_of_a_large_number { IsCommandLine V2 (codes "dup 4294967296") → ⊥ }
+    ensures not_of_a_process { IsCommandLine V2 (codes "process 0") → ⊥ }
+{}
+
+/// In a version of the texts, a line is the line of a call if it is the words of a process and of a command that the
+/// version can express.
+pub fn which_lines_are_calls()
+    ensures dup { IsCallLine V1 (codes "63 dup 0") }
+    ensures hangup { IsCallLine V2 (codes "0 hangup ip 0") }
+    ensures not_of_a_hangup { IsCallLine V1 (codes "0 hangup ip 0") → ⊥ }
+    ensures not_of_a_large_process { IsCallLine V2 (codes "64 dup 0") → ⊥ }
+    ensures not_without_its_process { IsCallLine V2 (codes "dup 0") → ⊥ }
+    ensures not_of_an_entry { IsCallLine V2 (codes "0 dup 0 = done") → ⊥ }
 {}

@@ -4,18 +4,11 @@ ghost use Rattle.std.specs.Prelude.{◌≡◌, ℕ, ◌++◌, ◌∷◌, [], Lis
 ghost use Rattle.std.specs.List.{AllByRecursion};
 ghost use Rattle.smx_words.specs.Words.{LINE_FEED, line_of, text_of};
 
-mod bytes;
 mod command;
-mod driver;
-mod entry;
-mod number;
-mod reply;
-mod view;
+pub mod entry;
+pub mod line;
 mod word;
 
-pub use entry::write_entry;
-pub use number::{write_next, write_process};
-pub use reply::write_reply;
 use smx_types::NoMemory;
 
 /// A type of values, each of which is spelled as one line of a text.

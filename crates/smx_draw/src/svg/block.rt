@@ -1,8 +1,31 @@
 //! The blocks of a picture: the frame of each driver, and the column of each stream.
 
-use crate::svg::area::Area;
 use crate::svg::seat::{ROWS, Seat};
 use std::num::Saturating;
+
+/// A rectangle in pixels. For a link, it is the way of the link: from the point (`left`, `top`) down to `bend`, across
+/// to `lane`, down to `bottom`, and across to `right`.
+#[derive(Clone, Copy, Debug, Default)]
+pub struct Area {
+    pub left: u32,
+    pub top: u32,
+    pub right: u32,
+    pub bottom: u32,
+    pub bend: u32,
+    pub lane: u32,
+}
+
+impl Area {
+    /// Returns the key by which the links that begin in one layer are sorted. The first of them turns aside at the
+    /// lowest height, the last at the uppermost.
+    pub fn turn_order(&self) -> u32 {
+        if self.left < self.lane {
+            self.left
+        } else {
+            u32::MAX - self.left
+        }
+    }
+}
 
 /// A number of pixels. A sum or product that is too large becomes the largest number.
 pub type Px = Saturating<u32>;
@@ -29,18 +52,18 @@ pub struct Block {
     /// The layer of the block, if it is a frame.
     pub layer: usize,
     /// The number of columns, if the block is a frame.
-    pub columns: u32,
+    pub columns: Px,
     /// Whether the block is the column of a stream that no longer exists. Only links still name it, as their
     /// controlling stream.
     pub is_closed: bool,
-    // For a frame, two numbers: the sum of the horizontal middles of the columns at the other ends of its links, and
-    // how many middles were added up.
-    pulls: (u64, u64),
+    /// For a frame, two numbers: the sum of the horizontal middles of the columns at the other ends of its links, and
+    /// how many middles were added up.
+    pub pulls: (u64, u64),
     pub left: Px,
     pub top: Px,
     pub width: Px,
     pub height: Px,
-    /// The number of links that begin below the block. It is counted down when these links are placed.
+    /// The number of links that begin below the block. For a column, it is counted down when these links are placed.
     pub links: Px,
     // Until `put_at` is called: for each kind of row, the number of such rows. After that: for each kind, the top of
     // the row of this kind that is drawn next.
@@ -54,7 +77,7 @@ impl Block {
             seat,
             frame,
             layer: 0,
-            columns: 0,
+            columns: Saturating(0),
             is_closed: false,
             pulls: (0, 0),
             left: Saturating(0),
@@ -75,7 +98,7 @@ impl Block {
         self.widen(Saturating(length) * CHARACTER + AROUND);
     }
 
-    /// Adds a link that begins below the block.
+    /// Adds a link that begins below the column.
     pub fn add_link(&mut self) {
         self.links += 1;
         self.widen(self.links * LANE + AROUND);
@@ -84,11 +107,6 @@ impl Block {
     /// Makes the block at least this wide.
     pub fn widen(&mut self, width: Px) {
         self.width = self.width.max(width);
-    }
-
-    /// Forgets the middles that `pull` added.
-    pub fn let_go(&mut self) {
-        self.pulls = (0, 0);
     }
 
     /// Adds the horizontal middle of the column at the other end of a link of this frame.
@@ -121,20 +139,16 @@ impl Block {
     }
 
     /// Returns where the next row of a kind is drawn.
-    pub fn row(&self, row: usize) -> Area {
-        match self.rows.get(row) {
-            Some(top) => self.part(*top, ROW),
-            None => Area::default(),
-        }
+    pub fn row(&self, row: usize) -> Option<Area> {
+        Some(self.part(*self.rows.get(row)?, ROW))
     }
 
     /// Returns where the next row of a kind is drawn, and moves on to the row after it.
-    pub fn take_row(&mut self, row: usize) -> Area {
-        let area = self.row(row);
-        if let Some(top) = self.rows.get_mut(row) {
-            *top += ROW;
-        }
-        area
+    pub fn take_row(&mut self, row: usize) -> Option<Area> {
+        let area = self.row(row)?;
+        let top = self.rows.get_mut(row)?;
+        *top += ROW;
+        Some(area)
     }
 
     /// Returns the area of the block.

@@ -44,6 +44,7 @@ impl Plan {
             self.sink();
         }
         self.layers.resize(LOWEST + 1, Layer::default())?;
+        self.measure();
         for _sort in 0..SORTS {
             self.spread();
             self.weigh();
@@ -71,7 +72,7 @@ impl Plan {
         let number = at.checked_sub(block.frame.saturating_add(1))?;
         let last = *self.blocks.get(at.checked_sub(1)?)?;
         let frame = self.blocks.get_mut(block.frame)?;
-        let gap = GAP + LANE * Saturating(frame.columns / BESIDE as u32);
+        let gap = GAP + LANE * (frame.columns / Saturating(BESIDE as u32));
         let (left, top) = if number % BESIDE == 0 {
             (gap, frame.height + GAP)
         } else {
@@ -89,12 +90,26 @@ impl Plan {
     // link of the longest descending path leads downwards. So it is enough to call this once for each frame.
     fn sink(&mut self) {
         for way in self.ways.as_slice() {
-            let above = match self.blocks.get(way.upper) {
-                Some(upper) => upper.layer,
-                None => 0,
-            };
+            let above = self.blocks.get(way.upper).map_or(0, |upper| upper.layer);
             if let Some(lower) = self.blocks.get_mut(way.lower) {
                 lower.layer = lower.layer.max(above.saturating_add(1).min(LOWEST));
+            }
+        }
+    }
+
+    // Adds up the widths of the frames of each layer, and the links that begin in it. Makes each layer as high as its
+    // highest frame, and the picture as wide as the widest layer.
+    fn measure(&mut self) {
+        self.width = LEGEND;
+        for frame in self.frames.as_slice() {
+            if let Some(frame) = self.blocks.get_mut(*frame) {
+                frame.height += GAP;
+                if let Some(layer) = self.layers.get_mut(frame.layer) {
+                    layer.width += frame.width + MARGIN;
+                    layer.height = layer.height.max(frame.height);
+                    layer.links += frame.links;
+                    self.width = self.width.max(MARGIN + layer.width);
+                }
             }
         }
     }
@@ -102,36 +117,23 @@ impl Plan {
     // Puts the frames of each layer side by side, and each layer in the middle of the picture.
     fn spread(&mut self) {
         for layer in self.layers.iter_mut() {
-            layer.width = MARGIN;
+            let beside = self.width - MARGIN - layer.width;
+            layer.left = MARGIN + beside / Saturating(24) * Saturating(12);
         }
-        for at in 0..self.frames.len() {
-            self.advance(at);
+        for frame in self.frames.as_slice() {
+            if let Some(frame) = self.blocks.get_mut(*frame) {
+                if let Some(layer) = self.layers.get_mut(frame.layer) {
+                    frame.left = layer.left;
+                    layer.left += frame.width + MARGIN;
+                }
+            }
         }
-        self.width = LEGEND;
-        for layer in self.layers.as_slice() {
-            self.width = self.width.max(layer.width);
-        }
-        for layer in self.layers.iter_mut() {
-            layer.width = MARGIN + (self.width - layer.width) / Saturating(24) * Saturating(12);
-        }
-        for at in 0..self.frames.len() {
-            self.advance(at);
-        }
-    }
-
-    // Puts a frame at the right end of its layer.
-    fn advance(&mut self, number: usize) -> Option<()> {
-        let frame = self.blocks.get_mut(*self.frames.get(number)?)?;
-        let layer = self.layers.get_mut(frame.layer)?;
-        frame.left = layer.width;
-        layer.width += frame.width + MARGIN;
-        Some(())
     }
 
     // For each frame, adds up the positions of the columns at the other ends of its links.
     fn weigh(&mut self) {
         for block in self.blocks.iter_mut() {
-            block.let_go();
+            block.pulls = (0, 0);
         }
         for at in 0..self.ways.len() {
             self.weigh_way(at);
@@ -149,9 +151,8 @@ impl Plan {
 
     // Returns the horizontal middle of a column.
     fn middle_of(&self, frame: usize, column: usize) -> Option<Px> {
-        let frame = self.blocks.get(frame)?;
         let column = self.blocks.get(column)?;
-        Some(frame.left + column.left + column.width / Saturating(2))
+        Some(self.blocks.get(frame)?.left + column.left + column.width / Saturating(2))
     }
 
     // Sorts the frames by layer, and in a layer by the mean position of the columns to which their links lead.
@@ -166,21 +167,6 @@ impl Plan {
     // Puts the layers one below the other, with room below each for the links that begin in it. Then puts all blocks at
     // their places.
     fn stack(&mut self) {
-        for frame in self.frames.as_slice() {
-            if let Some(frame) = self.blocks.get_mut(*frame) {
-                frame.height += GAP;
-                if let Some(layer) = self.layers.get_mut(frame.layer) {
-                    layer.height = layer.height.max(frame.height);
-                }
-            }
-        }
-        for way in self.ways.as_slice() {
-            if let Some(upper) = self.blocks.get(way.upper) {
-                if let Some(layer) = self.layers.get_mut(upper.layer) {
-                    layer.links += 1;
-                }
-            }
-        }
         self.height = HEADER;
         for layer in self.layers.iter_mut() {
             if layer.height.0 > 0 {

@@ -2,8 +2,7 @@
 
 use crate::parts::{Look, Part};
 use crate::pieces::{Piece, put, shown_length};
-use crate::svg::area::Area;
-use crate::svg::block::{Block, Px};
+use crate::svg::block::{Area, Block, Px};
 use crate::svg::seat::{Row, Seat};
 use smx_types::{LinkLine, NoMemory};
 use std::alloc::Global;
@@ -22,7 +21,7 @@ pub struct Way {
     pub area: Area,
 }
 
-/// A layer of frames, and the number of links that begin in it.
+/// A layer of frames, and the number of links that begin in it. `left` is where its next frame is placed.
 #[derive(Clone, Copy, Debug, Default)]
 pub struct Layer {
     pub left: Px,
@@ -43,6 +42,8 @@ pub struct Plan {
     pub ways: Vec<Way>,
     pub width: Px,
     pub height: Px,
+    // The rows: the seat of each, and the length of its label.
+    rows: Vec<(Seat, u32)>,
     // How many links have been drawn.
     drawn: usize,
     // A buffer for labels whose lengths are measured.
@@ -50,42 +51,19 @@ pub struct Plan {
 }
 
 impl Plan {
-    /// Creates a plan with the frames and columns that these seats name, but without rows. Fails only if it is out of
-    /// memory.
-    pub fn new(alloc: Global, mut seats: Vec<Seat>) -> Result<Plan, NoMemory> {
-        seats.sort_unstable_by_key(|seat| seat.order());
-        seats.dedup_by_key(|seat| seat.order());
-        let mut plan = Plan {
+    /// Creates a plan without rows. Takes no memory.
+    pub fn new(alloc: Global) -> Plan {
+        Plan {
             blocks: Vec::new(alloc),
             frames: Vec::new(alloc),
             layers: Vec::new(alloc),
             ways: Vec::new(alloc),
             width: Saturating(0),
             height: Saturating(0),
+            rows: Vec::new(alloc),
             drawn: 0,
             text: Vec::new(alloc),
-        };
-        for seat in seats.as_slice() {
-            plan.add_block(*seat)?;
         }
-        Ok(plan)
-    }
-
-    // Adds a frame, or a column of the last frame.
-    fn add_block(&mut self, seat: Seat) -> Result<(), NoMemory> {
-        let at = self.blocks.len();
-        if seat.slot == 0 {
-            self.frames.push(at)?;
-        }
-        let frame = match self.frames.last() {
-            Some(frame) => *frame,
-            None => at,
-        };
-        if let Some(block) = self.blocks.get_mut(frame) {
-            block.columns = block.columns.saturating_add(1);
-        }
-        self.blocks.push(Block::new(seat, frame))?;
-        Ok(())
     }
 
     /// Adds the rows of these parts. Fails only if it is out of memory.
@@ -94,47 +72,64 @@ impl Plan {
             self.text.clear();
             item.put(Look::Label, &mut self.text)?;
             let length = shown_length(self.text.as_slice());
-            let at = self.find(&item.seat());
+            self.rows.push((item.seat(), length))?;
+        }
+        Ok(())
+    }
+
+    /// Makes the blocks of the rows that were added, and those of these links. Gives the blocks and the links their
+    /// places. Fails only if it is out of memory.
+    pub fn arrange(&mut self, alloc: Global, links: &[LinkLine]) -> Result<(), NoMemory> {
+        self.add_blocks(alloc, links)?;
+        for (seat, length) in self.rows.as_slice() {
+            let at = find(&self.blocks, seat);
             if let Some(block) = self.blocks.get_mut(at) {
-                block.add_row(item.seat().row, length);
+                block.add_row(seat.row, *length);
             }
+        }
+        self.add_names()?;
+        self.add_ways(links)?;
+        self.place()?;
+        self.route();
+        Ok(())
+    }
+
+    // Adds the blocks of the driver and the stream of each row, and of the controlling stream of each link and its
+    // driver.
+    fn add_blocks(&mut self, alloc: Global, links: &[LinkLine]) -> Result<(), NoMemory> {
+        let mut seats = Vec::new(alloc);
+        for (seat, _) in self.rows.as_slice() {
+            seats.push(Seat::of_driver(&seat.driver, Row::Name))?;
+            seats.push(*seat)?;
+        }
+        for link in links {
+            seats.push(Seat::of_driver(&link.ctl_driver, Row::Name))?;
+            seats.push(Seat::of_stream(&link.ctl_driver, link.ctl_minor, Row::Name))?;
+        }
+        seats.sort_unstable_by_key(|seat| seat.order());
+        seats.dedup_by_key(|seat| seat.order());
+        for seat in seats.as_slice() {
+            self.add_block(*seat)?;
         }
         Ok(())
     }
 
-    /// Adds the links. Their streams must have blocks. Fails only if it is out of memory.
-    pub fn add_ways(&mut self, links: &[LinkLine]) -> Result<(), NoMemory> {
-        for (number, link) in links.iter().enumerate() {
-            let from = self.find(&Seat::of_stream(&link.ctl_driver, link.ctl_minor, Row::Name));
-            if let Some(block) = self.blocks.get_mut(from) {
-                block.add_link();
-            }
-            let way = Way {
-                number,
-                upper: self.find(&Seat::of_driver(&link.ctl_driver, Row::Name)),
-                from,
-                lower: self.find(&Seat::of_driver(&link.lower_driver, Row::Name)),
-                to: self.find(&link.seat()),
-                area: Area::default(),
-            };
-            self.ways.push(way)?;
+    // Adds a frame, or a column of the last frame.
+    fn add_block(&mut self, seat: Seat) -> Result<(), NoMemory> {
+        let at = self.blocks.len();
+        if seat.slot == 0 {
+            self.frames.push(at)?;
         }
+        let frame = self.frames.last().copied().unwrap_or(at);
+        if let Some(block) = self.blocks.get_mut(frame) {
+            block.columns += 1;
+        }
+        self.blocks.push(Block::new(seat, frame))?;
         Ok(())
     }
 
-    // Returns the index of the block to which a row belongs.
-    fn find(&self, seat: &Seat) -> usize {
-        match self
-            .blocks
-            .binary_search_by_key(&seat.order(), |block| block.seat.order())
-        {
-            Ok(at) | Err(at) => at,
-        }
-    }
-
-    /// Adds to each column a row with the name of the stream. All other rows must have been added before: a stream
-    /// without any of them counts as closed. Fails only if it is out of memory.
-    pub fn add_names(&mut self) -> Result<(), NoMemory> {
+    // Adds to each column a row with the name of the stream. A stream without other rows counts as closed.
+    fn add_names(&mut self) -> Result<(), NoMemory> {
         for block in self.blocks.iter_mut() {
             if let Some(minor) = block.seat.minor() {
                 self.text.clear();
@@ -147,38 +142,58 @@ impl Plan {
         Ok(())
     }
 
-    /// Returns the area of the block of a driver or a stream.
-    pub fn area_of(&self, seat: &Seat) -> Area {
-        match self.blocks.get(self.find(seat)) {
-            Some(block) => block.area(),
-            None => Area::default(),
+    // Adds the links.
+    fn add_ways(&mut self, links: &[LinkLine]) -> Result<(), NoMemory> {
+        for (number, link) in links.iter().enumerate() {
+            let from = Seat::of_stream(&link.ctl_driver, link.ctl_minor, Row::Name);
+            let upper = Seat::of_driver(&link.ctl_driver, Row::Name);
+            let lower = Seat::of_driver(&link.lower_driver, Row::Name);
+            let way = Way {
+                number,
+                upper: find(&self.blocks, &upper),
+                from: find(&self.blocks, &from),
+                lower: find(&self.blocks, &lower),
+                to: find(&self.blocks, &link.seat()),
+                area: Area::default(),
+            };
+            if let Some(frame) = self.blocks.get_mut(way.upper) {
+                frame.links += 1;
+            }
+            if let Some(column) = self.blocks.get_mut(way.from) {
+                column.add_link();
+            }
+            self.ways.push(way)?;
         }
+        Ok(())
+    }
+
+    /// Returns the area of the block of a driver or a stream.
+    pub fn area_of(&self, seat: &Seat) -> Option<Area> {
+        Some(self.blocks.get(find(&self.blocks, seat))?.area())
     }
 
     /// Returns where the next row of this kind is drawn.
-    pub fn row_of(&self, seat: &Seat) -> Area {
-        match self.blocks.get(self.find(seat)) {
-            Some(block) => block.row(seat.row),
-            None => Area::default(),
-        }
+    pub fn row_of(&self, seat: &Seat) -> Option<Area> {
+        self.blocks.get(find(&self.blocks, seat))?.row(seat.row)
     }
 
     /// Returns where the next row of this kind is drawn, and moves on to the row after it.
-    pub fn take_row(&mut self, seat: &Seat) -> Area {
-        let at = self.find(seat);
-        match self.blocks.get_mut(at) {
-            Some(block) => block.take_row(seat.row),
-            None => Area::default(),
-        }
+    pub fn take_row(&mut self, seat: &Seat) -> Option<Area> {
+        let at = find(&self.blocks, seat);
+        self.blocks.get_mut(at)?.take_row(seat.row)
     }
 
     /// Returns the way of the next link in the list of links.
-    pub fn take_way(&mut self) -> Area {
-        let at = self.drawn;
-        self.drawn = at.saturating_add(1);
-        match self.ways.get(at) {
-            Some(way) => way.area,
-            None => Area::default(),
-        }
+    pub fn take_way(&mut self) -> Option<Area> {
+        let way = self.ways.get(self.drawn)?;
+        self.drawn += 1;
+        Some(way.area)
+    }
+}
+
+// Returns the index of the block to which a row belongs.
+fn find(blocks: &[Block], seat: &Seat) -> usize {
+    match blocks.binary_search_by_key(&seat.order(), |block| block.seat.order()) {
+        Ok(at) | Err(at) => at,
     }
 }

@@ -1,14 +1,14 @@
 //! Frames, links, columns and gauges. They are drawn first, so that the rows are on top of them.
 
 ghost use Rattle.std.specs.Prelude.{◌≡◌, ◌-◌, ◌++◌, OnOk};
-ghost use Rattle.smx_draw.specs.SvgElements.{frame_element, gauge_element, sized_gauge, stream_element};
-ghost use Rattle.smx_draw.specs.SvgElements.{stream_template, way_element};
+ghost use Rattle.smx_draw.specs.SvgElements.{frame_element, gauge_element, sized_gauge, stream_element, way_element};
 
 use crate::parts::Part;
-use crate::pieces::{Piece, put};
+use crate::pieces::Piece::{self, Driver, Link, Number};
+use crate::pieces::put;
 use crate::queues::{QueueItem, QueueRow};
 use crate::svg::Drawn;
-use crate::svg::area::Area;
+use crate::svg::block::Area;
 use crate::svg::plan::Plan;
 use crate::svg::seat::{Row, Seat};
 use smx_types::{DriverSpec, LinkLine, Name, NoMemory};
@@ -27,80 +27,81 @@ pub struct Stream {
 impl Drawn for DriverSpec {
     ghost element = { frame_element };
 
-    fn place(&self, plan: &mut Plan) -> Area {
+    fn place(&self, plan: &mut Plan) -> Option<Area> {
         plan.area_of(&self.seat())
     }
 
     fn put_at(&self, at: Area, out: &mut Vec<u8>) -> Result<(), NoMemory> {
         let values = [
-            Piece::Driver(self.kind),
-            Piece::Number(at.left),
-            Piece::Number(at.top),
-            Piece::Number(at.right),
-            Piece::Number(at.bottom),
+            Driver(self.kind),
+            Number(at.left),
+            Number(at.top),
+            Number(at.right),
+            Number(at.bottom),
         ];
-        put(
-            out,
-            b"<path class=\"frame @0\" d=\"M@1 @2H@3V@4H@1Z\"/>\n",
-            &values,
-        )
+        let template = b"<path class=\"frame @0\" d=\"M@1 @2H@3V@4H@1Z\"/>\n";
+        put(out, template, &values)
     }
 }
 
 impl Drawn for LinkLine {
     ghost element = { way_element };
 
-    fn place(&self, plan: &mut Plan) -> Area {
+    fn place(&self, plan: &mut Plan) -> Option<Area> {
         plan.take_way()
     }
 
     fn put_at(&self, at: Area, out: &mut Vec<u8>) -> Result<(), NoMemory> {
         let values = [
-            Piece::Number(self.id),
-            Piece::Link(self.kind),
+            Number(self.id),
+            Link(self.kind),
             Piece::Name(&self.ctl_driver),
-            Piece::Number(self.ctl_minor),
-            Piece::Number(at.left),
-            Piece::Number(at.top),
-            Piece::Number(at.bend),
-            Piece::Number(at.lane),
-            Piece::Number(at.bottom),
-            Piece::Number(at.right),
+            Number(self.ctl_minor),
+            Number(at.left),
+            Number(at.top),
+            Number(at.bend),
+            Number(at.lane),
+            Number(at.bottom),
+            Number(at.right),
         ];
-        put(
-            out,
-            b"<g class=\"way @1 link-@0\"><title>link @0 @1 by @2 @3</title>\
-                <path class=\"halo\" d=\"M@4 @5V@6H@7V@8H@9\"/>\
-                <path d=\"M@4 @5V@6H@7V@8H@9\"/></g>\n",
-            &values,
-        )
+        let template = b"<g class=\"way @1 link-@0\"><title>link @0 @1 by @2 @3</title>\
+            <path class=\"halo\" d=\"M@4 @5V@6H@7V@8H@9\"/>\
+            <path d=\"M@4 @5V@6H@7V@8H@9\"/></g>\n";
+        put(out, template, &values)
     }
 }
 
 impl Drawn for Stream {
     ghost element = { stream_element };
 
-    fn place(&self, plan: &mut Plan) -> Area {
+    fn place(&self, plan: &mut Plan) -> Option<Area> {
         plan.area_of(&Seat::of_stream(&self.driver, self.minor, Row::Name))
     }
 
     fn put_at(&self, at: Area, out: &mut Vec<u8>) -> Result<(), NoMemory> {
         let values = [
-            Piece::Number(at.left),
-            Piece::Number(at.top),
-            Piece::Number(at.right),
-            Piece::Number(at.bottom),
+            Number(at.left),
+            Number(at.top),
+            Number(at.right),
+            Number(at.bottom),
             Piece::Name(&self.driver),
-            Piece::Number(self.minor),
+            Number(self.minor),
         ];
-        put(out, stream_template(self.is_closed), &values)
+        let template: &[u8] = if self.is_closed {
+            b"<g class=\"closed\"><path d=\"M@0 @1H@2V@3H@0Z\"/><text x=\"@0\" y=\"@1\" dx=\"6\" dy=\"11\">\
+                @4 @5 closed</text></g>\n"
+        } else {
+            b"<g class=\"stream stream-@4-@5\"><path d=\"M@0 @1H@2V@3H@0Z\"/><text x=\"@0\" y=\"@1\" dx=\"6\" dy=\"11\">\
+                @4 @5</text></g>\n"
+        };
+        put(out, template, &values)
     }
 }
 
 impl Drawn for QueueRow {
     ghost element = { gauge_element };
 
-    fn place(&self, plan: &mut Plan) -> Area {
+    fn place(&self, plan: &mut Plan) -> Option<Area> {
         plan.row_of(&self.seat())
     }
 
@@ -112,37 +113,22 @@ impl Drawn for QueueRow {
     }
 }
 
-fn stream_template(is_closed: bool) -> &'static [u8]
-    ensures { result.now ≡ stream_template is_closed }
-{
-    if is_closed {
-        b"<g class=\"closed\"><path d=\"M@0 @1H@2V@3H@0Z\"/><text x=\"@0\" y=\"@1\" dx=\"6\" dy=\"11\">\
-            @4 @5 closed</text></g>\n"
-    } else {
-        b"<g class=\"stream stream-@4-@5\"><path d=\"M@0 @1H@2V@3H@0Z\"/><text x=\"@0\" y=\"@1\" dx=\"6\" dy=\"11\">\
-            @4 @5</text></g>\n"
-    }
-}
-
 // Appends the gauge of a queue. The whole width of the gauge shows the high water mark.
 fn put_gauge(out: &mut Vec<u8>, at: Area, bytes: u32, high: u32, low: u32) -> Result<(), NoMemory>
     ensures { OnOk result (out.new.items ≡ out.old.items ++ sized_gauge (at.right - at.left) bytes high low at) }
 {
     let values = [
-        Piece::Number(at.left),
-        Piece::Number(at.top),
-        Piece::Number(at.right.saturating_sub(at.left)),
-        Piece::Number(bytes),
-        Piece::Number(high),
-        Piece::Number(low),
+        Number(at.left),
+        Number(at.top),
+        Number(at.right.saturating_sub(at.left)),
+        Number(bytes),
+        Number(high),
+        Number(low),
     ];
-    put(
-        out,
-        b"<svg class=\"gauge\" x=\"@0\" y=\"@1\" width=\"@2\" height=\"14\" \
-            viewBox=\"0 0 @4 14\" preserveAspectRatio=\"none\">\
-            <path class=\"bytes\" d=\"M0 0H@3V14H0Z\"/><path class=\"low\" d=\"M0 12H@5V14H0Z\"/></svg>\n",
-        &values,
-    )
+    let template = b"<svg class=\"gauge\" x=\"@0\" y=\"@1\" width=\"@2\" height=\"14\" \
+        viewBox=\"0 0 @4 14\" preserveAspectRatio=\"none\">\
+        <path class=\"bytes\" d=\"M0 0H@3V14H0Z\"/><path class=\"low\" d=\"M0 12H@5V14H0Z\"/></svg>\n";
+    put(out, template, &values)
 }
 
 /// Returns the streams of the picture. Fails only if it is out of memory.

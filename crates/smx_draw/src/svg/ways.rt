@@ -38,7 +38,7 @@ impl Plan {
     fn end_way(&mut self, at: usize) -> Option<()> {
         let way = self.ways.get_mut(at)?;
         let column = self.blocks.get(way.to)?;
-        let row = column.row(Row::Link as usize);
+        let row = column.row(Row::Link as usize)?;
         let above = way.to.saturating_sub(way.lower).saturating_sub(1) / BESIDE;
         let above = Saturating(above.min(u32::MAX as usize) as u32);
         way.area.right = row.left;

@@ -1,8 +1,6 @@
 //! Reading the queues: the messages, marks and bytes of a place, and the number of all messages.
 
-ghost use Rattle.std.specs.Prelude.{◌≡◌, ◌+◌, ◌≤◌, ◌++◌, length, map, Some, None, IfOk, option_copied};
-ghost use Rattle.std.specs.Prelude.{slice_get, vec_capacity, Option};
-ghost use Rattle.smx_types.specs.declared.message.Message.{Message};
+ghost use Rattle.std.specs.Prelude.{◌≡◌, ◌+◌, ◌≤◌, ◌++◌, length, map, IfOk, option_copied, slice_get, vec_capacity};
 ghost use Rattle.smx_model.specs.Queues.{bytes_of};
 ghost use Rattle.smx_queues.specs.QueueTable.{queue_at, IsPlace};
 ghost use Rattle.smx_queues.specs.Slots.{message_total};

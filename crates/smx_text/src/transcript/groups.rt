@@ -17,7 +17,7 @@ ghost use Rattle.smx_types.specs.declared.driver.DriverSpec.{DriverSpec as AnyDr
 ghost use Rattle.smx_text.specs.TranscriptLines.{Config as ConfigLine, End};
 ghost use Rattle.smx_text.specs.declared.text_fault.Cause.TheVariants.{Form, NoMemory};
 
-use super::draft::{Stage, TranscriptDraft};
+use super::{Stage, TranscriptDraft};
 use crate::text_fault::Cause;
 use smx_types::{HungLine, Items, Version};
 use smx_words::{bind_of, descriptor_of, full_of, hung_of, link_of, route_of};
@@ -43,8 +43,7 @@ impl TranscriptDraft {
         requires no_config { text.now ≢ line_text (grammar_of self.old) ConfigLine }
         requires no_next { (n : ℕ × ℕ) → FitsNext n → text.now ≢ line_of (next_words n) }
         requires no_end { text.now ≢ line_text (grammar_of self.old) End }
-        ensures answers { AnswersText (grammar_of self.old) (lines self.old) text.now
-            (lines self.new) result }
+        ensures answers { AnswersText (grammar_of self.old) (lines self.old) text.now (lines self.new) result }
         ensures version { OnOk result (self.new.transcript.version ≡ self.old.transcript.version) }
     {
         if let Some(fd) = descriptor_of(text) {
@@ -68,49 +67,44 @@ impl TranscriptDraft {
         }
     }
 
-    // Returns whether a hung-up stream may follow: `next` was read. (No group comes after the hung-up streams.)
+    // Each of the functions below returns whether a line of a group may follow: `next` was read, and the later groups
+    // have no line yet. No group comes after the hung-up streams.
     fn takes_hungs(&self) -> bool
         ensures { result ≡ takes_hungs self.now }
     {
         self.stage == Stage::View
     }
 
-    // Returns whether a full place may follow: `next` was read, and the later group has no line yet.
     fn takes_fulls(&self) -> bool
         ensures { result ≡ takes_fulls self.now }
     {
         self.takes_hungs() && self.transcript.view.hungs.as_slice().is_empty()
     }
 
-    // Returns whether a message may follow: `next` was read, and the later groups have no line yet.
     pub fn takes_msgs(&self) -> bool
         ensures { result ≡ takes_msgs self.now }
     {
         self.takes_fulls() && self.transcript.view.fulls.as_slice().is_empty()
     }
 
-    // Returns whether a route may follow: `next` was read, and the later groups have no line yet.
     fn takes_routes(&self) -> bool
         ensures { result ≡ takes_routes self.now }
     {
         self.takes_msgs() && self.transcript.view.msgs.as_slice().is_empty()
     }
 
-    // Returns whether a binding may follow: `next` was read, and the later groups have no line yet.
     fn takes_binds(&self) -> bool
         ensures { result ≡ takes_binds self.now }
     {
         self.takes_routes() && self.transcript.view.routes.as_slice().is_empty()
     }
 
-    // Returns whether a link may follow: `next` was read, and the later groups have no line yet.
     fn takes_links(&self) -> bool
         ensures { result ≡ takes_links self.now }
     {
         self.takes_binds() && self.transcript.view.binds.as_slice().is_empty()
     }
 
-    // Returns whether a descriptor may follow: `next` was read, and the later groups have no line yet.
     fn takes_fds(&self) -> bool
         ensures { result ≡ takes_fds self.now }
     {

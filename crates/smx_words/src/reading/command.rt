@@ -11,11 +11,10 @@ ghost use Rattle.smx_words.specs.Words.{SPACE, line_of};
 ghost use Rattle.smx_words.specs.declared.reading.verb.Verb.{Verb as AnyVerb};
 ghost use Rattle.smx_words.specs.declared.reading.verb.Verb.TheVariants.{Hangup as HangupVerb};
 
-use crate::reading::cutting::is;
 use crate::reading::hex_word::number_and_bytes;
 use crate::reading::number::{first_number, number, pair};
 use crate::reading::verb::{Verb, first_verb};
-use crate::reading::word::{first_name, name, name_and_number, sides, which};
+use crate::reading::word::{first_name, is, name, name_and_number, sides, which};
 use smx_types::{Command, NoMemory, Version};
 use std::alloc::Global;
 

@@ -10,8 +10,8 @@ ghost use Rattle.smx_words.specs.LineReading.{IsFoundIn, IsSpelled};
 ghost use Rattle.smx_words.specs.Spellable.{FitsBytes, FitsNumber};
 ghost use Rattle.smx_words.specs.Words.{SPACE};
 
-use crate::reading::cutting::is;
 use crate::reading::number::first_number;
+use crate::reading::word::is;
 use smx_types::{Bytes, NoMemory};
 use std::alloc::Global;
 

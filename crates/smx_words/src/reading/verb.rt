@@ -7,7 +7,7 @@ ghost use Rattle.smx_words.specs.Verbs.{verb_word, reply_verb_word};
 ghost use Rattle.smx_words.specs.Words.{SPACE};
 ghost use Rattle.smx_words.specs.declared.reading.verb.Verb.{Verb as AnyVerb};
 
-use crate::reading::cutting::{after, cut};
+use crate::reading::word::{after, cut};
 
 /// The verb of a command: its first word.
 #[derive(Clone, Copy)]

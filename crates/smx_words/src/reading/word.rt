@@ -1,15 +1,50 @@
-//! Reads single words: names, and the words of enums such as kinds and sides.
+//! Splits bytes at a separator, and reads single words: names, and the words of enums such as kinds and sides.
 
-ghost use Rattle.std.specs.Prelude.{◌≡◌, ◌≢◌, ◌∷◌, ◌++◌, ℕ, List, MatchOption};
+ghost use Rattle.std.specs.Prelude.{◌≡◌, ◌≢◌, ◌∷◌, ◌++◌, ℕ, List, IsTrue, ◌↔◌, MatchOption};
 ghost use Rattle.std.specs.Fmt.{decimal};
 ghost use Rattle.smx_words.specs.LineReading.{IsFoundIn, BeginsWith};
 ghost use Rattle.smx_words.specs.Spellable.{FitsName, FitsNumber, FitsWhich, FitsAlways};
 ghost use Rattle.smx_words.specs.Spelling.{kind_word, which_word, sides_word, side_word, link_kind_word};
-ghost use Rattle.smx_words.specs.Words.{SPACE};
+ghost use Rattle.smx_words.specs.Words.{IsFree, SPACE};
 
-use crate::reading::cutting::{cut, is};
 use crate::reading::number::number;
+use memchr::memchr;
 use smx_types::{DriverKind, LinkKind, Name, Side, Sides, Which};
+
+// Returns the bytes before the first separator, and the bytes after this separator.
+pub fn cut(bytes: &[u8], separator: u8) -> Option<(&[u8], &[u8])>
+    ensures { MatchOption result ((before after : List ℕ) → bytes.now ≢ before ++ separator ∷ after)
+        (λ p. IsFree separator p.0.now × (bytes.now ≡ p.0.now ++ separator ∷ p.1.now)) }
+{
+    match memchr(separator, bytes) {
+        None => None,
+        Some(i) => Some((&bytes[..i], &bytes[i + 1..])),
+    }
+}
+
+// Returns the bytes after `front`, if `bytes` start with it.
+pub fn after<'a>(bytes: &'a [u8], front: &[u8]) -> Option<&'a [u8]>
+    ensures { MatchOption result ((rest : List ℕ) → bytes.now ≢ front.now ++ rest)
+        (λ rest. bytes.now ≡ front.now ++ rest.now) }
+{
+    bytes.strip_prefix(front)
+}
+
+// Returns the bytes before `back`, if `bytes` end with it.
+pub fn before<'a>(bytes: &'a [u8], back: &[u8]) -> Option<&'a [u8]>
+    ensures { MatchOption result ((rest : List ℕ) → bytes.now ≢ rest ++ back.now)
+        (λ rest. bytes.now ≡ rest.now ++ back.now) }
+{
+    bytes.strip_suffix(back)
+}
+
+// Returns whether `bytes` equal `text`. For the proof: this is a function, so that each comparison is a single fact in
+// the proof of the caller.
+pub fn is(bytes: &[u8], text: &[u8]) -> bool
+    ensures { IsTrue result ↔ (bytes.now ≡ text.now) }
+{
+    bytes == text
+}
 
 /// Parses a driver's name.
 pub fn name(word: &[u8]) -> Option<Name>

@@ -7,9 +7,7 @@ ghost use Rattle.smx_words.specs.Spelling.{command_words, sides_word, which_word
 ghost use Rattle.smx_words.specs.Words.{line_of};
 
 use super::Spell;
-use super::bytes::put_bytes;
-use super::number::put_spaced;
-use super::word::{put_byte, put_name, put_text};
+use super::word::{put_byte, put_bytes, put_name, put_spaced, put_text};
 use smx_types::{Command, Name, NoMemory, Sides, Which};
 
 impl Spell for Command {
@@ -25,8 +23,7 @@ impl Spell for Command {
 
 /// Appends the words of a command, with a space between two words.
 pub(super) fn put_command(out: &mut Vec<u8>, command: &Command) -> Result<(), NoMemory>
-    ensures written { OnOk result (out.new.items
-        ≡ out.old.items ++ line_of (command_words command.now)) }
+    ensures written { OnOk result (out.new.items ≡ out.old.items ++ line_of (command_words command.now)) }
     ensures fits { OnOk result (FitsCommand command.now) }
 {
     match command {
@@ -83,8 +80,7 @@ fn put_stream(out: &mut Vec<u8>, word: &[u8], driver: &Name, minor: u32) -> Resu
 // Appends a word and a number. Inlined: each caller's word is a constant, so its bytes are stored without a call.
 #[inline(always)]
 fn put_one(out: &mut Vec<u8>, word: &[u8], a: u32) -> Result<(), NoMemory>
-    ensures written { OnOk result (out.new.items
-        ≡ out.old.items ++ line_of (word.now ∷ decimal a ∷ [])) }
+    ensures written { OnOk result (out.new.items ≡ out.old.items ++ line_of (word.now ∷ decimal a ∷ [])) }
     ensures fits { FitsNumber a }
 {
     put_text(out, word)?;

@@ -1,7 +1,7 @@
 use Rattle.std.proofs.Common.{[], Ok, Err, inl, inr, refl, arith}
 use Rattle.std.specs.Prelude.{codes}
 use Rattle.muxsim_c.specs.declared.call_fault.CallFault.TheVariants.{Line, NoEntry, NoRoom}
-use Rattle.smx_session.specs.declared.line_fault.LineFault.TheVariants.{NoCommand}
+use Rattle.smx_session.specs.declared.faults.LineFault.TheVariants.{NoCommand}
 use Rattle.muxsim_c.proofs.WorkedLemmas as worked
 use Rattle.muxsim_c.proofs.laws_of_calls.a_worked_session_in_c.Goals as goal
 

@@ -10,5 +10,6 @@ returns-then-not-has_messages_at c =
     let there = place_of_number drivers c.args.n c.requires.number in
     unmarked drivers now c.args.n there.0 c.args.marks.now c.clear.new.self c.requires.marks there.1
     (ap (next_of drivers now there.0)
-    (sym (none_if_not_some _ (sym c.if-not-has_messages_at.true ∙ c.has_messages_at.ensures there.0 there.1))))
+    (sym (none_if_not_some _ (sym c.if-not-has_messages_at.true ∙ (rw (c.queues.ensures.drivers, c.queues.ensures.flow) at c.has_messages_at.ensures)
+    there.0 there.1))))
     c.clear.ensures.gone c.clear.ensures.count

@@ -51,7 +51,8 @@ clear_if_empty-requires-clause-marks c =
                 (one_number drivers c.args.next.from i from p from_at there f) left
             | inr h ↦ subst (λ (x : ℕ). has_bit run x ≡ true)
                 (one_number drivers c.args.next.to i to p c.requires.open.to_at there h.0)
-                (arrived.here (c.has_messages_at-filled.ensures to c.requires.open.to_at ∙ h.1))
+                (arrived.here ((rw (c.queues.ensures.drivers, c.queues.ensures.flow)
+                at c.has_messages_at-filled.ensures) to c.requires.open.to_at ∙ h.1))
           ];
       count = arrived.count;
     } in

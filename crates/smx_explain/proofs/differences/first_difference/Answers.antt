@@ -5,13 +5,13 @@ use Rattle.smx_explain.proofs.differences.first_difference.Goals as goal
 
 pub lines-preserved : goal.lines-preserved
 lines-preserved c =
-    let told = c.in-Some.ensures.next in
-    let same : c.in-Some.told.now ≡ c.in-Some-next_line.has.now = search rules in
+    let told = c.in_ok-told.ensures.next in
+    let same : c.in_ok-told.told.now ≡ c.in_ok-has.has.now = search rules in
     record {
-      come = one_more _ _ _ _ _ c.lines.invariant.come _ _ _ _ told.0 told.1 c.in-Some-next_line.ensures.next.1 same;
+      come = one_more _ _ _ _ _ c.lines.invariant.come _ _ _ _ told.0 told.1 c.in_ok-has.ensures.next.1 same;
       room = omega (
         arith,
         ap (length {A = _}) told.1,
-        length-append c.in-Some.told.now (LINE_FEED ∷ c.in-Some.more.now),
+        length-append c.in_ok-told.told.now (LINE_FEED ∷ c.in_ok-told.more.now),
       );
     }

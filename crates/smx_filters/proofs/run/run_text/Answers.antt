@@ -6,4 +6,4 @@ pub returns-in_err-output : goal.returns-in_err-output
 returns-in_err-output g c =
     let input = c.in_ok-input.ensures in
     passed_on (running c.args.fronts c.args.workers) _ _ _ _ _ _ _ c.in_ok-input.input input.0 input.1
-    c.requires.sunk c.in_err-output.field-0.0 _ c.from_residual-in_err-output.ensures.1 c.in_err-output.ensures
+    c.requires.ready.sunk c.in_err-output.field-0.0 _ c.from_residual-in_err-output.ensures.1 c.in_err-output.ensures

@@ -5,10 +5,10 @@ use Rattle.smx_live.proofs.live.open.Goals as goal
 pub returns-in-Ok : goal.returns-in-Ok
 returns-in-Ok g c =
     let s = c.args.session.now in
-    let sink = c.write_last.new.sink in
+    let sink = c.say.new.sink in
     let begins : BeginsTranscript s.version s.drivers [] c.as_slice.result.now =
     rw c.as_slice.ensures.value c.in-Ok.ensures in
     said c.as_slice.result.now tt (λ done (t : List ℕ). BeginsTranscript s.version s.drivers [] t)
     (λ (t : List ℕ). BeginsTranscript s.version s.drivers [] t) ⊤ (g.S.Sink.contents c.args.sink.now)
-    (g.S.Sink.contents sink) (g.S.Sink.flushed sink) (g.S.Sink.failures sink) c.write_last.result c.write_last.ensures
+    (g.S.Sink.contents sink) (g.S.Sink.flushed sink) (g.S.Sink.failures sink) c.say.result c.say.ensures
     begins begins

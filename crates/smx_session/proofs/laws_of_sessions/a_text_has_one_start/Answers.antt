@@ -6,4 +6,4 @@ returns-clause-one c = λ text. one_start text c.one_text_has_one_reading.ensure
 
 pub returns-clause-before : goal.returns-clause-before
 returns-clause-before c = λ text.
-    before_the_fault text c.one_text_has_one_reading.ensures c.want_of_memory_comes_before.ensures
+    before_the_fault text c.one_text_has_one_reading.ensures c.want_of_memory_comes_before.ensures.programs

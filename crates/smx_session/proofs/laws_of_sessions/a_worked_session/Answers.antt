@@ -7,7 +7,7 @@ returns c = record {
   starts = worked.starts;
   no_memory = worked.no_memory;
   no_memory_for_a_wrong_header =
-      worked.no_memory_for_a_wrong_header c.one_text_has_one_reading.ensures c.want_of_memory_comes_before.ensures
+      worked.no_memory_for_a_wrong_header c.one_text_has_one_reading.ensures c.want_of_memory_comes_before.ensures.programs
       c.wrong_programs.ensures.version_3.0;
   opens = worked.opens;
   hangs_up = worked.hangs_up;

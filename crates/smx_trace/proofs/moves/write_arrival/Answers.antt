@@ -7,13 +7,13 @@ returns-in-None c = then_ok c.write_marked.result
     (new_text c.args.line.now c.args.before.now c.args.out.now.items c.write_marked.new.out.items
     (sym c.in-None.ensures)) c.write_marked.ensures
 
-pub returns-then-is_same : goal.returns-then-is_same
-returns-then-is_same c =
+pub returns-in-Some : goal.returns-in-Some
+returns-in-Some c =
     let is : c.in-Some.was.now ≡ c.args.line.now = search rules in
     unmoved_text c.args.line.now c.in-Some.was.now c.args.before.now c.args.out.now.items (sym c.in-Some.ensures) is
 
-pub returns-else-is_same : goal.returns-else-is_same
-returns-else-is_same c =
+pub returns-in-Some-2 : goal.returns-in-Some-2
+returns-in-Some-2 c =
     let other : c.in-Some.was.now ≡ c.args.line.now → ⊥ = search rules in
     then_ok c.write_moved.result
     (moved_text c.args.line.now c.in-Some.was.now c.args.before.now c.args.out.now.items c.write_moved.new.out.items

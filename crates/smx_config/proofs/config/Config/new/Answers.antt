@@ -9,7 +9,9 @@ use Rattle.smx_config.proofs.config.Config.new.Goals as goal
 pub invariant_of-result : goal.invariant_of-result
 invariant_of-result c =
     let many : c.place_count-count.result ≡ length (places_of c.args.drivers.now) =
-    c.place_count-count.ensures.count ∙ ap (λ (m : Machine). length (places_of m.drivers)) c.in_ok-tables.ensures in
+    c.place_count-count.ensures.count
+    ∙ ap (λ d. length (places_of d)) c.queues.ensures.drivers
+    ∙ ap (λ (m : Machine). length (places_of m.drivers)) c.in_ok-tables.ensures in
     record {
       kept = rw c.in_ok-tables.ensures (empty_kept c.args.drivers.now);
       filled = rw c.in_ok-tables.ensures empty_filled;

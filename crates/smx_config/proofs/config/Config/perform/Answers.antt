@@ -2,8 +2,8 @@ use Rattle.std.proofs.Common.{rules, Result, sym, ap, ◌∙◌}
 use Rattle.smx_model.proofs.FullPlaceLemmas.{step_filled}
 use Rattle.smx_model.proofs.KeptLemmas.{step_keeps}
 use Rattle.smx_model.proofs.RefusalLemmas.{refused_same}
-use Rattle.smx_commands.specs.Refinement.{answer_of}
-use Rattle.smx_commands.specs.declared.step_error.StepError.{StepError}
+use Rattle.smx_tables.specs.Refinement.{answer_of}
+use Rattle.smx_tables.specs.declared.step_error.StepError.{StepError}
 use Rattle.smx_config.proofs.WokenLemmas.{fault_keeps, sound_if, stepped, woken_if}
 use Rattle.smx_config.proofs.config.Config.perform.Goals as goal
 use Rattle.smx_config.proofs.config.Config.perform.Goals.{then-is_ok, else-is_ok}

@@ -1,6 +1,6 @@
 use Rattle.std.proofs.Common.{ap}
 use Rattle.slab.specs.Slab.{Slab}
-use Rattle.smx_queues.specs.declared.node.Node.{Node}
+use Rattle.smx_queues.specs.declared.chain.Node.{Node}
 use Rattle.smx_queues.proofs.StoreLemmas.{grown, seen_now}
 use Rattle.smx_queues.proofs.queues.Queues.reserve_one.Goals as goal
 

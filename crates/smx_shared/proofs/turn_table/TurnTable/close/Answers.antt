@@ -24,8 +24,8 @@ returns-clause-ends g c =
     let v = c.args.token.me.0 in
     let end = closes _ _ _ _ _ v _ _ c.word-word.result c.take-slot.result c.close_with-closed.ensures.values.2
     c.requires.rest.0.2 c.word-word.ensures c.take-slot.ensures.value in
-    rw c.into_system.ensures
-    (ends_as v c.take-slot.result c.in-Some.system end.0 c.in-Some.is
+    rw (c.into_inner.ensures, c.boxed.view_is)
+    (ends_as v c.take-slot.result c.in-Some.boxed end.0 c.in-Some.is
     (end.6 c.if-word-ne0.false) c.requires.rest.1 end.1 end.2 end.3 end.4)
 
 pub returns-clause-begun : goal.returns-clause-begun
@@ -33,8 +33,8 @@ returns-clause-begun g c =
     let v = c.args.token.me.0 in
     let end = closes _ _ _ _ _ v _ _ c.word-word.result c.take-slot.result c.close_with-closed.ensures.values.2
     c.requires.rest.0.2 c.word-word.ensures c.take-slot.ensures.value in
-    rw c.into_system.ensures
-    (goes_on_from _ v c.take-slot.result c.in-Some.system end.0 c.in-Some.is
+    rw (c.into_inner.ensures, c.boxed.view_is)
+    (goes_on_from _ v c.take-slot.result c.in-Some.boxed end.0 c.in-Some.is
     (end.6 c.if-word-ne0.false) end.7 end.8 end.9)
 
 pub returns-then-word-ne0-clause-alone : goal.returns-then-word-ne0-clause-alone

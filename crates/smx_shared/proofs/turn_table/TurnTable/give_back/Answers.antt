@@ -8,8 +8,9 @@ use Rattle.smx_shared.proofs.turn_table.TurnTable.give_back.Goals as goal
 pub store-requires : goal.store-requires
 store-requires g c =
     let r = c.requires in
-    let sound = subst IsSoundSystem c.system.ensures c.front_word-front.ensures.sound in
-    let word = c.front_word-front.ensures.word ∙ ap (λ (s : Recorded). front_of s.drivers s.history) c.system.ensures in
+    let same = c.deref.ensures ∙ c.system.view_is in
+    let sound = subst IsSoundSystem same c.front_word-front.ensures.sound in
+    let word = c.front_word-front.ensures.word ∙ ap (λ (s : Recorded). front_of s.drivers s.history) same in
     let is = ready _ _ c.args.system _ r.turn.0 r.turn.1 r.same.0 r.same.1 r.more sound word c.exchange.ensures.3 in (
       c.exchange.ensures.0 ∙ r.table,
       search rules,

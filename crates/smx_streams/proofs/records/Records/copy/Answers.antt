@@ -1,20 +1,11 @@
-use Rattle.smx_model.proofs.Common.{◌≡◌, subst, ◌∙◌, arith}
-use Rattle.smx_streams.specs.RecordGrids.{HasRows}
-use Rattle.smx_streams.proofs.CopyLemmas.{all_copied, has_rows, none_copied}
+use Rattle.smx_streams.proofs.RecordLemmas.{same_records, same_slots, same_uses}
 use Rattle.smx_streams.proofs.records.Records.copy.Goals as goal
-use Rattle.smx_streams.proofs.records.Records.copy.Goals.{In_ok-minors}
 
--- the number of minors of each driver
-minors_are : (c : In_ok-minors) → c.in_ok-minors.minors.items ≡ c.args.self.now.minors
-minors_are c = grind arith
-
-pub loop-driver-init : goal.loop-driver-init
-loop-driver-init c =
-    none_copied c.args.self.now c.in_ok-copy.copy
-    (subst HasRows c.self.view_is (has_rows c.self.inside.drivers.items c.self.inside.records))
-    c.in_ok-copy.ensures.rows
-    (c.in_ok-copy.ensures.minors ∙ c.deref-2.ensures.value ∙ minors_are (goal.at.loop-driver-init c).In_ok-minors)
-    c.in_ok-copy.ensures.none c.in_ok-copy.ensures.hungs
+pub invariant_of-result : goal.invariant_of-result
+invariant_of-result c = rw (c.in_ok-copy_keys.ensures, c.deref.ensures.value)
+    (same_records _ _ _ (same_slots _ _ c.in_ok-clone.ensures.cases) c.self.invariant)
 
 pub returns : goal.returns
-returns c = grind (arith, minors_are, all_copied)
+returns c = rw (← c.self.view_is, c.in_ok-copy_keys.ensures, c.deref.ensures.value)
+    (same_uses _ c.self.inside.records c.in_ok-clone.field-0
+    (same_slots c.self.inside.records c.in_ok-clone.field-0 c.in_ok-clone.ensures.cases))

@@ -1,5 +1,4 @@
 use Rattle.smx_model.proofs.Common.{refl, arith}
-use Rattle.smx_streams.proofs.CopyLemmas.{has_rows}
 use Rattle.smx_streams.proofs.GridLemmas.{no_keys_lengths}
 use Rattle.smx_streams.proofs.RecordLemmas.{are_sound, no_holds, no_hungs, no_opens, none_recorded}
 use Rattle.smx_streams.proofs.records.Records.new.Goals as goal
@@ -18,9 +17,6 @@ returns-clause-none c = λ s. (
 
 pub returns-clause-hungs : goal.returns-clause-hungs
 returns-clause-hungs c = λ s. rw c.in_ok-new_keys.ensures (no_hungs c.args.minors.now c.new.result s)
-
-pub returns-clause-rows : goal.returns-clause-rows
-returns-clause-rows c = has_rows c.in_ok-new_keys.field-0.items c.new.result
 
 pub returns-clause-sound : goal.returns-clause-sound
 returns-clause-sound c = are_sound c.in_ok-new_keys.field-0.items c.new.result

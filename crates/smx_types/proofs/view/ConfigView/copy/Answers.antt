@@ -4,11 +4,11 @@ use Rattle.smx_types.proofs.view.ConfigView.copy.Goals as goal
 pub returns : goal.returns
 returns c =
     rw (
-      c.in_ok-fds.ensures,
-      c.in_ok-links.ensures,
-      c.in_ok-binds.ensures,
-      c.in_ok-routes.ensures,
-      c.in_ok-msgs.ensures,
-      c.in_ok-fulls.ensures,
-      c.in_ok-hungs.ensures,
+      c.in_ok-copy.ensures,
+      c.in_ok-copy-2.ensures,
+      c.in_ok-copy-3.ensures,
+      c.in_ok-copy-4.ensures,
+      c.in_ok-copy-5.ensures,
+      c.in_ok-copy-6.ensures,
+      c.in_ok-copy-7.ensures,
     ) refl

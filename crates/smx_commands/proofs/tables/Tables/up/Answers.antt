@@ -1,5 +1,0 @@
-use Rattle.std.proofs.Common.{refl}
-use Rattle.smx_commands.proofs.tables.Tables.up.Goals as goal
-
-pub returns : goal.returns
-returns c = rw (← c.self.view_is, ← c.in_ok-link.ensures, ← c.in_ok-binding.ensures) refl

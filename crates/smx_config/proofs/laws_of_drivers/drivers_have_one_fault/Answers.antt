@@ -1,5 +1,0 @@
-use Rattle.smx_config.proofs.DriverFaultLemmas.{one_fault}
-use Rattle.smx_config.proofs.laws_of_drivers.drivers_have_one_fault.Goals as goal
-
-pub returns : goal.returns
-returns c = one_fault

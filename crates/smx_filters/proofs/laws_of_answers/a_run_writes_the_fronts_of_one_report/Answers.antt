@@ -1,5 +1,0 @@
-use Rattle.smx_filters.proofs.FrontsLawLemmas.{of_one_report}
-use Rattle.smx_filters.proofs.laws_of_answers.a_run_writes_the_fronts_of_one_report.Goals as goal
-
-pub returns : goal.returns
-returns c = of_one_report

@@ -1,5 +1,0 @@
-use Rattle.smx_model.proofs.SweptLemmas.{swept_once}
-use Rattle.smx_model.proofs.laws_of_steps.outcomes_are_swept.Goals as goal
-
-pub returns : goal.returns
-returns c = λ drivers d process k h. swept_once drivers d process k h.swept

@@ -1,0 +1,121 @@
+//! The faults of a session: why it doesn't start, why it performs no line, and why it writes no entry.
+
+ghost use Rattle.std.specs.Prelude.{◌≡◌, ◌≢◌, ◌⊎◌, Some};
+ghost use Rattle.smx_config.specs.declared.config_fault.ConfigFault.TheVariants as config;
+ghost use Rattle.smx_session.specs.FaultWords.{entry_fault_words, line_fault_words, start_fault_words};
+ghost use Rattle.smx_session.specs.declared.faults.EntryFault.TheVariants as entry;
+ghost use Rattle.smx_session.specs.declared.faults.LineFault.TheVariants as line_fault;
+ghost use Rattle.smx_session.specs.declared.faults.StartFault.TheVariants.{NoMemory as memory, Text, Drivers};
+ghost use Rattle.smx_text.specs.declared.text_fault.Cause.TheVariants as cause;
+
+use smx_config::ConfigFault;
+use smx_text::{Cause, TextFault};
+use smx_types::NoMemory;
+use std::fmt;
+
+/// Why a text makes no session. It prints as `no memory`, `line 2: form` or `driver 3 marks`, for example.
+#[derive(Clone, Copy, Debug, PartialEq, Eq)]
+pub enum StartFault {
+    /// An allocation failed.
+    NoMemory,
+    /// The bytes are not a text of programs. The cause is never out-of-memory.
+    Text(TextFault),
+    /// No configuration can have these drivers. The fault is never out-of-memory.
+    Drivers(ConfigFault),
+}
+
+/// Why a line is not performed. It prints as `no memory` or `no command`.
+#[derive(Clone, Copy, Debug, PartialEq, Eq)]
+pub enum LineFault {
+    /// An allocation failed.
+    NoMemory,
+    /// The line is not a process with a command that the version allows.
+    NoCommand,
+}
+
+/// Why no entry is written. It prints as `no memory` or `no entry yet`.
+#[derive(Clone, Copy, Debug, PartialEq, Eq)]
+pub enum EntryFault {
+    /// An allocation failed.
+    NoMemory,
+    /// No command was performed yet.
+    NoEntry,
+}
+
+/// Returns out-of-memory as `NoMemory`, and every other fault of a text unchanged.
+pub(crate) fn of_text(fault: TextFault) -> StartFault
+    ensures { ((result ≡ memory) × (fault.cause ≡ cause.NoMemory))
+        ⊎ ((result ≡ Text fault) × (fault.cause ≢ cause.NoMemory)) }
+{
+    match fault.cause {
+        Cause::NoMemory => StartFault::NoMemory,
+        _ => StartFault::Text(fault),
+    }
+}
+
+/// Returns out-of-memory as `NoMemory`, and every other fault of drivers unchanged.
+pub(crate) fn of_drivers(fault: ConfigFault) -> StartFault
+    ensures { ((result ≡ memory) × (fault ≡ config.NoMemory))
+        ⊎ ((result ≡ Drivers fault) × (fault ≢ config.NoMemory)) }
+{
+    match fault {
+        ConfigFault::NoMemory => StartFault::NoMemory,
+        _ => StartFault::Drivers(fault),
+    }
+}
+
+impl From<NoMemory> for LineFault {
+    ghost from_gives = { λ _ f. f ≡ line_fault.NoMemory };
+
+    fn from(_error: NoMemory) -> LineFault {
+        LineFault::NoMemory
+    }
+}
+
+impl From<NoMemory> for EntryFault {
+    ghost from_gives = { λ _ f. f ≡ entry.NoMemory };
+
+    fn from(_error: NoMemory) -> EntryFault {
+        EntryFault::NoMemory
+    }
+}
+
+impl fmt::Display for StartFault {
+    ghost output = { λ fault. Some (start_fault_words fault) };
+
+    fn fmt<W: fmt::Write>(&self, f: &mut fmt::Formatter<W>) -> fmt::Result {
+        match self {
+            StartFault::NoMemory => f.write_str("no memory"),
+            StartFault::Text(fault) => write!(f, "{fault}"),
+            StartFault::Drivers(fault) => write!(f, "{fault}"),
+        }
+    }
+}
+
+impl fmt::Display for LineFault {
+    ghost output = { λ fault. Some (line_fault_words fault) };
+
+    fn fmt<W: fmt::Write>(&self, f: &mut fmt::Formatter<W>) -> fmt::Result {
+        match self {
+            LineFault::NoMemory => f.write_str("no memory"),
+            LineFault::NoCommand => f.write_str("no command"),
+        }
+    }
+}
+
+impl fmt::Display for EntryFault {
+    ghost output = { λ fault. Some (entry_fault_words fault) };
+
+    fn fmt<W: fmt::Write>(&self, f: &mut fmt::Formatter<W>) -> fmt::Result {
+        match self {
+            EntryFault::NoMemory => f.write_str("no memory"),
+            EntryFault::NoEntry => f.write_str("no entry yet"),
+        }
+    }
+}
+
+impl std::error::Error for StartFault {}
+
+impl std::error::Error for LineFault {}
+
+impl std::error::Error for EntryFault {}

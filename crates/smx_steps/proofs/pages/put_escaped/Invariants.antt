@@ -1,0 +1,8 @@
+use Rattle.std.proofs.Common.{◌≡◌, ◌++◌, take}
+use Rattle.std.specs.List.{flat_map}
+use Rattle.smx_steps.specs.Escapes.{escaped_byte}
+use Rattle.smx_steps.proofs.pages.put_escaped.Given as goal
+
+abbrev pub invariant-loop-byte : goal.invariant-loop-byte
+invariant-loop-byte l =
+    l.out.items ≡ l.initial.out.items ++ flat_map escaped_byte (take l.byte-index l.text)

@@ -1,5 +1,0 @@
-use Rattle.smx_trace.proofs.PrefixLemmas.{first_allowed}
-use Rattle.smx_trace.proofs.laws_of_replays.first_entries_are_allowed.Goals as goal
-
-pub returns : goal.returns
-returns c = first_allowed

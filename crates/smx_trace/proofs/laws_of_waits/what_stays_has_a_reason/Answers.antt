@@ -1,5 +1,0 @@
-use Rattle.smx_trace.proofs.WaitLemmas.{reason_or_moves}
-use Rattle.smx_trace.proofs.laws_of_waits.what_stays_has_a_reason.Goals as goal
-
-pub returns : goal.returns
-returns c = reason_or_moves
