@@ -15,8 +15,9 @@ ghost use Rattle.smx_shared.specs.TurnRule.{Slot, TurnRule};
 ghost use Rattle.smx_shared.specs.WorkedSystems.{with_first, of_one_name};
 ghost use Rattle.smx_shared.specs.declared.seat_view.SeatView.{SeatView as View};
 
-use smx_model::laws::lawful_after_each_entry;
-use smx_model::laws::{legal_or_first_illegal, the_second_is_the_first_illegal};
+use smx_model::laws::{
+    lawful_after_each_entry, legal_or_first_illegal, the_second_is_the_first_illegal,
+};
 
 /// A system is sound if its drivers are valid, its limit is at most 100,000, it has no more entries than its limit, and
 /// its history is legal. Its history is then also lawful after each entry.

@@ -29,8 +29,10 @@ ghost use Rattle.smx_trace.specs.Traces.{IsTraceText, entry_lines_from, lines_be
 ghost use Rattle.smx_trace.specs.Traces as trace;
 ghost use Rattle.smx_trace.specs.WorkedReplays.{claimed, exchanged, left_out, put_right};
 
-use smx_model::laws::{few_commands_drop, without_a_hangup_none_is_reported};
-use smx_model::laws::{histories_are_determined, lawful_after_each_entry, prefixes_are_legal};
+use smx_model::laws::{
+    few_commands_drop, histories_are_determined, lawful_after_each_entry, prefixes_are_legal,
+    without_a_hangup_none_is_reported,
+};
 use smx_model::laws_of_configurations::settling_ends;
 
 /// A transcript with valid drivers has exactly one replay. Transcripts with the same version, drivers and calls have
