@@ -10,9 +10,11 @@ ghost use Rattle.smx_words.specs.Spelling.{fault_words, reply_words};
 ghost use Rattle.smx_words.specs.Verbs.{reply_verb_word};
 ghost use Rattle.smx_words.specs.Words.{line_of};
 
+use crate::fault::{FAULTS, fault_text};
 use crate::reading::hex_word::number_and_bytes;
 use crate::reading::number::{first_number, number, pair};
 use crate::reading::verb::{ReplyVerb, first_reply_verb};
+use crate::reading::word::is;
 use smx_types::{Fault, NoMemory, Reply, Serials, Version};
 use std::alloc::Global;
 
@@ -131,24 +133,10 @@ fn lone_reply(alloc: Global, line: &[u8]) -> Option<Reply>
 fn fault_of(line: &[u8]) -> Option<Fault>
     ensures { IsReadAs FitsAlways fault_words line.now result }
 {
-    match line {
-        b"EBADF fd" => Some(Fault::BadDescriptor),
-        b"EINVAL below" => Some(Fault::Below),
-        b"EINVAL notmux" => Some(Fault::NotMux),
-        b"EINVAL already" => Some(Fault::AlreadyBelow),
-        b"EINVAL cycle" => Some(Fault::Cycle),
-        b"EAGAIN links" => Some(Fault::TooManyLinks),
-        b"EINVAL id" => Some(Fault::NoLink),
-        b"ENXIO driver" => Some(Fault::NoDriver),
-        b"ENXIO minor" => Some(Fault::NoMinor),
-        b"EMFILE" => Some(Fault::TooManyDescriptors),
-        b"EADDRINUSE" => Some(Fault::AddressInUse),
-        b"EINVAL unbound" => Some(Fault::Unbound),
-        b"EINVAL unrouted" => Some(Fault::Unrouted),
-        b"EAGAIN full" => Some(Fault::Full),
-        b"EAGAIN empty" => Some(Fault::Empty),
-        b"ERANGE" => Some(Fault::BadSize),
-        b"ENXIO hangup" => Some(Fault::HungUp),
-        _ => None,
+    for fault in FAULTS {
+        if is(line, fault_text(fault)) {
+            return Some(fault);
+        }
     }
+    None
 }
