@@ -24,12 +24,22 @@ fn key_of(stream: StreamId) -> Key
 
 /// For each driver and address, the stream that is bound to the address. Contracts see the list of bindings, sorted by
 /// driver and address.
-#[derive(Debug, Drop)]
+#[derive(Debug)]
 pub struct Bindings {
     // The minor for each driver and address.
     minors: IndexMap<Key, u8>,
     // The address for each driver and minor.
     addrs: IndexMap<Key, u32>,
+}
+
+impl Drop for Bindings {
+    // Written by hand, so that functions drop bindings with one call, not part by part.
+    fn drop(self) {
+        let Bindings {
+            minors: _minors,
+            addrs: _addrs,
+        } = self;
+    }
 }
 
 impl Model for Bindings {

@@ -48,12 +48,22 @@ fn drop_target(targets: &mut Targets, id: u32, key: Key)
 
 /// For each driver and address, the link to which the address is routed. Contracts see the list of routes, sorted by
 /// driver and address.
-#[derive(Debug, Drop)]
+#[derive(Debug)]
 pub struct Routes {
     // The link id for each driver and address.
     ids: IndexMap<Key, u32>,
     // The keys of the routes to each link.
     targets: Targets,
+}
+
+impl Drop for Routes {
+    // Written by hand, so that functions drop routes with one call, not part by part.
+    fn drop(self) {
+        let Routes {
+            ids: _ids,
+            targets: _targets,
+        } = self;
+    }
 }
 
 impl Model for Routes {

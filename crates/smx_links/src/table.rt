@@ -42,11 +42,22 @@ impl From<NoMemory> for LinkFault {
 
 /// Links by rising id, without a cycle, and with no stream below two of them. Contracts see the list, the next id and
 /// the number of drivers.
-#[derive(Debug, Drop)]
+#[derive(Debug)]
 pub struct LinkTable {
     masks: Vec<Word>,
     links: Links,
     next_id: u32,
+}
+
+impl Drop for LinkTable {
+    // Written by hand, so that functions drop a table with one call, not part by part.
+    fn drop(self) {
+        let LinkTable {
+            masks: _masks,
+            links: _links,
+            next_id: _next_id,
+        } = self;
+    }
 }
 
 impl Model for LinkTable {

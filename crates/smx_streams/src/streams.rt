@@ -32,11 +32,22 @@ pub struct Closed {
 /// The descriptors of all processes, the number of holds of each stream, and the hung-up streams. A hold keeps a stream
 /// in the table even if no descriptor names it. Contracts see the number of minors of each driver, the list of
 /// descriptors, the holds, and the list of hung-up streams.
-#[derive(Debug, Drop)]
+#[derive(Debug)]
 pub struct Streams {
     alloc: Global,
     descriptors: Descriptors,
     records: Records,
+}
+
+impl Drop for Streams {
+    // Written by hand, so that functions drop a table with one call, not part by part.
+    fn drop(self) {
+        let Streams {
+            alloc: _alloc,
+            descriptors: _descriptors,
+            records: _records,
+        } = self;
+    }
 }
 
 impl Model for Streams {
