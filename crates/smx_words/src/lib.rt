@@ -1,7 +1,6 @@
 //! Reads and writes the words of one line of a text. Each value that can be on a line has exactly one spelling.
 #![tactic(auto)]
 
-mod fault;
 pub mod laws;
 mod reading;
 mod writing;

@@ -10,7 +10,6 @@ ghost use Rattle.smx_words.specs.Spelling.{fault_words, reply_words};
 ghost use Rattle.smx_words.specs.Verbs.{reply_verb_word};
 ghost use Rattle.smx_words.specs.Words.{line_of};
 
-use crate::fault::{FAULTS, fault_text};
 use crate::reading::hex_word::number_and_bytes;
 use crate::reading::number::{first_number, number, pair};
 use crate::reading::verb::{ReplyVerb, first_reply_verb};
@@ -139,4 +138,50 @@ fn fault_of(line: &[u8]) -> Option<Fault>
         }
     }
     None
+}
+
+// All faults.
+const FAULTS: [Fault; 17] = [
+    Fault::BadDescriptor,
+    Fault::Below,
+    Fault::NotMux,
+    Fault::AlreadyBelow,
+    Fault::Cycle,
+    Fault::TooManyLinks,
+    Fault::NoLink,
+    Fault::NoDriver,
+    Fault::NoMinor,
+    Fault::TooManyDescriptors,
+    Fault::AddressInUse,
+    Fault::Unbound,
+    Fault::Unrouted,
+    Fault::Full,
+    Fault::Empty,
+    Fault::BadSize,
+    Fault::HungUp,
+];
+
+// Returns the words of a fault.
+fn fault_text(fault: Fault) -> &'static [u8]
+    ensures { result.now ≡ line_of (fault_words fault) }
+{
+    match fault {
+        Fault::BadDescriptor => b"EBADF fd",
+        Fault::Below => b"EINVAL below",
+        Fault::NotMux => b"EINVAL notmux",
+        Fault::AlreadyBelow => b"EINVAL already",
+        Fault::Cycle => b"EINVAL cycle",
+        Fault::TooManyLinks => b"EAGAIN links",
+        Fault::NoLink => b"EINVAL id",
+        Fault::NoDriver => b"ENXIO driver",
+        Fault::NoMinor => b"ENXIO minor",
+        Fault::TooManyDescriptors => b"EMFILE",
+        Fault::AddressInUse => b"EADDRINUSE",
+        Fault::Unbound => b"EINVAL unbound",
+        Fault::Unrouted => b"EINVAL unrouted",
+        Fault::Full => b"EAGAIN full",
+        Fault::Empty => b"EAGAIN empty",
+        Fault::BadSize => b"ERANGE",
+        Fault::HungUp => b"ENXIO hangup",
+    }
 }

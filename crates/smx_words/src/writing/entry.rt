@@ -10,7 +10,6 @@ ghost use Rattle.smx_words.specs.Words.{LINE_FEED, SPACE, line_of};
 use super::Spell;
 use super::command::put_command;
 use super::word::{put_byte, put_digits, put_last, put_message, put_spaced, put_text};
-use crate::fault::fault_text;
 use smx_types::{Command, Entry, Fault, NoMemory, Process, Reply};
 
 impl Spell for Entry {
@@ -113,7 +112,23 @@ fn put_fault(out: &mut Vec<u8>, fault: Fault) -> Result<(), NoMemory>
     ensures { OnOk result (out.new.items
         ≡ out.old.items ++ codes " = " ++ line_of (fault_words fault) ++ LINE_FEED ∷ []) }
 {
-    put_text(out, b" = ")?;
-    put_text(out, fault_text(fault))?;
-    put_byte(out, b'\n')
+    match fault {
+        Fault::BadDescriptor => put_text(out, b" = EBADF fd\n"),
+        Fault::Below => put_text(out, b" = EINVAL below\n"),
+        Fault::NotMux => put_text(out, b" = EINVAL notmux\n"),
+        Fault::AlreadyBelow => put_text(out, b" = EINVAL already\n"),
+        Fault::Cycle => put_text(out, b" = EINVAL cycle\n"),
+        Fault::TooManyLinks => put_text(out, b" = EAGAIN links\n"),
+        Fault::NoLink => put_text(out, b" = EINVAL id\n"),
+        Fault::NoDriver => put_text(out, b" = ENXIO driver\n"),
+        Fault::NoMinor => put_text(out, b" = ENXIO minor\n"),
+        Fault::TooManyDescriptors => put_text(out, b" = EMFILE\n"),
+        Fault::AddressInUse => put_text(out, b" = EADDRINUSE\n"),
+        Fault::Unbound => put_text(out, b" = EINVAL unbound\n"),
+        Fault::Unrouted => put_text(out, b" = EINVAL unrouted\n"),
+        Fault::Full => put_text(out, b" = EAGAIN full\n"),
+        Fault::Empty => put_text(out, b" = EAGAIN empty\n"),
+        Fault::BadSize => put_text(out, b" = ERANGE\n"),
+        Fault::HungUp => put_text(out, b" = ENXIO hangup\n"),
+    }
 }
