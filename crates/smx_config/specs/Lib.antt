@@ -7,3 +7,4 @@ pub mod Moves
 pub mod Wakes
 pub mod ModelOfConfig
 pub mod Verdicts
+pub mod WorkedDrivers
