@@ -1,5 +1,5 @@
--- Two worked traces with waits below each entry, typed in: they have each kind of change and each reason.
-use Rattle.std.specs.Prelude.{◌≡◌, [], ◌∷◌, ◌++◌, true, codes, refl}
+-- Worked traces with waits below each entry, and one without, typed in: they have each kind of change and each reason.
+use Rattle.std.specs.Prelude.{◌≡◌, ℕ, List, [], ◌∷◌, ◌++◌, true, false, codes, refl}
 use Rattle.std.specs.Fmt.{digits}
 use Rattle.hex.specs.Hex.{encode_with}
 use Rattle.smx_types.specs.declared.transcript.Transcript.{Transcript}
@@ -10,7 +10,7 @@ use Rattle.smx_model.specs.Worked.Common.{◌does◌gets◌, ip, eth}
 use Rattle.smx_model.specs.Worked.Common.{ip_over_eth, no_lines}
 use Rattle.smx_trace.specs.Traces.{trace_text}
 
--- a message waits for a route, and moves on to the device
+-- a message waits for a route, and moves on to the device; another one follows it there
 abbrev pub waiting : Transcript
 waiting = record {
   version = V1;
@@ -20,9 +20,15 @@ waiting = record {
       ∷ 0 does Link 0 1 gets Id 1
       ∷ 0 does Write 0 5 (170 ∷ []) gets Took 1
       ∷ 0 does Route 0 5 1 gets Done []
+      ∷ 0 does Write 0 5 (187 ∷ []) gets Took 2
       ∷ [];
   view = no_lines 1 1;
 }
+
+-- the end of its trace: both messages are in one queue, which has one wait, below the last of them
+abbrev pub waiting_at_the_end : List ℕ
+waiting_at_the_end = codes "config\nnext 2 3\nfd 0 0 ip 0\nfd 0 1 eth 0\nlink 1 ip 0 eth 0 link\nroute ip 5 1\n"
+    ++ codes "msg eth 0 w 1 5 aa\nmsg eth 0 w 2 5 bb\n  waits eth 0 w 1: for the device\nend\n"
 
 -- its trace
 pub traced_so : trace_text true waiting ≡ codes "transcript 1\n" ++ codes "driver ip mux 4 8 3 16\n"
@@ -32,10 +38,23 @@ pub traced_so : trace_text true waiting ≡ codes "transcript 1\n" ++ codes "dri
     ++ codes "0 link 0 1 = id 1\n  + link 1 ip 0 eth 0 link\n"
     ++ codes "0 write 0 5 aa = took 1\n  + msg ip 0 w 1 5 aa\n  waits ip 0 w 1: no route for 5\n"
     ++ codes "0 route 0 5 1 = done\n  + route ip 5 1\n  ~ msg 1 ip 0 w -> eth 0 w\n  waits eth 0 w 1: for the device\n"
-    ++ codes "config\nnext 2 2\nfd 0 0 ip 0\nfd 0 1 eth 0\nlink 1 ip 0 eth 0 link\nroute ip 5 1\n"
-    ++ codes "msg eth 0 w 1 5 aa\n  waits eth 0 w 1: for the device\nend\n"
+    ++ codes "0 write 0 5 bb = took 2\n  + msg eth 0 w 2 5 bb\n  waits eth 0 w 1: for the device\n"
+    ++ waiting_at_the_end
 unfolding digits encode_with
 traced_so = refl
+
+-- its trace without waits below each entry
+pub traced_so_without_waits : trace_text false waiting ≡ codes "transcript 1\n" ++ codes "driver ip mux 4 8 3 16\n"
+    ++ codes "driver eth leaf 2 8 3 16\n"
+    ++ codes "0 clone ip = fd 0 0\n  + fd 0 0 ip 0\n"
+    ++ codes "0 clone eth = fd 1 0\n  + fd 0 1 eth 0\n"
+    ++ codes "0 link 0 1 = id 1\n  + link 1 ip 0 eth 0 link\n"
+    ++ codes "0 write 0 5 aa = took 1\n  + msg ip 0 w 1 5 aa\n"
+    ++ codes "0 route 0 5 1 = done\n  + route ip 5 1\n  ~ msg 1 ip 0 w -> eth 0 w\n"
+    ++ codes "0 write 0 5 bb = took 2\n  + msg eth 0 w 2 5 bb\n"
+    ++ waiting_at_the_end
+unfolding digits encode_with
+traced_so_without_waits = refl
 
 -- messages wait for a full queue, for a binding, for a device that has hung up, and for a read; an unlink drops one
 abbrev pub hanging_up : Transcript
