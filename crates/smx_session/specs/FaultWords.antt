@@ -1,12 +1,8 @@
 -- The words in which faults print themselves.
-use Rattle.std.specs.Prelude.{ℕ, List, codes}
+use Rattle.std.specs.Prelude.{ℕ, List}
 use Rattle.smx_types.specs.FaultWords.{no_memory_words}
 use Rattle.smx_config.specs.FaultWords.{config_fault_words}
 use Rattle.smx_text.specs.FaultWords.{text_fault_words}
-use Rattle.smx_session.specs.declared.faults.EntryFault.{EntryFault}
-use Rattle.smx_session.specs.declared.faults.EntryFault.TheVariants as entry
-use Rattle.smx_session.specs.declared.faults.LineFault.{LineFault}
-use Rattle.smx_session.specs.declared.faults.LineFault.TheVariants as line
 use Rattle.smx_session.specs.declared.faults.StartFault.{StartFault}
 use Rattle.smx_session.specs.declared.faults.StartFault.TheVariants as start
 
@@ -15,13 +11,3 @@ abbrev pub start_fault_words : StartFault → List ℕ
 start_fault_words start.NoMemory = no_memory_words
 start_fault_words (start.Text fault) = text_fault_words fault
 start_fault_words (start.Drivers fault) = config_fault_words fault
-
--- the words for a line without a command, or for out-of-memory
-abbrev pub line_fault_words : LineFault → List ℕ
-line_fault_words line.NoMemory = no_memory_words
-line_fault_words line.NoCommand = codes "no command"
-
--- the words for a session without an entry, or for out-of-memory
-abbrev pub entry_fault_words : EntryFault → List ℕ
-entry_fault_words entry.NoMemory = no_memory_words
-entry_fault_words entry.NoEntry = codes "no entry yet"

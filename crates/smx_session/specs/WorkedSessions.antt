@@ -6,10 +6,8 @@ use Rattle.smx_types.specs.declared.version.Version.TheVariants.{V2}
 use Rattle.smx_model.specs.Configuration.{Configuration, empty}
 use Rattle.smx_model.specs.Worked.Common.{Done, Fd, Hangup, OpenClone, ◌does◌gets◌}
 use Rattle.smx_model.specs.Worked.Common.{eth, leaf}
-use Rattle.smx_session.specs.FaultWords.{entry_fault_words, line_fault_words, start_fault_words}
+use Rattle.smx_session.specs.FaultWords.{start_fault_words}
 use Rattle.smx_session.specs.Sessions.{State, shown_lines}
-use Rattle.smx_session.specs.declared.faults.EntryFault.TheVariants as entry
-use Rattle.smx_session.specs.declared.faults.LineFault.TheVariants as line
 use Rattle.smx_session.specs.declared.faults.StartFault.TheVariants as start
 
 -- the table with one driver that has two minors
@@ -58,19 +56,3 @@ a_hangup_is_shown = refl
 -- the words for out-of-memory, if no session starts
 pub start_memory_words : start_fault_words start.NoMemory ≡ codes "no memory"
 start_memory_words = refl
-
--- they are the same if a line is not performed
-pub memory_words : line_fault_words line.NoMemory ≡ codes "no memory"
-memory_words = refl
-
--- and if no entry is written
-pub entry_memory_words : entry_fault_words entry.NoMemory ≡ codes "no memory"
-entry_memory_words = refl
-
--- the words for a line that is not a command
-pub line_words : line_fault_words line.NoCommand ≡ codes "no command"
-line_words = refl
-
--- the words for a session without an entry
-pub entry_words : entry_fault_words entry.NoEntry ≡ codes "no entry yet"
-entry_words = refl

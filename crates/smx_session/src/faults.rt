@@ -2,7 +2,7 @@
 
 ghost use Rattle.std.specs.Prelude.{◌≡◌, ◌≢◌, ◌⊎◌, Some};
 ghost use Rattle.smx_config.specs.declared.config_fault.ConfigFault.TheVariants as config;
-ghost use Rattle.smx_session.specs.FaultWords.{entry_fault_words, line_fault_words, start_fault_words};
+ghost use Rattle.smx_session.specs.FaultWords.{start_fault_words};
 ghost use Rattle.smx_session.specs.declared.faults.EntryFault.TheVariants as entry;
 ghost use Rattle.smx_session.specs.declared.faults.LineFault.TheVariants as line_fault;
 ghost use Rattle.smx_session.specs.declared.faults.StartFault.TheVariants.{NoMemory as memory, Text, Drivers};
@@ -24,7 +24,7 @@ pub enum StartFault {
     Drivers(ConfigFault),
 }
 
-/// Why a line is not performed. It prints as `no memory` or `no command`.
+/// Why a line is not performed.
 #[derive(Clone, Copy, Debug, PartialEq, Eq)]
 pub enum LineFault {
     /// An allocation failed.
@@ -33,7 +33,7 @@ pub enum LineFault {
     NoCommand,
 }
 
-/// Why no entry is written. It prints as `no memory` or `no entry yet`.
+/// Why no entry is written.
 #[derive(Clone, Copy, Debug, PartialEq, Eq)]
 pub enum EntryFault {
     /// An allocation failed.
@@ -92,30 +92,4 @@ impl fmt::Display for StartFault {
     }
 }
 
-impl fmt::Display for LineFault {
-    ghost output = { λ fault. Some (line_fault_words fault) };
-
-    fn fmt<W: fmt::Write>(&self, f: &mut fmt::Formatter<W>) -> fmt::Result {
-        match self {
-            LineFault::NoMemory => f.write_str("no memory"),
-            LineFault::NoCommand => f.write_str("no command"),
-        }
-    }
-}
-
-impl fmt::Display for EntryFault {
-    ghost output = { λ fault. Some (entry_fault_words fault) };
-
-    fn fmt<W: fmt::Write>(&self, f: &mut fmt::Formatter<W>) -> fmt::Result {
-        match self {
-            EntryFault::NoMemory => f.write_str("no memory"),
-            EntryFault::NoEntry => f.write_str("no entry yet"),
-        }
-    }
-}
-
 impl std::error::Error for StartFault {}
-
-impl std::error::Error for LineFault {}
-
-impl std::error::Error for EntryFault {}

@@ -1,6 +1,6 @@
 //! A session: a configuration, the version of the session's texts, and the last entry.
 
-ghost use Rattle.std.specs.Prelude.{◌≡◌, ℕ, List, ◌++◌, [], Err, IfErr, IfOk, IfSome, OnOk, OnErr, option_copied};
+ghost use Rattle.std.specs.Prelude.{◌≡◌, ℕ, List, ◌++◌, [], Err, IfErr, IfOk, IfSome, OnOk, OnErr};
 ghost use Rattle.smx_model.specs.DriverList.{IsDriverList};
 ghost use Rattle.smx_model.specs.KeptConfigurations.{IsKept};
 ghost use Rattle.smx_model.specs.Views.{view};
@@ -104,13 +104,6 @@ impl Session {
         self.config.drivers()
     }
 
-    /// Returns the last entry, if there is one. Takes no memory.
-    pub fn last(&self) -> Option<&Entry>
-        ensures { option_copied result ≡ self.now.last }
-    {
-        self.last.as_ref()
-    }
-
     /// Returns the beginning of the session's transcript: the header and a line for each driver. Fails only if it is
     /// out of memory.
     pub fn opening(&self, alloc: Global) -> Result<Vec<u8>, NoMemory>
@@ -139,7 +132,7 @@ impl Session {
         ensures none { IfErr result (HasNoLine self.now) }
         ensures kept { result ≡ Err NoEntry → out.new.items ≡ out.old.items }
     {
-        let Some(entry) = self.last() else {
+        let Some(entry) = &self.last else {
             return Err(EntryFault::NoEntry);
         };
         entry.write_line(out)?;
