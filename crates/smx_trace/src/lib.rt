@@ -7,12 +7,10 @@ pub mod laws;
 mod moves;
 mod pieces;
 mod queues;
-mod ranks;
 mod reasons;
 mod replaying;
 mod tracing;
 
 pub use changes::write_changes;
-pub use queues::write_waits;
 pub use replaying::{first_entries, replay};
 pub use tracing::{trace, trace_entry};

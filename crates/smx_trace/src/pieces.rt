@@ -3,9 +3,8 @@
 ghost use Rattle.std.specs.Prelude.{◌≡◌, ◌++◌, OnOk};
 ghost use Rattle.std.specs.Fmt.{decimal};
 ghost use Rattle.smx_model.specs.DriverList.{name_of};
-ghost use Rattle.smx_words.specs.Spelling.{side_word};
 ghost use Rattle.smx_words.specs.Words.{line_of};
-ghost use Rattle.smx_trace.specs.TraceWords.{marked, place_words, stream_words};
+ghost use Rattle.smx_trace.specs.TraceWords.{marked, place_words};
 
 use itoa::Buffer;
 use smx_types::{DriverSpec, NoMemory, Place, Side, StreamId};
@@ -26,15 +25,6 @@ pub fn put_number(out: &mut Vec<u8>, number: u32) -> Result<(), NoMemory>
     put(out, Buffer::new().format(number).as_bytes())
 }
 
-fn word_of_side(side: Side) -> &'static [u8]
-    ensures { result.now ≡ side_word side }
-{
-    match side {
-        Side::Write => b"w",
-        Side::Read => b"r",
-    }
-}
-
 /// Appends a driver's name, a minor and a side: the words of a place.
 pub fn put_place_words(
     out: &mut Vec<u8>,
@@ -47,31 +37,20 @@ pub fn put_place_words(
     put(out, name)?;
     put(out, b" ")?;
     put_number(out, minor)?;
-    put(out, b" ")?;
-    put(out, word_of_side(side))
-}
-
-/// Appends the name of the driver with this number.
-pub fn put_name(out: &mut Vec<u8>, drivers: &[DriverSpec], driver: u8) -> Result<(), NoMemory>
-    ensures { OnOk result (out.new.items ≡ out.old.items ++ name_of drivers.now driver) }
-{
-    match drivers.get(driver as usize) {
-        Some(d) => put(out, d.name.as_bytes()),
-        None => Ok(()),
+    match side {
+        Side::Write => put(out, b" w"),
+        Side::Read => put(out, b" r"),
     }
 }
 
-/// Appends the words of a stream: the name of its driver, and its minor.
-pub fn put_stream(
-    out: &mut Vec<u8>,
-    drivers: &[DriverSpec],
-    stream: StreamId,
-) -> Result<(), NoMemory>
-    ensures { OnOk result (out.new.items ≡ out.old.items ++ line_of (stream_words drivers.now stream)) }
+/// Returns the name of the driver with this number, or nothing if there is none.
+pub fn name_of(drivers: &[DriverSpec], driver: u8) -> &[u8]
+    ensures { result.now ≡ name_of drivers.now driver }
 {
-    put_name(out, drivers, stream.driver)?;
-    put(out, b" ")?;
-    put_number(out, u32::from(stream.minor))
+    match drivers.get(driver as usize) {
+        Some(d) => d.name.as_bytes(),
+        None => b"",
+    }
 }
 
 /// Appends the words of a place: those of its stream, and its side.
@@ -79,9 +58,8 @@ pub fn put_place(out: &mut Vec<u8>, drivers: &[DriverSpec], place: Place) -> Res
     ensures { OnOk result (out.new.items ≡ out.old.items ++ line_of (
         place_words (name_of drivers.now place.stream.driver) place.stream.minor place.side)) }
 {
-    put_stream(out, drivers, place.stream)?;
-    put(out, b" ")?;
-    put(out, word_of_side(place.side))
+    let StreamId { driver, minor } = place.stream;
+    put_place_words(out, name_of(drivers, driver), u32::from(minor), place.side)
 }
 
 /// Appends a mark, and then the line. Fails only if out of memory.

@@ -1,7 +1,6 @@
 //! The `waits` lines: each says why the first message of a queue can't move.
 
 ghost use Rattle.std.specs.Prelude.{◌≡◌, ◌++◌, OnOk, Some};
-ghost use Rattle.smx_types.specs.declared.stream.Side.TheVariants as side;
 ghost use Rattle.smx_model.specs.Settling.{IsSettled};
 ghost use Rattle.smx_model.specs.Waits.{Reason as AnyReason, reason_at, reason_of_end};
 ghost use Rattle.smx_model.specs.Waits as reason;
@@ -9,7 +8,7 @@ ghost use Rattle.smx_words.specs.Words.{line_of};
 ghost use Rattle.smx_trace.specs.TraceWords.{reason_words};
 ghost use Rattle.smx_trace.specs.Traces.{trace_lines_text, wait_line};
 
-use crate::pieces::{put, put_name, put_number, put_place, put_stream};
+use crate::pieces::{name_of, put, put_number, put_place};
 use smx_config::Config;
 use smx_tables::is_mux;
 use smx_types::{DriverSpec, NoMemory, Place, Side, StreamId};
@@ -18,56 +17,45 @@ fn put_hung(out: &mut Vec<u8>, drivers: &[DriverSpec], stream: StreamId) -> Resu
     ensures { OnOk result (out.new.items
         ≡ out.old.items ++ line_of (reason_words drivers.now (reason.HungStream stream))) }
 {
-    put_stream(out, drivers, stream)?;
+    put(out, name_of(drivers, stream.driver))?;
+    put(out, b" ")?;
+    put_number(out, u32::from(stream.minor))?;
     put(out, b" has hung up")
 }
 
-// Appends why a message on the write side of `stream` has no next place.
-fn put_reason_below(
+// Appends why a message at this place has no next place.
+fn put_reason_of_end(
     out: &mut Vec<u8>,
     config: &Config,
-    stream: StreamId,
+    place: Place,
     addr: u32,
 ) -> Result<(), NoMemory>
     ensures { OnOk result (out.new.items ≡ out.old.items ++ line_of (reason_words config.now.drivers
-        (reason_of_end config.now.drivers config.now.configuration
-        (record { stream = stream; side = side.Write }) addr))) }
+        (reason_of_end config.now.drivers config.now.configuration place addr))) }
 {
     let drivers = config.drivers();
-    if is_mux(drivers, stream.driver as usize) {
-        match config.routed_link(stream.driver, addr) {
-            Some(link) => put_hung(out, drivers, link.lower),
-            None => {
-                put(out, b"no route for ")?;
-                put_number(out, addr)
+    let stream = place.stream;
+    match place.side {
+        Side::Write if is_mux(drivers, stream.driver as usize) => {
+            match config.routed_link(stream.driver, addr) {
+                Some(link) => put_hung(out, drivers, link.lower),
+                None => {
+                    put(out, b"no route for ")?;
+                    put_number(out, addr)
+                }
             }
         }
-    } else if config.is_hung(stream) {
-        put_hung(out, drivers, stream)
-    } else {
-        put(out, b"for the device")
-    }
-}
-
-// Appends why a message on the read side of `stream` has no next place.
-fn put_reason_above(
-    out: &mut Vec<u8>,
-    config: &Config,
-    stream: StreamId,
-    addr: u32,
-) -> Result<(), NoMemory>
-    ensures { OnOk result (out.new.items ≡ out.old.items ++ line_of (reason_words config.now.drivers
-        (reason_of_end config.now.drivers config.now.configuration
-        (record { stream = stream; side = side.Read }) addr))) }
-{
-    match config.link_above(stream) {
-        Some(link) => {
-            put(out, b"nobody is bound to ")?;
-            put_number(out, addr)?;
-            put(out, b" on ")?;
-            put_name(out, config.drivers(), link.ctl.driver)
-        }
-        None => put(out, b"for a read"),
+        Side::Write if config.is_hung(stream) => put_hung(out, drivers, stream),
+        Side::Write => put(out, b"for the device"),
+        Side::Read => match config.link_above(stream) {
+            Some(link) => {
+                put(out, b"nobody is bound to ")?;
+                put_number(out, addr)?;
+                put(out, b" on ")?;
+                put(out, name_of(drivers, link.ctl.driver))
+            }
+            None => put(out, b"for a read"),
+        },
     }
 }
 
@@ -81,10 +69,7 @@ fn put_reason(out: &mut Vec<u8>, config: &Config, place: Place, addr: u32) -> Re
         put_place(out, config.drivers(), next)?;
         return put(out, b" is full");
     }
-    match place.side {
-        Side::Write => put_reason_below(out, config, place.stream, addr),
-        Side::Read => put_reason_above(out, config, place.stream, addr),
-    }
+    put_reason_of_end(out, config, place, addr)
 }
 
 /// If the place has messages, appends its `waits` line, indented by two spaces. The configuration must be settled: in

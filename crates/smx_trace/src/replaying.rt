@@ -1,7 +1,6 @@
 //! Makes the text of a replay from a transcript, or from its first entries.
 
-ghost use Rattle.std.specs.Prelude.{◌≡◌, ◌∷◌, ◌++◌, [], List, IfOk, IfErr, OnOk};
-ghost use Rattle.smx_types.specs.declared.command.Entry.{Entry as AnyEntry};
+ghost use Rattle.std.specs.Prelude.{◌≡◌, [], List, IfOk, IfErr};
 ghost use Rattle.smx_types.specs.declared.driver.DriverSpec.{DriverSpec as AnyDriver};
 ghost use Rattle.smx_config.specs.DriverFaults.{RefusesDrivers};
 ghost use Rattle.smx_trace.specs.Answers.{HasCome};
@@ -10,7 +9,7 @@ ghost use Rattle.smx_trace.specs.Replays.{IsReplayText};
 
 use smx_config::{Config, ConfigFault};
 use smx_text::{add_entry_line, finish_transcript};
-use smx_types::{Entries, Entry, NoMemory, Transcript};
+use smx_types::{Entries, NoMemory, Transcript};
 use std::alloc::Global;
 
 /// Returns the transcript with only its first `count` entries, or with all of them if it has fewer. The view is
@@ -55,18 +54,8 @@ fn perform_all(config: &mut Config, entries: Entries, room: Vec<u8>) -> Result<V
     let mut lines = room;
     lines.clear();
     for entry in entries.as_slice() {
-        perform_again(config, entry, &mut lines)?;
+        let reply = config.step(entry.process, &entry.command)?;
+        add_entry_line(&mut lines, entry.process, &entry.command, &reply)?;
     }
     Ok(lines)
-}
-
-// Performs the command of an entry, and appends the line of the entry with its new reply.
-fn perform_again(config: &mut Config, entry: &Entry, lines: &mut Vec<u8>) -> Result<(), NoMemory>
-    ensures { OnOk result ((drivers : List AnyDriver) (asked : List AnyEntry)
-        → HasCome drivers asked config.old lines.old.items
-        → HasCome drivers (asked ++ entry.now ∷ []) config.new lines.new.items) }
-{
-    let reply = config.step(entry.process, &entry.command)?;
-    add_entry_line(lines, entry.process, &entry.command, &reply)?;
-    Ok(())
 }

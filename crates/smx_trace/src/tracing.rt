@@ -1,10 +1,8 @@
 //! Makes the text of a trace from a transcript.
 
-ghost use Rattle.std.specs.Prelude.{◌≡◌, ℕ, ◌++◌, [], List, IfOk, IfErr, OnOk, if◌then◌else◌};
+ghost use Rattle.std.specs.Prelude.{◌≡◌, ℕ, ◌++◌, [], List, IfOk, IfErr, OnOk};
 ghost use Rattle.smx_types.specs.declared.driver.DriverSpec.{DriverSpec as AnyDriver};
-ghost use Rattle.smx_model.specs.Waits.{waits};
 ghost use Rattle.smx_config.specs.DriverFaults.{RefusesDrivers};
-ghost use Rattle.smx_trace.specs.TraceWords.{waits_text};
 ghost use Rattle.smx_trace.specs.Traces.{IsTraceText, config_lines, trace_lines_text};
 ghost use Rattle.smx_trace.specs.Tracing.{HasTraced, IsNow, TracesEntry};
 
@@ -89,25 +87,11 @@ pub fn trace_entry(
     write_entry(text, entry.process, &entry.command, &reply)?;
     let after = config.show()?;
     write_changes(alloc, text, config.drivers(), before, &after)?;
-    write_wanted_waits(text, config, &after, each)?;
-    Ok(after)
-}
-
-// If `wanted` is set, appends the `waits` lines of all queues. Fails only if out of memory.
-fn write_wanted_waits(
-    text: &mut Vec<u8>,
-    config: &Config,
-    view: &ConfigView,
-    wanted: bool,
-) -> Result<(), NoMemory>
-    requires { IsNow config.now view.now }
-    ensures { OnOk result (text.new.items ≡ text.old.items
-        ++ (if wanted then waits_text config.now.drivers (waits config.now.drivers config.now.configuration) else [])) }
-{
-    if !wanted {
-        return Ok(());
+    if !each {
+        return Ok(after);
     }
-    write_waits(text, config, view.msgs.as_slice())
+    write_waits(text, config, after.msgs.as_slice())?;
+    Ok(after)
 }
 
 // Appends the lines of the configuration, beginning with the line `config`. After the lines of each queue comes its

@@ -1,15 +1,23 @@
-use Rattle.std.proofs.Common.{◌∷◌, [], ◌∙◌, append_assoc}
+use Rattle.std.proofs.Common.{◌∷◌, [], ◌∙◌, append-nil, append_assoc, sym}
 use Rattle.smx_words.specs.Words.{LINE_FEED}
 use Rattle.smx_trace.proofs.TraceLemmas.{entry_traced}
 use Rattle.smx_trace.proofs.tracing.trace_entry.Goals as goal
+
+pub returns-then-not-each-clause-traced : goal.returns-then-not-each-clause-traced
+returns-then-not-each-clause-traced c =
+    entry_traced c.args.each c.args.entry.now c.in_ok-reply.reply c.args.config.now c.step.new.self
+    c.args.before.now c.in_ok-after.after c.args.text.now.items c.write_entry.new.out.items
+    c.write_changes.new.out.items c.write_changes.new.out.items c.in_ok-reply.ensures.drivers c.in_ok-reply.ensures.ok
+    c.requires.is c.in_ok-after.ensures.view
+    (c.in_ok-write_entry.ensures.written ∙ append_assoc c.args.text.now.items _ (LINE_FEED ∷ []))
+    c.in_ok-write_changes.ensures
+    (rw c.if-not-each.true (sym (append-nil c.write_changes.new.out.items)))
 
 pub returns-clause-traced : goal.returns-clause-traced
 returns-clause-traced c =
     entry_traced c.args.each c.args.entry.now c.in_ok-reply.reply c.args.config.now c.step.new.self
     c.args.before.now c.in_ok-after.after c.args.text.now.items c.write_entry.new.out.items
-    c.write_changes.new.out.items
-    c.write_wanted_waits.new.text.items c.in_ok-reply.ensures.drivers c.in_ok-reply.ensures.ok c.requires.is
-    c.in_ok-after.ensures.view
+    c.write_changes.new.out.items c.write_waits.new.out.items c.in_ok-reply.ensures.drivers c.in_ok-reply.ensures.ok
+    c.requires.is c.in_ok-after.ensures.view
     (c.in_ok-write_entry.ensures.written ∙ append_assoc c.args.text.now.items _ (LINE_FEED ∷ []))
-    c.in_ok-write_changes.ensures
-    c.in_ok-write_wanted_waits.ensures
+    c.in_ok-write_changes.ensures (rw c.if-not-each.false c.in_ok-write_waits.ensures)
