@@ -135,6 +135,11 @@ queue_text template q first second third =
     decimal second ∷ decimal third ∷ [])
 
 -- a row of a queue
+abbrev pub item_template : Look → QueueItem → List ℕ
+item_template look (item.Message serial addr length) = message_template look
+item_template look (item.More count) = more_template look
+item_template look (item.Bytes bytes high low) = bytes_template look
+
 abbrev pub item_text : Look → QueueRow → QueueItem → List ℕ
 item_text look q (item.Message serial addr length) = queue_text (message_template look) q serial addr length
 item_text look q (item.More count) = queue_text (more_template look) q count 0 0

@@ -64,8 +64,7 @@ fn put_view(out: &mut Vec<u8>, view: &ConfigView, queues: &[QueueRow]) -> Result
     put_lines(out, view.fds.as_slice())?;
     put_lines(out, view.binds.as_slice())?;
     put_lines(out, queues)?;
-    put_lines(out, view.fulls.as_slice())?;
-    Ok(())
+    put_lines(out, view.fulls.as_slice())
 }
 
 // Appends the line of each item.

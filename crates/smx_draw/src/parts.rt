@@ -2,13 +2,12 @@
 
 ghost use Rattle.std.specs.Prelude.{◌≡◌, ◌++◌, OnOk};
 ghost use Rattle.smx_draw.specs.Parts.{binding_text, descriptor_text, driver_text, full_text, hung_text, link_text};
-ghost use Rattle.smx_draw.specs.Parts.{bytes_template, driver_template, message_template, more_template};
-ghost use Rattle.smx_draw.specs.Parts.{queue_row_text, route_text};
+ghost use Rattle.smx_draw.specs.Parts.{driver_template, item_template, queue_row_text, route_text};
 
 use crate::pieces::Piece::{Driver, Letter, Link, Name, Number, Process, Side, Stroke};
 use crate::pieces::put;
 use crate::queues::{QueueItem, QueueRow};
-use crate::svg::seat::{Row, Seat};
+use crate::svg::block::{Row, Seat};
 use smx_types::{
     BindingLine, DescriptorLine, DriverSpec, FullLine, HungLine, LinkLine, NoMemory, RouteLine,
 };
@@ -236,15 +235,10 @@ impl Part for QueueRow {
     }
 
     fn put(&self, look: Look, out: &mut Vec<u8>) -> Result<(), NoMemory> {
-        let (template, first, second, third) = match self.item {
-            QueueItem::Message(serial, addr, length) => (
-                message_template(look),
-                serial,
-                addr,
-                length,
-            ),
-            QueueItem::More(count) => (more_template(look), count, 0, 0),
-            QueueItem::Bytes(bytes, high, low) => (bytes_template(look), bytes, high, low),
+        let (first, second, third) = match self.item {
+            QueueItem::Message(serial, addr, length) => (serial, addr, length),
+            QueueItem::More(count) => (count, 0, 0),
+            QueueItem::Bytes(bytes, high, low) => (bytes, high, low),
         };
         let values = [
             Name(&self.driver),
@@ -255,43 +249,29 @@ impl Part for QueueRow {
             Number(second),
             Number(third),
         ];
-        put(out, template, &values)
+        put(out, item_template(look, self.item), &values)
     }
 }
 
-fn message_template(look: Look) -> &'static [u8]
-    ensures { result.now ≡ message_template look }
+fn item_template(look: Look, item: QueueItem) -> &'static [u8]
+    ensures { result.now ≡ item_template look item }
 {
-    match look {
-        Look::Class => b"message msg-@4",
-        Look::Label => b"message @4 to @5, @6 B",
-        Look::Line => {
+    match (item, look) {
+        (QueueItem::Message(..), Look::Class) => b"message msg-@4",
+        (QueueItem::Message(..), Look::Label) => b"message @4 to @5, @6 B",
+        (QueueItem::Message(..), Look::Line) => {
             b"  subgraph \"cluster @0\" { \"@0 @1\" -> \"@0\" } \"msg:@4\" -> \"@0 \
                 @1\":@3; \"msg:@4\" [shape=note label=\"message @4 to @5, @6 B\"]\n"
         }
-    }
-}
-
-fn more_template(look: Look) -> &'static [u8]
-    ensures { result.now ≡ more_template look }
-{
-    match look {
-        Look::Class => b"more queue-@0-@1-@2",
-        Look::Label => b".. @4 more",
-        Look::Line => {
+        (QueueItem::More(_), Look::Class) => b"more queue-@0-@1-@2",
+        (QueueItem::More(_), Look::Label) => b".. @4 more",
+        (QueueItem::More(_), Look::Line) => {
             b"  subgraph \"cluster @0\" { \"@0 @1\" -> \"@0\" } \"more:@0:@1:@2\" \
                 -> \"@0 @1\":@3; \"more:@0:@1:@2\" [shape=plain label=\".. @4 more\"]\n"
         }
-    }
-}
-
-fn bytes_template(look: Look) -> &'static [u8]
-    ensures { result.now ≡ bytes_template look }
-{
-    match look {
-        Look::Class => b"queue queue-@0-@1-@2",
-        Look::Label => b"@3 @4 of @5, low @6",
-        Look::Line => {
+        (QueueItem::Bytes(..), Look::Class) => b"queue queue-@0-@1-@2",
+        (QueueItem::Bytes(..), Look::Label) => b"@3 @4 of @5, low @6",
+        (QueueItem::Bytes(..), Look::Line) => {
             b"  subgraph \"cluster @0\" { \"@0 @1\" -> \"@0\" } \"queue:@0:@1:@2\" \
                 -> \"@0 @1\":@3; \"queue:@0:@1:@2\" [shape=plain label=\"@3 @4 of \
                 @5, low @6\"]\n"

@@ -3,13 +3,11 @@
 ghost use Rattle.std.specs.Prelude.{◌≡◌, ℕ, ◌++◌, List, IfOk, OnOk};
 ghost use Rattle.smx_draw.specs.Drawing.{Draws};
 ghost use Rattle.smx_draw.specs.SvgElements.{row};
-ghost use Rattle.smx_draw.specs.SvgFrame.{svg_foot, svg_head};
 ghost use Rattle.smx_draw.specs.SvgText.{DrawsRows, DrawsUnder, IsSvgOf};
 
-mod block;
+pub mod block;
 mod places;
 mod plan;
-pub mod seat;
 mod under;
 mod ways;
 
@@ -61,6 +59,9 @@ const HEAD: &[u8] =
 <g class=\"hung\"><path d=\"M534 13H630V27H534Z\"/><text x=\"540\" y=\"24\">stream hung up</text></g>
 ";
 
+// The end of the picture, with the id of the next link and the serial of the next message.
+const FOOT: &[u8] = b"<text x=\"24\" y=\"44\">next link @0, next message @1</text>\n</svg>\n";
+
 /// One element that is drawn before the rows, so that they are on top of it: the frame of a driver, a link, the column
 /// of a stream, or the gauge of a queue (a bar for its bytes).
 pub trait Drawn {
@@ -87,48 +88,21 @@ pub fn write_svg(
     ensures { IfOk result (λ v. IsSvgOf drivers.now view.now v.items) }
 {
     let queues = queue_rows(alloc, drivers, view.msgs.as_slice())?;
-    let mut plan = plan_of(alloc, drivers, view, queues.as_slice())?;
+    let mut plan = Plan::new(alloc, drivers, view, queues.as_slice())?;
     let mut out = Vec::new(alloc);
-    put_head(&mut out, plan.width.0, plan.height.0)?;
+    put(
+        &mut out,
+        HEAD,
+        &[Number(plan.width.0), Number(plan.height.0)],
+    )?;
     put_under(alloc, &mut plan, &mut out, drivers, view, queues.as_slice())?;
     put_view(&mut plan, &mut out, drivers, view, queues.as_slice())?;
-    put_foot(&mut out, view.next_id, view.next_serial)?;
+    put(
+        &mut out,
+        FOOT,
+        &[Number(view.next_id), Number(view.next_serial)],
+    )?;
     Ok(out)
-}
-
-// Makes the plan of the picture.
-fn plan_of(
-    alloc: Global,
-    drivers: &[DriverSpec],
-    view: &ConfigView,
-    queues: &[QueueRow],
-) -> Result<Plan, NoMemory> {
-    let mut plan = Plan::new(alloc);
-    plan.add_all(drivers)?;
-    plan.add_all(view.links.as_slice())?;
-    plan.add_all(view.hungs.as_slice())?;
-    plan.add_all(view.routes.as_slice())?;
-    plan.add_all(view.fds.as_slice())?;
-    plan.add_all(view.binds.as_slice())?;
-    plan.add_all(queues)?;
-    plan.add_all(view.fulls.as_slice())?;
-    plan.arrange(alloc, view.links.as_slice())?;
-    Ok(plan)
-}
-
-// Appends the head of the picture: its size, the styles of its parts, and the legend.
-fn put_head(out: &mut Vec<u8>, width: u32, height: u32) -> Result<(), NoMemory>
-    ensures { OnOk result (out.new.items ≡ out.old.items ++ svg_head width height) }
-{
-    put(out, HEAD, &[Number(width), Number(height)])
-}
-
-// Appends the end of the picture, with the id of the next link and the serial of the next message.
-fn put_foot(out: &mut Vec<u8>, next_id: u32, next_serial: u32) -> Result<(), NoMemory>
-    ensures { OnOk result (out.new.items ≡ out.old.items ++ svg_foot next_id next_serial) }
-{
-    let template = b"<text x=\"24\" y=\"44\">next link @0, next message @1</text>\n</svg>\n";
-    put(out, template, &[Number(next_id), Number(next_serial)])
 }
 
 // Appends the frames, the links, the columns and the gauges.
@@ -146,8 +120,7 @@ fn put_under(
     draw_all(plan, out, drivers)?;
     draw_all(plan, out, view.links.as_slice())?;
     draw_all(plan, out, streams.as_slice())?;
-    draw_all(plan, out, queues)?;
-    Ok(())
+    draw_all(plan, out, queues)
 }
 
 // Appends the rows.
@@ -167,8 +140,7 @@ fn put_view(
     put_rows(plan, out, view.fds.as_slice())?;
     put_rows(plan, out, view.binds.as_slice())?;
     put_rows(plan, out, queues)?;
-    put_rows(plan, out, view.fulls.as_slice())?;
-    Ok(())
+    put_rows(plan, out, view.fulls.as_slice())
 }
 
 // Appends the element of each item.

@@ -2,9 +2,9 @@
 
 use crate::parts::{Look, Part};
 use crate::pieces::{Piece, put, shown_length};
-use crate::svg::block::{Area, Block, Px};
-use crate::svg::seat::{Row, Seat};
-use smx_types::{LinkLine, NoMemory};
+use crate::queues::QueueRow;
+use crate::svg::block::{Area, Block, Px, Row, Seat};
+use smx_types::{ConfigView, DriverSpec, LinkLine, NoMemory};
 use std::alloc::Global;
 use std::num::Saturating;
 
@@ -39,21 +39,25 @@ pub struct Plan {
     /// The indices of the frames in `blocks`, sorted by layer, and in a layer from left to right.
     pub frames: Vec<usize>,
     pub layers: Vec<Layer>,
+    /// Once all have their places: from the last link to the first.
     pub ways: Vec<Way>,
     pub width: Px,
     pub height: Px,
     // The rows: the seat of each, and the length of its label.
     rows: Vec<(Seat, u32)>,
-    // How many links have been drawn.
-    drawn: usize,
     // A buffer for labels whose lengths are measured.
     text: Vec<u8>,
 }
 
 impl Plan {
-    /// Creates a plan without rows. Takes no memory.
-    pub fn new(alloc: Global) -> Plan {
-        Plan {
+    /// Makes the plan of a picture. Fails only if it is out of memory.
+    pub fn new(
+        alloc: Global,
+        drivers: &[DriverSpec],
+        view: &ConfigView,
+        queues: &[QueueRow],
+    ) -> Result<Plan, NoMemory> {
+        let mut plan = Plan {
             blocks: Vec::new(alloc),
             frames: Vec::new(alloc),
             layers: Vec::new(alloc),
@@ -61,13 +65,22 @@ impl Plan {
             width: Saturating(0),
             height: Saturating(0),
             rows: Vec::new(alloc),
-            drawn: 0,
             text: Vec::new(alloc),
-        }
+        };
+        plan.add_all(drivers)?;
+        plan.add_all(view.links.as_slice())?;
+        plan.add_all(view.hungs.as_slice())?;
+        plan.add_all(view.routes.as_slice())?;
+        plan.add_all(view.fds.as_slice())?;
+        plan.add_all(view.binds.as_slice())?;
+        plan.add_all(queues)?;
+        plan.add_all(view.fulls.as_slice())?;
+        plan.arrange(alloc, view.links.as_slice())?;
+        Ok(plan)
     }
 
-    /// Adds the rows of these parts. Fails only if it is out of memory.
-    pub fn add_all<T: Part>(&mut self, items: &[T]) -> Result<(), NoMemory> {
+    // Adds the rows of these parts.
+    fn add_all<T: Part>(&mut self, items: &[T]) -> Result<(), NoMemory> {
         for item in items {
             self.text.clear();
             item.put(Look::Label, &mut self.text)?;
@@ -77,9 +90,9 @@ impl Plan {
         Ok(())
     }
 
-    /// Makes the blocks of the rows that were added, and those of these links. Gives the blocks and the links their
-    /// places. Fails only if it is out of memory.
-    pub fn arrange(&mut self, alloc: Global, links: &[LinkLine]) -> Result<(), NoMemory> {
+    // Makes the blocks of the rows that were added, and those of these links. Gives the blocks and the links their
+    // places.
+    fn arrange(&mut self, alloc: Global, links: &[LinkLine]) -> Result<(), NoMemory> {
         self.add_blocks(alloc, links)?;
         for (seat, length) in self.rows.as_slice() {
             let at = find(&self.blocks, seat);
@@ -109,22 +122,16 @@ impl Plan {
         seats.sort_unstable_by_key(|seat| seat.order());
         seats.dedup_by_key(|seat| seat.order());
         for seat in seats.as_slice() {
-            self.add_block(*seat)?;
+            let at = self.blocks.len();
+            if seat.slot == 0 {
+                self.frames.push(at)?;
+            }
+            let frame = self.frames.last().copied().unwrap_or(at);
+            if let Some(block) = self.blocks.get_mut(frame) {
+                block.columns += 1;
+            }
+            self.blocks.push(Block::new(*seat, frame))?;
         }
-        Ok(())
-    }
-
-    // Adds a frame, or a column of the last frame.
-    fn add_block(&mut self, seat: Seat) -> Result<(), NoMemory> {
-        let at = self.blocks.len();
-        if seat.slot == 0 {
-            self.frames.push(at)?;
-        }
-        let frame = self.frames.last().copied().unwrap_or(at);
-        if let Some(block) = self.blocks.get_mut(frame) {
-            block.columns += 1;
-        }
-        self.blocks.push(Block::new(seat, frame))?;
         Ok(())
     }
 
@@ -167,27 +174,15 @@ impl Plan {
         Ok(())
     }
 
-    /// Returns the area of the block of a driver or a stream.
-    pub fn area_of(&self, seat: &Seat) -> Option<Area> {
-        Some(self.blocks.get(find(&self.blocks, seat))?.area())
-    }
-
-    /// Returns where the next row of this kind is drawn.
-    pub fn row_of(&self, seat: &Seat) -> Option<Area> {
-        self.blocks.get(find(&self.blocks, seat))?.row(seat.row)
+    /// Returns the block of a driver or a stream.
+    pub fn block(&mut self, seat: &Seat) -> Option<&mut Block> {
+        let at = find(&self.blocks, seat);
+        self.blocks.get_mut(at)
     }
 
     /// Returns where the next row of this kind is drawn, and moves on to the row after it.
     pub fn take_row(&mut self, seat: &Seat) -> Option<Area> {
-        let at = find(&self.blocks, seat);
-        self.blocks.get_mut(at)?.take_row(seat.row)
-    }
-
-    /// Returns the way of the next link in the list of links.
-    pub fn take_way(&mut self) -> Option<Area> {
-        let way = self.ways.get(self.drawn)?;
-        self.drawn += 1;
-        Some(way.area)
+        self.block(seat)?.take_row(seat.row)
     }
 }
 

@@ -8,9 +8,8 @@ use crate::pieces::Piece::{self, Driver, Link, Number};
 use crate::pieces::put;
 use crate::queues::{QueueItem, QueueRow};
 use crate::svg::Drawn;
-use crate::svg::block::Area;
+use crate::svg::block::{Area, Row, Seat};
 use crate::svg::plan::Plan;
-use crate::svg::seat::{Row, Seat};
 use smx_types::{DriverSpec, LinkLine, Name, NoMemory};
 use std::alloc::Global;
 
@@ -28,7 +27,7 @@ impl Drawn for DriverSpec {
     ghost element = { frame_element };
 
     fn place(&self, plan: &mut Plan) -> Option<Area> {
-        plan.area_of(&self.seat())
+        Some(plan.block(&self.seat())?.area())
     }
 
     fn put_at(&self, at: Area, out: &mut Vec<u8>) -> Result<(), NoMemory> {
@@ -48,7 +47,7 @@ impl Drawn for LinkLine {
     ghost element = { way_element };
 
     fn place(&self, plan: &mut Plan) -> Option<Area> {
-        plan.take_way()
+        Some(plan.ways.pop()?.area)
     }
 
     fn put_at(&self, at: Area, out: &mut Vec<u8>) -> Result<(), NoMemory> {
@@ -75,7 +74,8 @@ impl Drawn for Stream {
     ghost element = { stream_element };
 
     fn place(&self, plan: &mut Plan) -> Option<Area> {
-        plan.area_of(&Seat::of_stream(&self.driver, self.minor, Row::Name))
+        let seat = Seat::of_stream(&self.driver, self.minor, Row::Name);
+        Some(plan.block(&seat)?.area())
     }
 
     fn put_at(&self, at: Area, out: &mut Vec<u8>) -> Result<(), NoMemory> {
@@ -102,7 +102,8 @@ impl Drawn for QueueRow {
     ghost element = { gauge_element };
 
     fn place(&self, plan: &mut Plan) -> Option<Area> {
-        plan.row_of(&self.seat())
+        let seat = self.seat();
+        plan.block(&seat)?.row(seat.row)
     }
 
     fn put_at(&self, at: Area, out: &mut Vec<u8>) -> Result<(), NoMemory> {

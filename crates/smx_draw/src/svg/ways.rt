@@ -1,10 +1,9 @@
 //! The ways of the links, that is, the lines that are drawn for them. Each link has lanes of its own: links may cross,
 //! but they share no stretch.
 
-use crate::svg::block::LANE;
+use crate::svg::block::{LANE, Row};
 use crate::svg::places::{BESIDE, GAP};
 use crate::svg::plan::Plan;
-use crate::svg::seat::Row;
 use std::num::Saturating;
 
 impl Plan {
@@ -30,7 +29,8 @@ impl Plan {
         for at in 0..self.ways.len() {
             self.bend_way(at);
         }
-        self.ways.sort_unstable_by_key(|way| way.number);
+        self.ways
+            .sort_unstable_by_key(|way| usize::MAX - way.number);
     }
 
     // Places the end of a link. The link comes down to the left of the column of its lower stream, and ends at the
