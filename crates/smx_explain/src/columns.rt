@@ -19,19 +19,16 @@ pub struct LineColumn {
     pub wanted: Wanted,
 }
 
-/// A column of a line of `len` bytes. It prints the column and what was expected there.
+/// A column of a line, and the number of bytes of the line. It prints the column and what was expected there.
 #[derive(Clone, Copy)]
-pub struct ColumnWords {
-    pub at: LineColumn,
-    pub len: usize,
-}
+pub struct ColumnWords(pub LineColumn, pub usize);
 
 impl fmt::Display for ColumnWords {
-    ghost output = { λ words. Some (column_words words.at words.len) };
+    ghost output = { λ words. Some (column_words words.0 words.1) };
 
     fn fmt<W: fmt::Write>(&self, f: &mut fmt::Formatter<W>) -> fmt::Result {
-        let LineColumn { column, wanted } = self.at;
-        let space = space_words(wanted, column, self.len);
+        let LineColumn { column, wanted } = self.0;
+        let space = space_words(wanted, column, self.1);
         write!(f, "column {column}: {wanted} is wanted{space}")
     }
 }

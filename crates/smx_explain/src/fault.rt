@@ -61,11 +61,7 @@ impl fmt::Display for FaultExplanation<'_> {
         match self.column(line) {
             Some(at) => {
                 write_line(f, line, at.column)?;
-                let words = ColumnWords {
-                    at,
-                    len: line.len(),
-                };
-                writeln!(f, "\n{words}")?;
+                writeln!(f, "\n{}", ColumnWords(at, line.len()))?;
                 write_hint(f, version_of(self.text), line, at)
             }
             None => {
@@ -162,7 +158,14 @@ fn order_reason(kind: TextKind, version: Version, line: &[u8]) -> &'static str {
         _ if line.starts_with(b"driver ") =>
             "the drivers come before the entries and before 'config'",
         _ if line.starts_with(b"next ") => "'next' comes once, right after 'config'",
-        _ => order_of_groups(version),
+        _ => match version {
+            Version::V1 => {
+                "after 'next' come 'fd', 'link', 'bind', 'route', 'msg' and 'full' lines, in this order"
+            }
+            Version::V2 => {
+                "after 'next' come 'fd', 'link', 'bind', 'route', 'msg', 'full' and 'hung' lines, in this order"
+            }
+        },
     }
 }
 
@@ -180,18 +183,6 @@ fn limit_reason(kind: TextKind, version: Version, line: &[u8]) -> &'static str {
     }
 }
 
-// Returns where a line of the configuration may be, such as `fd` or `link`.
-fn order_of_groups(version: Version) -> &'static str {
-    match version {
-        Version::V1 => {
-            "after 'next' come 'fd', 'link', 'bind', 'route', 'msg' and 'full' lines, in this order"
-        }
-        Version::V2 => {
-            "after 'next' come 'fd', 'link', 'bind', 'route', 'msg', 'full' and 'hung' lines, in this order"
-        }
-    }
-}
-
 /// Returns the explanation of a line of a session. It names the column in which the line becomes invalid, and what was
 /// expected there; below that is a hint, if there is one. Each line of the explanation begins with two spaces. The
 /// explanation is empty if the given line is `show`, `trace on`, `trace off`, `end`, or a process with a command of
@@ -203,17 +194,13 @@ pub fn explain_line(alloc: Global, version: Version, line: &[u8]) -> Result<Vec<
         return Ok(Vec::new(alloc));
     };
     let hint = hint_of(version, at.wanted, word_at(line, at.column));
-    let words = ColumnWords {
-        at,
-        len: line.len(),
-    };
-    let text = explanation(alloc, words, hint)?;
+    let text = explanation(alloc, ColumnWords(at, line.len()), hint)?;
     Ok(text.into_bytes())
 }
 
 // Returns the line that names the column, and the line of the hint, if there is one.
 fn explanation(alloc: Global, words: ColumnWords, hint: Option<Hint>) -> Result<String, AllocError>
-    ensures { IfOk result (λ text. string_bytes text ≡ explanation_text words.at words.len hint) }
+    ensures { IfOk result (λ text. string_bytes text ≡ explanation_text words.0 words.1 hint) }
 {
     match hint {
         Some(hint) => format!(in alloc; "  {words}\n  {hint}\n"),
