@@ -12,3 +12,4 @@ pub mod OneOutputLemmas
 pub mod OverTableLemmas
 pub mod WorkedLiveLemmas
 pub mod TableFaultLemmas
+pub mod FailedLiveLemmas

@@ -29,6 +29,14 @@ worked_turns explain =
 abbrev pub worked_input : List ℕ
 worked_input = codes "programs 2\ndriver eth leaf 2 8 3 16\n3 clone eth\n\nx\nend\n3 exit\n"
 
+-- the first line behind the table
+abbrev pub worked_line : List ℕ
+worked_line = codes "3 clone eth\n"
+
+-- what is written before any answer
+abbrev pub worked_opening : List ℕ
+worked_opening = codes "transcript 2\ndriver eth leaf 2 8 3 16\n"
+
 -- what is written up to the line `end`
 abbrev pub worked_answers : Bool → List ℕ
 worked_answers explain =

@@ -1,7 +1,8 @@
 //! Laws of live sessions. Each law is the contract of a function that does nothing.
 
 ghost use Rattle.std.specs.List.{AllByRecursion};
-ghost use Rattle.std.specs.Prelude.{◌≡◌, ◌≢◌, ℕ, ◌<◌, ◌≤◌, Bool, true, false, List, [], ◌++◌, length, Err, codes};
+ghost use Rattle.std.specs.Prelude.{◌≡◌, ◌≢◌, ℕ, ◌<◌, ◌≤◌, ◌^◌, Bool, true, false, List, [], ◌++◌, length, Ok, Err};
+ghost use Rattle.std.specs.Prelude.{codes};
 ghost use Rattle.smx_types.specs.declared.command.Entry.{Entry};
 ghost use Rattle.smx_types.specs.declared.driver.SpecFault.TheVariants.{BadMinors};
 ghost use Rattle.smx_types.specs.declared.limits.TheConstants.{MAX_COMMANDS};
@@ -19,7 +20,8 @@ ghost use Rattle.smx_text.specs.declared.text_fault.TextFault.{TextFault};
 ghost use Rattle.smx_session.specs.Sessions.{State};
 ghost use Rattle.smx_session.specs.WorkedSessions.{begun, drivers, one_open};
 ghost use Rattle.smx_run.specs.declared.input.TheConstants.{MAX_INPUT};
-ghost use Rattle.smx_run.specs.declared.main_fault.MainFault.TheVariants.{Refused, Text};
+ghost use Rattle.smx_run.specs.declared.main_fault.MainFault.TheVariants.{ReadFailed, Refused, Text, TooLong};
+ghost use Rattle.smx_run.specs.declared.main_fault.MainFault.TheVariants.{WriteFailed};
 ghost use Rattle.smx_explain.specs.ColumnWords.{IsExplanationOf};
 ghost use Rattle.smx_live.specs.Inboxes.{HasLine, IsTooLong};
 ghost use Rattle.smx_live.specs.LiveText.{HasComeSoFar, IsBroken, IsLegalTranscript, IsLive, IsOutcome, IsOver};
@@ -28,7 +30,7 @@ ghost use Rattle.smx_live.specs.Tables.{HasTableOf, IsEndlessTable, IsTable, IsU
 ghost use Rattle.smx_live.specs.Turns.{Entered, HasEnoughMemory, IsAnswer, IsBelow, IsExplained, IsRefusedFor};
 ghost use Rattle.smx_live.specs.Turns.{NotDone, Shown, traces_after};
 ghost use Rattle.smx_live.specs.WorkedLives.{minorless_text, worked_answers, worked_input, worked_output};
-ghost use Rattle.smx_live.specs.WorkedLives.{worked_table};
+ghost use Rattle.smx_live.specs.WorkedLives.{worked_line, worked_opening, worked_table};
 ghost use Rattle.smx_live.specs.declared.talk.Progress.{Progress};
 ghost use Rattle.smx_live.specs.declared.talk.TurnFault.{TurnFault};
 ghost use Rattle.smx_live.specs.declared.talk.TurnFault.TheVariants.{NoCommand, NoMemory, Full};
@@ -261,4 +263,32 @@ pub fn whose_drivers_are_refused()
 {
     one_text_has_one_reading();
     wrong_programs();
+}
+
+/// A session succeeds only if neither its reader nor its writer has failed. It fails for its reader or for its writer
+/// only if that one has failed. If it fails for its reader, what it wrote before is flushed. It fails as too long only
+/// if more than 16,777,216 bytes were read. In the examples, a session has read the line `3 clone eth` and has not
+/// answered it. It then fails neither for its reader, nor because a later line is too long.
+pub fn no_line_waits_when_a_session_fails()
+    ensures done { (explain : Bool) (read output : List ℕ) (ended flushed : Bool) (reads writes : ℕ)
+        → IsOutcome explain read output ended flushed reads writes (Ok tt)
+        → (reads ≡ 0) × (writes ≡ 0) × (flushed ≡ true) × IsOver explain read ended output }
+    ensures unread { (explain : Bool) (read output : List ℕ) (ended flushed : Bool) (reads writes : ℕ)
+        → IsOutcome explain read output ended flushed reads writes (Err ReadFailed) → (reads ≡ 1) × (writes ≡ 0) }
+    ensures flushed { (explain : Bool) (read output : List ℕ) (ended flushed : Bool) (reads writes : ℕ)
+        → IsOutcome explain read output ended flushed reads writes (Err ReadFailed) → output ≢ [] → flushed ≡ true }
+    ensures unwritten { (explain : Bool) (read output : List ℕ) (ended flushed : Bool) (reads writes : ℕ)
+        → IsOutcome explain read output ended flushed reads writes (Err WriteFailed) → (reads ≡ 0) × (writes ≡ 1) }
+    ensures long { (explain : Bool) (read output : List ℕ) (ended flushed : Bool) (reads writes : ℕ)
+        → IsOutcome explain read output ended flushed reads writes (Err TooLong)
+        → (reads ≡ 0) × (writes ≡ 0) × (MAX_INPUT < length read) }
+    ensures none_unread { (explain flushed : Bool) (more : List ℕ) (reads writes : ℕ)
+        → IsOutcome explain (worked_table ++ (worked_line ++ more)) worked_opening false flushed reads writes
+        (Err ReadFailed) → ⊥ }
+    ensures none_too_long { (explain flushed : Bool) (more : List ℕ) (reads writes : ℕ) → length more < 2 ^ 63
+        → IsOutcome explain (worked_table ++ (worked_line ++ more)) worked_opening false flushed reads writes
+        (Err TooLong) → ⊥ }
+{
+    a_worked_session();
+    one_text_has_one_reading();
 }
