@@ -19,36 +19,20 @@ pub struct DriverExplanation<'a> {
 
 impl fmt::Display for DriverExplanation<'_> {
     fn fmt<W: fmt::Write>(&self, f: &mut fmt::Formatter<W>) -> fmt::Result {
+        let driver = match self.fault {
+            ConfigFault::BadSpec(driver, _) | ConfigFault::SameName(driver) => driver,
+            ConfigFault::TooMany | ConfigFault::NoMemory => return Ok(()),
+        };
+        // The first line is the header, so driver 0 is in line 2.
+        let number = driver.saturating_add(2);
+        write!(f, "line {number}: ")?;
+        write_line(f, line_at(self.text, number), 1)?;
+        f.write_str("\n")?;
         match self.fault {
-            ConfigFault::BadSpec(driver, fault) => {
-                write_driver(f, self.text, driver)?;
-                writeln!(f, "{}", spec_reason(fault))
-            }
-            ConfigFault::SameName(driver) => {
-                write_driver(f, self.text, driver)?;
-                write_namesake(f, self.text, line_of_driver(driver))
-            }
-            ConfigFault::TooMany | ConfigFault::NoMemory => Ok(()),
+            ConfigFault::BadSpec(_, fault) => writeln!(f, "{}", spec_reason(fault)),
+            _ => write_namesake(f, self.text, number),
         }
     }
-}
-
-// Returns the number of a driver's line. Drivers are numbered from 0. Lines are numbered from 1, and the first line is
-// the header.
-fn line_of_driver(driver: usize) -> usize {
-    driver.saturating_add(2)
-}
-
-// Writes the line of a driver, with its number.
-fn write_driver<W: fmt::Write>(
-    f: &mut fmt::Formatter<W>,
-    text: &[u8],
-    driver: usize,
-) -> fmt::Result {
-    let number = line_of_driver(driver);
-    write!(f, "line {number}: ")?;
-    write_line(f, line_at(text, number), 1)?;
-    f.write_str("\n")
 }
 
 fn spec_reason(fault: SpecFault) -> &'static str {

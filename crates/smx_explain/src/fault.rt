@@ -31,15 +31,6 @@ pub struct FaultExplanation<'a> {
 }
 
 impl FaultExplanation<'_> {
-    // Returns the column in which the line becomes invalid, if no text of this kind and version can have the line
-    // after its header.
-    fn column(&self, line: &[u8]) -> Option<LineColumn> {
-        match self.fault.cause {
-            Cause::Form => column_of(self.kind.lines(), version_of(self.text), line),
-            _ => None,
-        }
-    }
-
     // Returns what is wrong with a line for which no column is reported.
     fn reason(&self, line: &[u8]) -> &'static str {
         match self.fault.cause {
@@ -58,7 +49,11 @@ impl fmt::Display for FaultExplanation<'_> {
         let number = self.fault.line;
         let line = line_at(self.text, number);
         write!(f, "line {number}: ")?;
-        match self.column(line) {
+        let column = match self.fault.cause {
+            Cause::Form => column_of(self.kind.lines(), version_of(self.text), line),
+            _ => None,
+        };
+        match column {
             Some(at) => {
                 write_line(f, line, at.column)?;
                 writeln!(f, "\n{}", ColumnWords(at, line.len()))?;

@@ -3,7 +3,6 @@
 ghost use Rattle.std.specs.Prelude.{◌≡◌, ◌≢◌, ◌⊎◌, Some};
 ghost use Rattle.smx_config.specs.declared.config_fault.ConfigFault.TheVariants as config;
 ghost use Rattle.smx_session.specs.FaultWords.{start_fault_words};
-ghost use Rattle.smx_session.specs.declared.faults.EntryFault.TheVariants as entry;
 ghost use Rattle.smx_session.specs.declared.faults.LineFault.TheVariants as line_fault;
 ghost use Rattle.smx_session.specs.declared.faults.StartFault.TheVariants.{NoMemory as memory, Text, Drivers};
 ghost use Rattle.smx_text.specs.declared.text_fault.Cause.TheVariants as cause;
@@ -69,14 +68,6 @@ impl From<NoMemory> for LineFault {
 
     fn from(_error: NoMemory) -> LineFault {
         LineFault::NoMemory
-    }
-}
-
-impl From<NoMemory> for EntryFault {
-    ghost from_gives = { λ _ f. f ≡ entry.NoMemory };
-
-    fn from(_error: NoMemory) -> EntryFault {
-        EntryFault::NoMemory
     }
 }
 

@@ -1,7 +1,6 @@
 //! Laws of sessions. Each law is the contract of a function that does nothing.
 
-ghost use Rattle.std.specs.Prelude.{◌≡◌, ◌≢◌, ◌<◌, ◌⊎◌, ℕ, List, [], ◌∷◌, ◌++◌, Result, Ok, Err, Some, IfErr};
-ghost use Rattle.std.specs.Prelude.{codes};
+ghost use Rattle.std.specs.Prelude.{◌≡◌, ◌≢◌, ◌<◌, ◌⊎◌, ℕ, List, [], ◌∷◌, ◌++◌, Result, Ok, Err, Some, IfErr, codes};
 ghost use Rattle.smx_types.specs.declared.command.Entry.{Entry};
 ghost use Rattle.smx_types.specs.declared.version.Version.TheVariants.{V2};
 ghost use Rattle.smx_model.specs.Views.{view};

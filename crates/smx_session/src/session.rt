@@ -135,8 +135,10 @@ impl Session {
         let Some(entry) = &self.last else {
             return Err(EntryFault::NoEntry);
         };
-        entry.write_line(out)?;
-        Ok(())
+        match entry.write_line(out) {
+            Ok(()) => Ok(()),
+            Err(_) => Err(EntryFault::NoMemory),
+        }
     }
 
     /// Returns the lines of the configuration, as in a transcript from `config` on, without the last line `end`.
