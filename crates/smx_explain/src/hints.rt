@@ -9,7 +9,7 @@ ghost use Rattle.smx_explain.specs.declared.kinds.Choice.TheVariants.{ProgramsLi
 
 use crate::kinds::{Choice, Value, Wanted};
 use crate::rows::go_on;
-use crate::tables::{Row, later_rows, rows};
+use crate::tables::{Row, rows_in};
 use smx_types::Version;
 use std::fmt;
 
@@ -121,18 +121,11 @@ fn may_be_command(choice: Choice) -> bool
 }
 
 // Returns the first fixed word of a choice that can be made from `word` by at most one edit.
-#[tactic(auto, using(crate::proofs::NearLemmas::first_found, crate::proofs::NearLemmas::first_missed))]
 fn near_fixed(version: Version, choice: Choice, word: &[u8]) -> Option<&'static str>
     ensures { MatchOption result (first_near (rows_in version choice) word.now ≡ None)
         (λ verb. first_near (rows_in version choice) word.now ≡ Some verb.now) }
 {
-    match version {
-        Version::V1 => near_row(rows(choice), word),
-        Version::V2 => match near_row(later_rows(choice), word) {
-            Some(verb) => Some(verb),
-            None => near_row(rows(choice), word),
-        },
-    }
+    near_row(rows_in(version, choice), word)
 }
 
 // Returns the first word of some rows that can be made from `word` by at most one edit.

@@ -7,7 +7,7 @@ ghost use Rattle.smx_explain.specs.declared.kinds.Choice.{Choice as AnyChoice};
 ghost use Rattle.smx_explain.specs.declared.kinds.Value.{Value as AnyValue};
 
 use crate::kinds::{Choice, Value};
-use crate::tables::{Row, later_rows, rows};
+use crate::tables::{Row, rows_in};
 use smx_types::{MAX_PROCESSES, Version};
 use smx_words::{driver_kind, link_kind, name, number, side, sides, spells_bytes, which};
 
@@ -39,13 +39,7 @@ fn fixed(version: Version, choice: Choice, word: &[u8]) -> Option<FoundRow>
     ensures { MatchOption result (IsNoRow (rows_in version choice) word.now)
         (λ row. IsFixed version choice word.now row.values.now row.next) }
 {
-    match version {
-        Version::V1 => find(rows(choice), word),
-        Version::V2 => match find(later_rows(choice), word) {
-            Some(row) => Some(row),
-            None => find(rows(choice), word),
-        },
-    }
+    find(rows_in(version, choice), word)
 }
 
 fn is_value(value: Value, word: &[u8]) -> bool

@@ -1,7 +1,7 @@
 //! The fixed words that a line may have in each column, and what follows each of them.
 
 ghost use Rattle.std.specs.Prelude.{◌≡◌};
-ghost use Rattle.smx_explain.specs.Rows.{later_rows, rows, rows_of};
+ghost use Rattle.smx_explain.specs.Rows.{rows_in, rows_of};
 
 use crate::kinds::Choice::{
     self, Again, BadDescriptor, Command, End, Equals, Invalid, NoDevice, ProgramsLine, Reply,
@@ -10,6 +10,7 @@ use crate::kinds::Choice::{
 use crate::kinds::Value::{
     self, Bytes, DriverKind, LinkKind, Name, Number, Process, Side, Sides, Which,
 };
+use smx_types::Version;
 
 /// A fixed word, the values expected after it, and the choice after these.
 pub type Row = (&'static str, &'static [Value], Choice);
@@ -21,8 +22,10 @@ const DRIVER: Row = (
     End,
 );
 
-// The first words of the lines of a transcript, except entries.
-const TRANSCRIPT_LINES: [Row; 10] = [
+// The first words of the lines of a transcript, except entries. In this table and in the next ones, only version 2 has
+// the first row.
+const TRANSCRIPT_LINES: &[Row] = &[
+    ("hung", &[Name, Number], End),
     DRIVER,
     ("config", &[], End),
     ("next", &[Number, Number], End),
@@ -35,7 +38,8 @@ const TRANSCRIPT_LINES: [Row; 10] = [
     ("end", &[], End),
 ];
 
-const COMMANDS: [Row; 18] = [
+const COMMANDS: &[Row] = &[
+    ("hangup", &[Name, Number], Equals),
     ("clone", &[Name], Equals),
     ("open", &[Name, Number], Equals),
     ("dup", &[Number], Equals),
@@ -56,7 +60,8 @@ const COMMANDS: [Row; 18] = [
     ("transmit", &[Name, Number], Equals),
 ];
 
-const REPLIES: [Row; 12] = [
+const REPLIES: &[Row] = &[
+    ("eof", &[], End),
     ("fd", &[Number, Number], End),
     ("id", &[Number], End),
     ("took", &[Number], End),
@@ -71,6 +76,12 @@ const REPLIES: [Row; 12] = [
     ("ERANGE", &[], End),
 ];
 
+const NO_DEVICE: &[Row] = &[
+    ("hangup", &[], End),
+    ("driver", &[], End),
+    ("minor", &[], End),
+];
+
 // The reasons after `EINVAL`.
 const INVALID: [Row; 7] = [
     ("below", &[], End),
@@ -82,39 +93,30 @@ const INVALID: [Row; 7] = [
     ("unrouted", &[], End),
 ];
 
-/// Returns those rows of a choice that both versions have.
-pub fn rows(choice: Choice) -> &'static [Row]
-    ensures { rows_of result.now ≡ rows choice }
+/// Returns the rows of a choice in a version.
+pub fn rows_in(version: Version, choice: Choice) -> &'static [Row]
+    ensures { rows_of result.now ≡ rows_in version choice }
 {
-    match choice {
-        ProgramsLine => &[DRIVER, ("process", &[Number], End), ("end", &[], End)],
-        TranscriptLine => &TRANSCRIPT_LINES,
-        SessionLine => &[
+    match (choice, version) {
+        (ProgramsLine, _) => &[DRIVER, ("process", &[Number], End), ("end", &[], End)],
+        (TranscriptLine, Version::V1) => &TRANSCRIPT_LINES[1..],
+        (TranscriptLine, Version::V2) => TRANSCRIPT_LINES,
+        (SessionLine, _) => &[
             ("show", &[], End),
             ("trace", &[], Switch),
             ("end", &[], End),
         ],
-        Command => &COMMANDS,
-        Switch => &[("on", &[], End), ("off", &[], End)],
-        Equals => &[("=", &[], Reply)],
-        Reply => &REPLIES,
-        BadDescriptor => &[("fd", &[], End)],
-        Invalid => &INVALID,
-        Again => &[("links", &[], End), ("full", &[], End), ("empty", &[], End)],
-        NoDevice => &[("driver", &[], End), ("minor", &[], End)],
-        SessionCommand | Serials | End => &[],
-    }
-}
-
-/// Returns those rows of a choice that only version 2 has.
-pub fn later_rows(choice: Choice) -> &'static [Row]
-    ensures { rows_of result.now ≡ later_rows choice }
-{
-    match choice {
-        TranscriptLine => &[("hung", &[Name, Number], End)],
-        Command => &[("hangup", &[Name, Number], Equals)],
-        Reply => &[("eof", &[], End)],
-        NoDevice => &[("hangup", &[], End)],
-        _ => &[],
+        (Command, Version::V1) => &COMMANDS[1..],
+        (Command, Version::V2) => COMMANDS,
+        (Switch, _) => &[("on", &[], End), ("off", &[], End)],
+        (Equals, _) => &[("=", &[], Reply)],
+        (Reply, Version::V1) => &REPLIES[1..],
+        (Reply, Version::V2) => REPLIES,
+        (BadDescriptor, _) => &[("fd", &[], End)],
+        (Invalid, _) => &INVALID,
+        (Again, _) => &[("links", &[], End), ("full", &[], End), ("empty", &[], End)],
+        (NoDevice, Version::V1) => &NO_DEVICE[1..],
+        (NoDevice, Version::V2) => NO_DEVICE,
+        (SessionCommand | Serials | End, _) => &[],
     }
 }
