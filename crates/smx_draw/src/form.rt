@@ -67,7 +67,6 @@ fn put_view(out: &mut Vec<u8>, view: &ConfigView, queues: &[QueueRow]) -> Result
     put_lines(out, view.fulls.as_slice())
 }
 
-// Appends the line of each item.
 fn put_lines<T: Part>(out: &mut Vec<u8>, items: &[T]) -> Result<(), NoMemory>
     ensures { OnOk result (out.new.items ≡ out.old.items ++ flat_map (T.text look.Line) items.now) }
 {

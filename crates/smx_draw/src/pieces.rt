@@ -1,7 +1,6 @@
 //! The texts of a picture, each made from a template.
 
 ghost use Rattle.std.specs.Prelude.{◌≡◌, ◌++◌, [], OnOk, get_or, map};
-ghost use Rattle.std.specs.Fmt.{decimal};
 ghost use Rattle.smx_draw.specs.Pieces.{filled, piece_text, shown_length};
 
 use itoa::Buffer;
@@ -62,8 +61,8 @@ fn put_piece(out: &mut Vec<u8>, piece: &Piece) -> Result<(), NoMemory>
     ensures { OnOk result (out.new.items ≡ out.old.items ++ piece_text piece.now) }
 {
     match piece {
-        Piece::Number(number) => put_number(out, *number),
-        Piece::Process(process) => put_number(out, process.get()),
+        Piece::Number(number) => put_text(out, Buffer::new().format(*number).as_bytes()),
+        Piece::Process(process) => put_text(out, Buffer::new().format(process.get()).as_bytes()),
         Piece::Name(name) => put_text(out, name.as_bytes()),
         Piece::Driver(DriverKind::Leaf) => put_text(out, b"leaf"),
         Piece::Driver(DriverKind::Mux) => put_text(out, b"mux"),
@@ -83,12 +82,6 @@ fn put_text(out: &mut Vec<u8>, text: &[u8]) -> Result<(), NoMemory>
 {
     out.extend_from_slice(text)?;
     Ok(())
-}
-
-fn put_number(out: &mut Vec<u8>, number: u32) -> Result<(), NoMemory>
-    ensures { OnOk result (out.new.items ≡ out.old.items ++ decimal number) }
-{
-    put_text(out, Buffer::new().format(number).as_bytes())
 }
 
 /// Returns the number of bytes, or `u32::MAX` if there are more.

@@ -143,7 +143,6 @@ fn put_view(
     put_rows(plan, out, view.fulls.as_slice())
 }
 
-// Appends the element of each item.
 fn draw_all<T: Drawn>(plan: &mut Plan, out: &mut Vec<u8>, items: &[T]) -> Result<(), NoMemory>
     ensures { OnOk result (Draws T.element items.now out.old.items out.new.items) }
 {
@@ -154,7 +153,6 @@ fn draw_all<T: Drawn>(plan: &mut Plan, out: &mut Vec<u8>, items: &[T]) -> Result
     Ok(())
 }
 
-// Appends the row of each item.
 fn put_rows<T: Part>(plan: &mut Plan, out: &mut Vec<u8>, items: &[T]) -> Result<(), NoMemory>
     ensures { OnOk result (Draws (row T.text) items.now out.old.items out.new.items) }
 {
@@ -165,7 +163,6 @@ fn put_rows<T: Part>(plan: &mut Plan, out: &mut Vec<u8>, items: &[T]) -> Result<
     Ok(())
 }
 
-// Appends the row of a part.
 fn put_row<T: Part>(item: &T, at: Area, out: &mut Vec<u8>) -> Result<(), NoMemory>
     ensures { OnOk result (out.new.items ≡ out.old.items ++ row T.text item.now at) }
 {

@@ -189,11 +189,8 @@ impl Block {
 
     /// Adds the horizontal middle of the column at the other end of a link of this frame.
     pub fn pull(&mut self, middle: Px) {
-        let (sum, number) = self.pulls;
-        self.pulls = (
-            sum.saturating_add(u64::from(middle.0)),
-            number.saturating_add(1),
-        );
+        self.pulls.0 = self.pulls.0.saturating_add(u64::from(middle.0));
+        self.pulls.1 = self.pulls.1.saturating_add(1);
     }
 
     /// Returns the mean of the middles that `pull` added, or the left end of the block if there are none.
@@ -241,8 +238,7 @@ impl Block {
             top: top.0,
             right: (self.left + self.width).0,
             bottom: (top + height).0,
-            bend: 0,
-            lane: 0,
+            ..Area::default()
         }
     }
 }

@@ -79,7 +79,6 @@ impl Plan {
         Ok(plan)
     }
 
-    // Adds the rows of these parts.
     fn add_all<T: Part>(&mut self, items: &[T]) -> Result<(), NoMemory> {
         for item in items {
             self.text.clear();
@@ -149,7 +148,6 @@ impl Plan {
         Ok(())
     }
 
-    // Adds the links.
     fn add_ways(&mut self, links: &[LinkLine]) -> Result<(), NoMemory> {
         for (number, link) in links.iter().enumerate() {
             let from = Seat::of_stream(&link.ctl_driver, link.ctl_minor, Row::Name);
