@@ -50,21 +50,11 @@ pub fn live_text<F: Feed, S: Sink>(
         (S.failures sink.new) (answer_of result) }
 {
     let mut inbox = Inbox::new(alloc);
-    let table = match read_table(alloc, feed, &mut inbox) {
-        Ok(table) => table,
-        Err(fault) => return Err(Refusal { fault, text: None }),
-    };
-    let mut talk = match begin(alloc, table) {
-        Ok(talk) => talk,
-        Err(refusal) => return Err(refusal),
-    };
-    match open(alloc, sink, &talk.session) {
-        Ok(()) => match converse(alloc, feed, sink, &mut inbox, &mut talk, explain) {
-            Ok(()) => Ok(()),
-            Err(fault) => Err(Refusal { fault, text: None }),
-        },
-        Err(fault) => Err(Refusal { fault, text: None }),
-    }
+    let table = read_table(alloc, feed, &mut inbox)?;
+    let mut talk = begin(alloc, table)?;
+    open(alloc, sink, &talk.session)?;
+    converse(alloc, feed, sink, &mut inbox, &mut talk, explain)?;
+    Ok(())
 }
 
 // Reads the driver table: the first line, and the lines after it that begin with `driver`. The last line of the table

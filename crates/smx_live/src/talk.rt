@@ -132,12 +132,11 @@ impl Talk {
         if self.progress.entries >= MAX_COMMANDS {
             return Ok(Some(TurnFault::Full));
         }
+        let version = self.session.version();
         if make_room(&mut self.text, line.len(), self.progress.entries).is_err() {
-            let version = self.session.version();
             return Ok(Some(fault_without_room(alloc, version, line)));
         }
         let Ok(before) = self.traced_view() else {
-            let version = self.session.version();
             return Ok(Some(fault_without_room(alloc, version, line)));
         };
         match self.session.perform(alloc, line) {
