@@ -1,9 +1,9 @@
 -- Assignments of workers, and the processes that have ended.
-use Rattle.smx_run.proofs.Common.{◌≡◌, ◌≢◌, ℕ, suc, ◌+◌, ◌%◌, ◌<◌, false, List, [], ◌∷◌, ◌++◌, All, length, map}
+use Rattle.smx_run.proofs.Common.{◌≡◌, ◌≢◌, ℕ, suc, ◌+◌, ◌%◌, ◌<◌, List, [], ◌∷◌, ◌++◌, All, length, map}
 use Rattle.smx_run.proofs.Common.{get_or, drop, arith, refl, ap, sym, subst, ◌∙◌, inl, inr, append_assoc, ◌==◌}
 use Rattle.smx_run.proofs.Common.{range_with_len, nat_tests, append-nil, length-map, map-append, Command, Seated}
 use Rattle.smx_run.proofs.Common.{assignment_of, Calls, calls_of, numbered}
-use Rattle.std.proofs.Common.{true, set}
+use Rattle.std.proofs.Common.{set}
 use Rattle.std.proofs.lemmas.List.FromFn.{length-range_with_len, length-map-range_with_len, map-range_with_len_more}
 use Rattle.std.proofs.lemmas.List.FromFn.{get_or-map-range_with_len, fill_by_all}
 use Rattle.std.proofs.lemmas.Bool.{cases_Bool}

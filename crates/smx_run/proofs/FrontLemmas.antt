@@ -1,10 +1,9 @@
 -- Numbers that are not fronts of the example: too early, past the end, or with another number of links. And drivers
 -- that are not valid.
-use Rattle.smx_run.proofs.Common.{◌≡◌, ℕ, ◌+◌, ◌≤◌, List, [], ◌∷◌, take, length, refl, sym, ap, ◌∙◌, arith}
-use Rattle.smx_run.proofs.Common.{length-append, Command, Entry, commands_of, Front}
+use Rattle.smx_run.proofs.Common.{◌≡◌, ℕ, ◌≤◌, List, [], ◌∷◌, take, length, refl, sym, ◌∙◌, arith}
+use Rattle.smx_run.proofs.Common.{length-append, Command, Entry, Front}
 use Rattle.std.proofs.Math.Seq.{take-append_seam}
 use Rattle.smx_model.specs.DriverList.{IsDriverList}
-use Rattle.smx_model.specs.Histories.{after}
 use Rattle.smx_model.specs.Worked.Common.{OpenClone, Dup, ip, mux}
 use Rattle.smx_model.specs.Worked.Reports.{drivers, opened, exited, copied}
 use Rattle.smx_shared.specs.Seats.{IsBeginningOf}

@@ -1,45 +1,40 @@
--- The number of entries of each transcript that a history has.
-use Rattle.smx_run.proofs.Common.{◌≡◌, ◌≢◌, ℕ, suc, All, ◌<◌, ◌≤◌, false, List, [], ◌∷◌, ◌++◌, length, get_or, None}
-use Rattle.smx_run.proofs.Common.{refl, sym, subst, ◌∙◌, arith, inl, inr, ◌==◌, cases_lt, nat_tests, append-nil}
+-- The entries of each process in a history.
+use Rattle.smx_run.proofs.Common.{◌≡◌, ◌≢◌, ℕ, suc, All, ◌<◌, ◌≤◌, false, List, [], ◌∷◌, ◌++◌, length, None}
+use Rattle.smx_run.proofs.Common.{refl, sym, subst, ap, ◌∙◌, arith, ◌==◌, nat_tests, append-nil}
 use Rattle.smx_run.proofs.Common.{Entry, MAX_PROCESSES, IsBorneOut, IsMet}
-use Rattle.std.proofs.Common.{set, replicate, Option, Some}
-use Rattle.std.specs.Prelude.{IfSome}
-use Rattle.std.proofs.lemmas.Bool.{cases_eq}
-use Rattle.std.proofs.lemmas.List.{get_or-set_same, get_or-set_other, get_or-replicate, get_or_past}
-use Rattle.smx_run.specs.Gathering.{entries_of, IsLeastStrange}
+use Rattle.std.proofs.Common.{Option, Some, true≢false}
+use Rattle.std.specs.Prelude.{◌↔◌, Bool, IsTrue}
+use Rattle.std.specs.Option.{option_eq}
+use Rattle.std.proofs.lemmas.Bool.Decides.{Decides-eqb}
+use Rattle.std.proofs.lemmas.List.{get_or_past, length-take-le, take_all}
+use Rattle.smx_run.specs.Gathering.{entries_of}
 use Rattle.smx_shared.proofs.OwnEntryLemmas.{entries_append, entries_mine, entries_other}
 
--- the counts before the first entry
-pub none_met_yet : (transcripts : List (List Entry)) (met : List (Option ℕ)) → met ≡ replicate MAX_PROCESSES (Some 0)
-    → (p : ℕ) → p < MAX_PROCESSES → IsMet (get_or transcripts p []) [] (get_or met p None)
-none_met_yet transcripts met is p below =
-    rw (is, get_or-replicate {A = Option ℕ} MAX_PROCESSES p (Some 0) None below) (omega arith, refl)
+-- the entries of a process after an entry of its own
+pub met_more : (transcript es more : List Entry) (e : Entry) (p : ℕ) (r : Option ℕ) → more ≡ es ++ e ∷ [] → e.process ≡ p
+    → IsMet transcript (entries_of p es ++ e ∷ []) r → IsMet transcript (entries_of p more) r
+met_more transcript es more e p r added its h =
+    subst (λ (own : List Entry). IsMet transcript own r) (sym (ap (entries_of p) added ∙ entries_append p es (e ∷ [])
+    ∙ ap (λ (one : List Entry). entries_of p es ++ one) (entries_mine p e its))) h
 
--- the counts after one more entry of the history
-pub one_more_met : (transcripts : List (List Entry)) (es more : List Entry) (e : Entry) (n : ℕ) (met : List (Option ℕ))
-    (m r : Option ℕ) (transcript : List Entry)
-    → length met ≡ MAX_PROCESSES → n ≡ e.process → n < MAX_PROCESSES → more ≡ es ++ e ∷ []
-    → transcript ≡ get_or transcripts n [] → m ≡ get_or met n None
-    → ((p : ℕ) → p < MAX_PROCESSES → IsMet (get_or transcripts p []) (entries_of p es) (get_or met p None))
-    → ((own : List Entry) → IsMet transcript own m → IsMet transcript (own ++ e ∷ []) r)
-    → (p : ℕ) → p < MAX_PROCESSES → IsMet (get_or transcripts p []) (entries_of p more) (get_or (set met n r) p None)
-one_more_met transcripts es more e n met m r transcript counted number within added its was before here p below =
-    grind (
-      arith,
-      get_or-set_same,
-      entries_append,
-      entries_mine,
-      here (entries_of n es) (rw (its, was) (before n within)),
-      before n within,
-      entries_other,
-      append-nil,
-      get_or-set_other,
-      before p below,
+-- and after an entry of another process
+pub met_still : (transcript es more : List Entry) (e : Entry) (p : ℕ) (r : Option ℕ) → more ≡ es ++ e ∷ []
+    → e.process ≢ p → IsMet transcript (entries_of p es) r → IsMet transcript (entries_of p more) r
+met_still transcript es more e p r added other h =
+    subst (λ (own : List Entry). IsMet transcript own r) (sym (ap (entries_of p) added ∙ entries_append p es (e ∷ [])
+    ∙ ap (λ (one : List Entry). entries_of p es ++ one) (entries_other p e other) ∙ append-nil (entries_of p es))) h
+
+-- the entries of a process are its transcript exactly if that is their number
+pub whole_if_met : (transcript own : List Entry) (met : Option ℕ) (r : Bool) → IsMet transcript own met
+    → r ≡ option_eq (λ (m n : ℕ). m == n) met (Some (length transcript)) → IsTrue r ↔ (own ≡ transcript)
+whole_if_met transcript own None r h is =
+    ((λ t. absurd (true≢false (sym t ∙ is))), (λ is_whole. absurd (h [] (append-nil own ∙ is_whole))))
+whole_if_met transcript own (Some n) r h is =
+    let told = Decides-eqb n (length transcript) in (
+      (λ t. h.1 ∙ take_all n transcript (omega (arith, told.0 (sym is ∙ t)))),
+      (λ is_whole. is ∙ told.1 (sym (length-take-le n transcript h.0)
+          ∙ ap (λ (es : List Entry). length es) (sym h.1 ∙ is_whole))),
     )
-
--- entries that are not part of the transcript are not the transcript
-pub not_whole : (transcript own : List Entry) → IsMet transcript own None → own ≢ transcript
-not_whole transcript own h same = h [] (append-nil own ∙ same)
 
 -- a process past the last has no entry
 no_entries : (p : ℕ) (es : List Entry) → MAX_PROCESSES ≤ p → All (λ (e : Entry). e.process < MAX_PROCESSES) es
@@ -55,10 +50,3 @@ pub all_borne_out : (history : List Entry) (transcripts : List (List Entry)) →
     → All (λ (e : Entry). e.process < MAX_PROCESSES) history
     → ((p : ℕ) → p < MAX_PROCESSES → IsBorneOut history transcripts p) → (p : ℕ) → IsBorneOut history transcripts p
 all_borne_out history transcripts few within each p = grind (arith, each p, no_entries, get_or_past)
-
--- the process with this number is the lowest strange one
-pub named : (history : List Entry) (transcripts : List (List Entry)) (n : ℕ) (r : Option ℕ) → IfSome r (λ p. p ≡ n)
-    → entries_of n history ≢ get_or transcripts n [] → ((p : ℕ) → p < n → IsBorneOut history transcripts p)
-    → IfSome r (IsLeastStrange history transcripts)
-named history transcripts n None is strange least = tt
-named history transcripts n (Some p) is strange least = rw is (record { strange = strange; least = least })

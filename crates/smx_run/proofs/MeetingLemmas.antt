@@ -1,6 +1,6 @@
 -- The seats that a seat has met.
-use Rattle.smx_run.proofs.Common.{◌≡◌, ◌≢◌, ℕ, ◌+◌, ◌<◌, ◌≤◌, List, [], ◌∷◌, ◌++◌, All, length, map, refl, ap, sym}
-use Rattle.smx_run.proofs.Common.{subst, ◌∙◌, arith, get_or, inl, inr, cases_lt, Command, Seated, called, known_at}
+use Rattle.smx_run.proofs.Common.{◌≡◌, ℕ, ◌+◌, ◌<◌, ◌≤◌, List, [], ◌∷◌, ◌++◌, All, length, map, refl, ap, sym}
+use Rattle.smx_run.proofs.Common.{subst, ◌∙◌, arith, inl, inr, cases_lt, Command, Seated, called, known_at}
 use Rattle.smx_run.proofs.Common.{IsKnownTo, Calls, calls_of, numbered, EndedProgram}
 use Rattle.smx_shared.specs.Seats.{Known, HasMetAll, IsNotMet, met_seat}
 use Rattle.smx_shared.specs.declared.seat_view.MetSeat.{MetSeat}

@@ -1,9 +1,8 @@
 -- A history with the calls of the programs, process by process, holds the programs.
-use Rattle.smx_run.proofs.Common.{◌≡◌, ℕ, suc, ◌+◌, ◌<◌, false, List, [], ◌∷◌, ◌++◌, map, get_or, refl, sym, ap, ◌∙◌}
-use Rattle.smx_run.proofs.Common.{arith, inl, inr, ◌==◌, nat_tests, append-nil, Command, Entry, call_of, commands_of}
+use Rattle.smx_run.proofs.Common.{◌≡◌, ℕ, suc, ◌+◌, ◌<◌, false, List, [], ◌∷◌, ◌++◌, map, get_or, refl, ◌∙◌}
+use Rattle.smx_run.proofs.Common.{arith, ◌==◌, nat_tests, append-nil, Command, Entry, call_of, commands_of}
 use Rattle.smx_run.proofs.Common.{HoldsPrograms, Recorded, IsSoundSystem, calls_of, calls_from}
 use Rattle.std.proofs.Common.{zero, true, filter}
-use Rattle.std.proofs.lemmas.Bool.{cases_Bool}
 use Rattle.smx_model.specs.Histories.{after}
 use Rattle.smx_model.proofs.DropLemmas.{few_drop}
 use Rattle.smx_types.specs.ProgramLists.{ProgramLists}

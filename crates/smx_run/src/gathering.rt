@@ -1,8 +1,8 @@
 //! The report of a system, and how it is made if the history of the system agrees with the transcripts of its callers.
 //! Here the transcript of a process is not a text: it is the list of entries that the caller of this process has kept.
 
-ghost use Rattle.std.specs.Prelude.{◌≡◌, ◌≤◌, ◌<◌, ◌↔◌, ℕ, List, [], ◌∷◌, ◌++◌, All, length, replicate};
-ghost use Rattle.std.specs.Prelude.{slice_index_or, IsTrue, IfOk, IfSome, IfNone, Err, None, Some};
+ghost use Rattle.std.specs.Prelude.{◌≡◌, ◌≤◌, ◌<◌, ◌↔◌, ℕ, List, [], ◌∷◌, ◌++◌, All, length, slice_index_or};
+ghost use Rattle.std.specs.Prelude.{IsTrue, IfOk, IfSome, IfNone, Err};
 ghost use Rattle.smx_types.specs.declared.limits.TheConstants.{MAX_PROCESSES};
 ghost use Rattle.smx_types.specs.declared.command.Entry.{Entry as Made};
 ghost use Rattle.smx_shared.specs.Seats.{entries_of};
@@ -17,8 +17,6 @@ use smx_types::{
     Same, Transcript, Version,
 };
 use std::alloc::Global;
-
-const PROCESSES: usize = MAX_PROCESSES as usize;
 
 /// The drivers of a run, its history, and the configuration at its end.
 #[derive(Debug, Drop, PartialEq)]
@@ -71,7 +69,7 @@ pub fn gather(alloc: Global, system: System, transcripts: &[Entries]) -> Result<
     if let Some(process) = find_strange(system.entries(), transcripts) {
         return Err(GatherFault::Strange(process));
     }
-    Ok(report_of(alloc, system, Fronts::new(alloc))?)
+    report_of(alloc, system, Fronts::new(alloc)).or(Err(GatherFault::NoMemory))
 }
 
 /// Makes a report of a system, with these fronts. Fails only if it is out of memory.
@@ -79,57 +77,47 @@ pub fn report_of(alloc: Global, system: System, fronts: Fronts) -> Result<Report
     ensures report { IfOk result (Reports system) }
     ensures fronts { IfOk result (λ r. r.fronts ≡ fronts) }
 {
-    let drivers = DriverSpec::copies(alloc, system.config().drivers())?;
-    let view = system.config().show()?;
+    let (entries, config) = system.into_parts();
+    let drivers = DriverSpec::copies(alloc, config.drivers())?;
+    let view = config.into_view()?;
     Ok(Report {
         drivers: Drivers::from_vec(drivers),
-        entries: system.into_entries(),
+        entries: Entries::from_vec(entries),
         view,
         fronts,
     })
 }
 
-/// Returns the lowest process whose entries in the history are not its transcript, if there is one.
-pub fn find_strange(history: &[Entry], transcripts: &[Entries]) -> Option<Process>
+// Returns the lowest process whose entries in the history are not its transcript, if there is one.
+fn find_strange(history: &[Entry], transcripts: &[Entries]) -> Option<Process>
     requires { length transcripts.now ≤ MAX_PROCESSES }
     ensures strange { IfSome result (IsLeastStrange history.now transcripts.now) }
     ensures none { IfNone result ((p : ℕ) → IsBorneOut history.now transcripts.now p) }
 {
-    let met = meet_all(history, transcripts);
-    for number in 0..PROCESSES {
-        let transcript = transcript_at(transcripts, number);
-        if !is_whole(met[number], transcript) {
-            return Process::new(number as u32);
+    for number in 0..MAX_PROCESSES {
+        if !is_borne_out(history, number, transcript_at(transcripts, number as usize)) {
+            return Process::new(number);
         }
     }
     None
 }
 
-// Returns a count for each process: the number of its entries in the history. If these entries are not a beginning of
-// the transcript of the process, the count is `None`.
-fn meet_all(history: &[Entry], transcripts: &[Entries]) -> [Option<usize>; PROCESSES]
-    ensures met { (p : ℕ) → p < MAX_PROCESSES
-        → IsMet (slice_index_or transcripts.now p []) (entries_of p history.now) (slice_index_or result p None) }
-    ensures counted { length result ≡ MAX_PROCESSES }
+// Returns whether the entries of process `number` in the history are this transcript.
+fn is_borne_out(history: &[Entry], number: u32, transcript: &[Entry]) -> bool
+    ensures whole { IsTrue result ↔ (entries_of number history.now ≡ transcript.now) }
     ensures processes { All (λ e. e.process < MAX_PROCESSES) history.now }
 {
-    let mut met = none_met();
+    let mut met = Some(0);
     for entry in history {
-        let number = entry.process.get() as usize;
-        let transcript = transcript_at(transcripts, number);
-        met[number] = meet(met[number], transcript, entry);
+        if entry.process.get() == number {
+            met = meet(met, transcript, entry);
+        }
     }
-    met
+    met == Some(transcript.len())
 }
 
-// Returns the counts for a history without entries.
-fn none_met() -> [Option<usize>; PROCESSES]
-    ensures { result ≡ replicate MAX_PROCESSES (Some 0) }
-{
-    [Some(0); PROCESSES]
-}
-
-// Returns the count of a process after its next entry, `entry`.
+// Returns the number of entries of a process after its next entry, `entry`; or `None`, if these entries are not a
+// beginning of its transcript.
 fn meet(met: Option<usize>, transcript: &[Entry], entry: &Entry) -> Option<usize>
     ensures { (own : List Made) → IsMet transcript.now own met → IsMet transcript.now (own ++ entry.now ∷ []) result }
 {
@@ -139,16 +127,6 @@ fn meet(met: Option<usize>, transcript: &[Entry], entry: &Entry) -> Option<usize
         Some(count + 1)
     } else {
         None
-    }
-}
-
-// Returns whether the counted entries of a process are its whole transcript.
-fn is_whole(met: Option<usize>, transcript: &[Entry]) -> bool
-    ensures { (own : List Made) → IsMet transcript.now own met → (IsTrue result ↔ (own ≡ transcript.now)) }
-{
-    match met {
-        Some(count) => count == transcript.len(),
-        None => false,
     }
 }
 

@@ -149,15 +149,7 @@ impl Refusal {
     {
         let text = match fault {
             MainFault::Text(_) | MainFault::Refused(RunFault::ConfigFault(_)) => Some(input),
-            MainFault::Refused(
-                RunFault::NoMemory
-                | RunFault::NoThread
-                | RunFault::Strange(_)
-                | RunFault::HistoryFull
-                | RunFault::Held
-                | RunFault::FewEntries(_)
-                | RunFault::LongPage(_),
-            )
+            MainFault::Refused(_)
             | MainFault::TooLong
             | MainFault::ReadFailed
             | MainFault::WriteFailed => None,

@@ -3,7 +3,6 @@
 ghost use Rattle.std.specs.Prelude.{◌≡◌, ◌≤◌, ◌<◌, ◌⊎◌, [], length, map, IfOk, IfErr, OnOk, OnErr, IsErrOf};
 ghost use Rattle.std.specs.List.{sum_by};
 ghost use Rattle.smx_model.specs.Headline.{IsReportOf};
-ghost use Rattle.smx_model.specs.DriverList.{IsDriverList};
 ghost use Rattle.smx_model.specs.Histories.{call_of};
 ghost use Rattle.smx_types.specs.declared.limits.TheConstants.{MAX_COMMANDS, MAX_PROCESSES};
 ghost use Rattle.smx_shared.specs.Fronts.{IsFrontOf};
@@ -22,7 +21,7 @@ use crate::threads::run_together;
 use crate::worker::Gate;
 use smx_config::Config;
 use smx_shared::{ApplyFault, EntrySink, Front, Fronts, System};
-use smx_types::{Commands, DriverSpec, MAX_COMMANDS, Process, ProgramList, Programs};
+use smx_types::{Commands, MAX_COMMANDS, Process, ProgramList, Programs};
 use std::alloc::Global;
 use std::sync::Wait;
 use std::thread::Threads;
@@ -81,29 +80,14 @@ pub fn run_system<R: Threads + Wait + Sync, K: EntrySink + Send, G: Gate + Sync>
         → IfOk result (λ r. map call_of r.0.history ≡ calls_from 0 programs.programs) }
 {
     let (drivers, programs) = programs.into_parts();
-    let mut system = new_system(alloc, drivers.as_slice(), sink)?;
+    let config = Config::new(alloc, drivers.as_slice())?;
+    let mut system = System::begin(alloc, config, MAX_COMMANDS, sink);
     let workers = workers.min(programs.as_slice().len());
     if workers < 2 {
         let fronts = run_alone(alloc, &mut system, programs, gate)?;
         return Ok((system, fronts));
     }
     Ok(run_together(rt, alloc, system, programs, workers, gate)?)
-}
-
-// Makes a system over these drivers, without a history. Its entries go to `sink`.
-fn new_system<K: EntrySink>(
-    alloc: Global,
-    drivers: &[DriverSpec],
-    sink: K,
-) -> Result<System<K>, RunFault>
-    requires { K.entries sink ≡ [] }
-    ensures drivers { IfOk result (λ s. (s.drivers ≡ drivers.now) × IsDriverList drivers.now) }
-    ensures limit { IfOk result (λ s. s.limit ≡ MAX_COMMANDS) }
-    ensures empty { IfOk result (λ s. s.history ≡ []) }
-    ensures refused { IfErr result (RefusesAlone drivers.now) }
-{
-    let config = Config::new(alloc, drivers)?;
-    Ok(System::begin(alloc, config, MAX_COMMANDS, sink))
 }
 
 // Returns the front of a system that is not shared.

@@ -3,12 +3,11 @@
 ghost use Rattle.std.specs.Prelude.{◌≡◌, Some};
 ghost use Rattle.smx_run.specs.FaultWords.{gather_fault_words, run_fault_words};
 ghost use Rattle.smx_run.specs.RunFaults.{fault_of_call, fault_of_worker, run_fault_of, worker_fault_of};
-ghost use Rattle.smx_run.specs.declared.run_fault.GatherFault.TheVariants as gathered;
 ghost use Rattle.smx_run.specs.declared.run_fault.RunFault.TheVariants as run;
 ghost use Rattle.smx_run.specs.declared.run_fault.WorkerFault.TheVariants as worker;
 
 use smx_config::ConfigFault;
-use smx_shared::{ApplyFault, CloseFault};
+use smx_shared::ApplyFault;
 use smx_types::{NoMemory, Process};
 use std::alloc::AllocError;
 use std::fmt;
@@ -102,16 +101,6 @@ impl From<WorkerFault> for RunFault {
     }
 }
 
-impl From<CloseFault> for RunFault {
-    ghost from_gives = { λ _ e. e ≡ run.Held };
-
-    fn from(fault: CloseFault) -> RunFault {
-        match fault {
-            CloseFault::Held(_) => RunFault::Held,
-        }
-    }
-}
-
 impl From<NoMemory> for WorkerFault {
     ghost from_gives = { λ _ e. e ≡ worker.NoMemory };
 
@@ -136,14 +125,6 @@ impl From<ApplyFault> for WorkerFault {
             ApplyFault::HistoryFull => WorkerFault::HistoryFull,
             ApplyFault::NoMemory => WorkerFault::NoMemory,
         }
-    }
-}
-
-impl From<NoMemory> for GatherFault {
-    ghost from_gives = { λ _ e. e ≡ gathered.NoMemory };
-
-    fn from(_error: NoMemory) -> GatherFault {
-        GatherFault::NoMemory
     }
 }
 

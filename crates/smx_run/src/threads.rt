@@ -19,7 +19,7 @@ ghost use Rattle.smx_run.specs.declared.run_fault.WorkerFault.TheVariants as wor
 use crate::assignments::{assign, collect};
 use crate::run_fault::{RunFault, WorkerFault};
 use crate::worker::{EndedProgram, Gate, SeatedProgram, run_assigned};
-use smx_shared::{EntrySink, Fronts, Seat, Shared, System};
+use smx_shared::{CloseFault, EntrySink, Fronts, Seat, Shared, System};
 use smx_types::{NoMemory, ProgramList};
 use std::alloc::Global;
 use std::snapshot::Snapshot;
@@ -49,8 +49,10 @@ pub fn run_together<R: Threads + Wait + Sync, K: EntrySink + Send, G: Gate + Syn
     let (shared, seats) = Shared::start(alloc, system, programs.as_slice().len())?;
     let ended = run_seats(rt, alloc, &shared, seats, programs, workers, gate)?;
     let (seat, fronts) = meet_all(alloc, &shared, ended)?;
-    let system = shared.close(seat)?;
-    Ok((system, fronts))
+    match shared.close(seat) {
+        Ok(system) => Ok((system, fronts)),
+        Err(CloseFault::Held(_)) => Err(RunFault::Held),
+    }
 }
 
 // Runs the program of each seat, on `workers` workers.

@@ -1,6 +1,6 @@
 -- Consequences of the rule of the turn for the first word, and for the seat that has the turn.
-use Rattle.std.proofs.Common.{◌≡◌, ℕ, ◌+◌, ◌%◌, List, [], ◌∷◌, true, Some, refl, sym, ap, ◌∙◌, arith}
-use mathlib.Core.Option.{none, some, some-injective}
+use Rattle.std.proofs.Common.{◌≡◌, ℕ, ◌+◌, ◌%◌, List, [], ◌∷◌, true, Some, refl, ap, ◌∙◌, arith}
+use mathlib.Core.Option.{none, some}
 use lib.ListN.{get_elem?}
 use Rattle.atomic_table.specs.Table.{State}
 use Rattle.smx_types.specs.declared.command.Entry.{Entry}

@@ -12,7 +12,7 @@ ghost use Rattle.smx_shared.specs.declared.shared_fault.ApplyFault.TheVariants.{
 use crate::entry_sink::EntrySink;
 use crate::shared_fault::ApplyFault;
 use smx_config::{Config, ConfigFault};
-use smx_types::{Command, Copied, DriverSpec, Entries, Entry, NoMemory, Process, Reply};
+use smx_types::{Command, Copied, DriverSpec, Entry, NoMemory, Process, Reply};
 use std::alloc::Global;
 use std::marker::Model;
 
@@ -82,20 +82,6 @@ impl System {
         ensures sound { IsSoundSystem self.now }
     {
         self.sink.as_slice()
-    }
-
-    /// Moves the history out. Takes no memory.
-    pub fn into_entries(self) -> Entries
-        ensures entries { result ≡ self.history }
-        ensures sound { IsSoundSystem self }
-    {
-        let System {
-            alloc: _,
-            config: _config,
-            limit: _,
-            sink,
-        } = self;
-        Entries::from_vec(sink)
     }
 
     /// Returns a copy of this system. The copy keeps this allocator. Fails if an allocation fails.

@@ -20,10 +20,10 @@ run_seats-requires-clause-fresh g c κs within =
 pub meet_all-requires-clause-some : goal.meet_all-requires-clause-some
 meet_all-requires-clause-some g c = some_ended _ _ c.in_ok-ended.ensures.called c.requires.processes.0
 
-pub returns-clause-holds : goal.returns-clause-holds
-returns-clause-holds g c =
-    let s = c.in_ok-system.system in
-    let end = c.in_ok-system.ensures in
+pub returns-in-Ok-clause-holds : goal.returns-in-Ok-clause-holds
+returns-in-Ok-clause-holds g c =
+    let s = c.in-Ok.system in
+    let end = c.in-Ok.ensures in
     let many : c.in_ok-shared.shared.processes ≡ length c.args.programs = search rules in
     let none : c.in_ok-shared.shared.start.history
     ≡ [] = ap (λ (s : Recorded). s.history) c.in_ok-shared.ensures.shared.0 ∙ c.requires.system.0 in
@@ -31,18 +31,18 @@ returns-clause-holds g c =
     (λ (x : ℕ × List Entry). GoesOnNamed x.0 x.1 s.history) (λ i. (many i, none i)) end.begun.history in
     holds_all s _ _ c.in_ok-ended.ensures.called (c.in_ok-seat.ensures.met s end.ends) named
 
-pub returns-clause-fronts : goal.returns-clause-fronts
-returns-clause-fronts g c =
-    let s = c.in_ok-system.system in
+pub returns-in-Ok-clause-fronts : goal.returns-in-Ok-clause-fronts
+returns-in-Ok-clause-fronts g c =
+    let s = c.in-Ok.system in
     let met = c.in_ok-seat.ensures in
     subst (λ (fronts : List Front). AreFrontsFrom s.drivers s.history 0 c.args.programs fronts) (sym met.fronts)
     (fronts_all c.in_ok-shared.shared.name s 0 _ _ c.in_ok-ended.ensures.called c.in_ok-ended.ensures.ended
-    (met.met s c.in_ok-system.ensures.ends))
+    (met.met s c.in-Ok.ensures.ends))
 
 -- the seat has met all others, so the system comes back
-pub returns-in_err-system-clause-refused : goal.returns-in_err-system-clause-refused
-returns-in_err-system-clause-refused g c =
+pub returns-in-Err-Held-clause-refused : goal.returns-in-Err-Held-clause-refused
+returns-in-Err-Held-clause-refused g c =
     let many : c.in_ok-shared.shared.processes ≡ length c.args.programs = search rules in
     let all = all_known c.in_ok-shared.shared.processes c.in_ok-seat.seat c.in_ok-ended.ended.items c.args.programs many
     c.in_ok-ended.ensures.called c.in_ok-seat.ensures.known in
-    absurd (true≢false (sym (c.in_err-system.ensures.alone all)))
+    absurd (true≢false (sym (c.in-Err-Held.ensures.alone all)))
