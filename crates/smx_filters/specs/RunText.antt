@@ -1,9 +1,8 @@
 -- The main theorem over bytes: the answer of a run to the bytes that it read, and its output.
 use Rattle.std.specs.Prelude.{◌≡◌, ◌≤◌, ◌⊎◌, ℕ, Bool, true, false, List, length, map, Option, Result, Vec}
-use Rattle.std.specs.Prelude.{Ok, Err, IfSome}
+use Rattle.std.specs.Prelude.{Ok, Err}
 use Rattle.std.specs.Global.{Global}
 use Rattle.smx_types.specs.ProgramLists.{ProgramLists}
-use Rattle.smx_types.specs.declared.command.Entry.{Entry}
 use Rattle.smx_types.specs.declared.transcript.Transcript.{Transcript}
 use Rattle.smx_model.specs.Headline.{IsReportOf}
 use Rattle.smx_model.specs.Histories.{call_of}
@@ -12,7 +11,6 @@ use Rattle.smx_run.specs.ProgramOrder.{calls_from}
 use Rattle.smx_run.specs.RunFaults.{RefusesAlone, RefusesRun}
 use Rattle.smx_run.specs.declared.run_fault.RunFault.{RunFault}
 use Rattle.smx_shared.specs.declared.front.Front.{Front}
-use Rattle.smx_text.specs.GrowingTranscripts.{AreEntryLines}
 use Rattle.smx_text.specs.ProgramLines.{Line}
 use Rattle.smx_text.specs.ProgramsText.{programs_grammar}
 use Rattle.smx_text.specs.TranscriptText.{SpellsTranscript}
@@ -72,8 +70,3 @@ items_of (Err e) = Err e
 abbrev pub RunsText : Bool → ℕ → Option (List ℕ) → Option (List ℕ) → Bool → ℕ
     → Option (List ℕ) → Option (List ℕ) → Bool → ℕ → Result (Unit {0}) MainFault → Type 0
 RunsText fronts workers = FiltersText (running fronts workers)
-
--- these are the lines of the entries so far, unless an allocation failed, and this is their number
-pub record AreLinesSoFar (lines : Option (Vec ℕ Global)) (count : ℕ) (entries : List Entry) : Type 0 where
-  pub written : IfSome lines (λ v. AreEntryLines entries v.items)
-  pub counted : count ≡ length entries

@@ -1,8 +1,6 @@
 //! A check from bytes to bytes, with an explanation or without one.
 
-ghost use Rattle.std.specs.Fmt.{decimal};
-ghost use Rattle.std.specs.Prelude.{◌≡◌, ◌∷◌, ◌++◌, [], string_bytes, IfErr, IfOk};
-ghost use Rattle.smx_words.specs.Words.{LINE_FEED, SPACE};
+ghost use Rattle.std.specs.Prelude.{◌≡◌, ◌++◌, string_bytes, IfErr, IfOk};
 ghost use Rattle.smx_text.specs.TranscriptText.{SpellsTranscript};
 ghost use Rattle.smx_model.specs.DriverList.{IsDriverList};
 ghost use Rattle.smx_config.specs.DriverFaults.{RefusesDrivers};
@@ -122,18 +120,10 @@ fn verdict_line(alloc: Global, entries: usize, verdict: Verdict) -> Result<Strin
     ensures { IfOk result (λ line. string_bytes line ≡ verdict_line entries verdict) }
 {
     match verdict {
-        Verdict::Legal => numbered(alloc, "legal", entries),
-        Verdict::Illegal { entry } => numbered(alloc, "illegal", entry),
+        Verdict::Legal => format!(in alloc; "legal {entries}\n"),
+        Verdict::Illegal { entry } => format!(in alloc; "illegal {entry}\n"),
         Verdict::ConfigDiffers => format!(in alloc; "config differs\n"),
     }
-}
-
-// Returns the line of a word and a number.
-fn numbered(alloc: Global, word: &str, n: usize) -> Result<String, AllocError>
-    ensures { IfOk result (λ line. string_bytes line
-        ≡ word.now ++ SPACE ∷ decimal n ++ LINE_FEED ∷ []) }
-{
-    format!(in alloc; "{word} {n}\n")
 }
 
 // Joins two slices of bytes.

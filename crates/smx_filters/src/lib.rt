@@ -3,7 +3,6 @@
 #![tactic(auto)]
 
 mod check;
-mod entry_lines;
 pub mod laws;
 mod run;
 mod transcripts;

@@ -1,6 +1,8 @@
-//! A run of programs, from bytes to bytes.
+//! A run of programs, from bytes to bytes. The lines of its entries are written while it makes them.
 
-ghost use Rattle.std.specs.Prelude.{◌≡◌, ◌≤◌, ◌++◌, false, IfOk, IfErr, OnOk};
+ghost use Rattle.std.specs.Prelude.{◌≡◌, ◌≤◌, ◌++◌, false, List, [], IfOk, IfErr, IfSome, OnOk};
+ghost use Rattle.smx_types.specs.declared.command.Entry.{Entry as Made};
+ghost use Rattle.smx_text.specs.GrowingTranscripts.{AreEntryLines};
 ghost use Rattle.smx_run.specs.Devices.{AreReady};
 ghost use Rattle.smx_run.specs.declared.run.TheConstants.{MAX_WORKERS};
 ghost use Rattle.smx_filters.specs.ExplainText.{KeepsText};
@@ -8,14 +10,77 @@ ghost use Rattle.smx_filters.specs.Filters.{Answers};
 ghost use Rattle.smx_filters.specs.FrontsText.{fronts_text, front_line};
 ghost use Rattle.smx_filters.specs.RunText.{IsFrontsTextFor, IsRefusedFor, IsWrittenFor, RunsText, items_of, running};
 
-use crate::entry_lines::EntryLines;
 use smx_run::{Feed, Gate, MainFault, Refusal, RunFault, Sink, read_all, run_system, write_all};
-use smx_shared::{EntryCount, Front};
-use smx_text::{finish_transcript, read_programs};
-use smx_types::{Copied, DriverSpec, NoMemory, Programs};
+use smx_shared::{EntryCount, EntrySink, Front};
+use smx_text::{add_entry_line, finish_transcript, read_programs};
+use smx_types::{Command, Copied, DriverSpec, NoMemory, Process, Programs, Reply};
 use std::alloc::Global;
+use std::marker::Model;
 use std::sync::Wait;
 use std::thread::Threads;
+
+// An entry sink, which receives the entries of a run: writes the line of each entry, and then drops the entry.
+// Contracts see the list of the entries. After an allocation has failed, no line is written any more, and no lines can
+// be returned.
+#[derive(Drop)]
+struct EntryLines {
+    // `None` after an allocation has failed.
+    lines: Option<Vec<u8>>,
+    entries: EntryCount,
+}
+
+impl Model for EntryLines {
+    ghost Value = { List Made };
+
+    ghost view = { λ e. e.entries };
+
+    ghost invariant = { λ e. IfSome e.lines (λ v. AreEntryLines e.entries v.items) };
+}
+
+impl EntryLines {
+    // Begins with no entry. Takes no memory.
+    fn new(alloc: Global) -> EntryLines
+        ensures { result ≡ [] }
+    {
+        EntryLines {
+            lines: Some(Vec::new(alloc)),
+            entries: EntryCount::new(),
+        }
+    }
+
+    // Returns the lines. Fails if an allocation failed.
+    fn into_lines(self) -> Result<Vec<u8>, NoMemory>
+        ensures { IfOk result (λ lines. AreEntryLines self lines.items) }
+    {
+        self.lines.ok_or(NoMemory)
+    }
+}
+
+impl EntrySink for EntryLines {
+    ghost entries = { λ e. e };
+
+    ghost has_room = { λ _. Unit {0} };
+
+    fn count(&self) -> usize {
+        self.entries.count()
+    }
+
+    fn make_room(&mut self) -> Result<(), NoMemory> {
+        match self.lines {
+            Some(_) => Ok(()),
+            None => Err(NoMemory),
+        }
+    }
+
+    fn add(&mut self, process: Process, command: &mut Command, reply: &mut Reply) {
+        if let Some(lines) = &mut self.lines {
+            if add_entry_line(lines, process, command, reply).is_err() {
+                self.lines = None;
+            }
+        }
+        self.entries.add(process, command, reply);
+    }
+}
 
 /// Reads programs from `feed`, and runs them on `workers` workers, 1 to 64. Writes the transcript of the run to `sink`,
 /// in the version of the programs. With `fronts` it writes, in place of the transcript, a front for each program: the
@@ -40,7 +105,7 @@ pub fn run_text<R: Threads + Wait + Sync, F: Feed, S: Sink, G: Gate + Sync>(
         (S.failures sink.new) result }
 {
     let input = read_all(alloc, feed)?;
-    let output = text_of_run(rt, alloc, input, workers, fronts, gate)?;
+    let output = text_of_run(rt, alloc, input.as_slice(), workers, fronts, gate)?;
     write_all(sink, output.as_slice())
 }
 
@@ -62,31 +127,14 @@ pub fn run_explained<R: Threads + Wait + Sync, F: Feed, S: Sink, G: Gate + Sync>
         (S.failures sink.new) result }
 {
     let input = read_all(alloc, feed)?;
-    match run_of(rt, alloc, input.as_slice(), workers, fronts, gate) {
+    match text_of_run(rt, alloc, input.as_slice(), workers, fronts, gate) {
         Ok(output) => Ok(write_all(sink, output.as_slice())?),
         Err(fault) => Err(Refusal::kept_for(fault, input)),
     }
 }
 
-// Runs the programs that the input spells. Returns the transcript, made in the memory of the input; or, if `fronts` is
-// set, frees the input and returns the text of the fronts.
-fn text_of_run<R: Threads + Wait + Sync, G: Gate + Sync>(
-    rt: &R,
-    alloc: Global,
-    input: Vec<u8>,
-    workers: usize,
-    fronts: bool,
-    gate: &G,
-) -> Result<Vec<u8>, MainFault>
-    requires { (1 ≤ workers) × (workers ≤ MAX_WORKERS) }
-    ensures { Answers (running fronts workers) input.items (items_of result) }
-{
-    let programs = read_programs(alloc, input.as_slice())?;
-    Ok(text_of_programs(rt, alloc, input, programs, workers, fronts, gate)?)
-}
-
 // Runs the programs that the input spells. Returns the transcript, or the text of the fronts if `fronts` is set.
-fn run_of<R: Threads + Wait + Sync, G: Gate + Sync>(
+fn text_of_run<R: Threads + Wait + Sync, G: Gate + Sync>(
     rt: &R,
     alloc: Global,
     input: &[u8],
@@ -98,16 +146,13 @@ fn run_of<R: Threads + Wait + Sync, G: Gate + Sync>(
     ensures { Answers (running fronts workers) input.now (items_of result) }
 {
     let programs = read_programs(alloc, input)?;
-    let room = Vec::new(alloc);
-    Ok(text_of_programs(rt, alloc, room, programs, workers, fronts, gate)?)
+    Ok(text_of_programs(rt, alloc, programs, workers, fronts, gate)?)
 }
 
-// Runs the programs. Returns the transcript, made in the memory of `room`, whose bytes are discarded; or, if `fronts`
-// is set, frees `room` and returns the text of the fronts.
+// Runs the programs. Returns the transcript, or the text of the fronts if `fronts` is set.
 fn text_of_programs<R: Threads + Wait + Sync, G: Gate + Sync>(
     rt: &R,
     alloc: Global,
-    room: Vec<u8>,
     programs: Programs,
     workers: usize,
     fronts: bool,
@@ -118,18 +163,16 @@ fn text_of_programs<R: Threads + Wait + Sync, G: Gate + Sync>(
     ensures refused { IfErr result (IsRefusedFor workers programs) }
 {
     if fronts {
-        drop(room);
         return fronts_of_run(rt, alloc, programs, workers, gate);
     }
-    transcript_of_run(rt, alloc, room, programs, workers, gate)
+    transcript_of_run(rt, alloc, programs, workers, gate)
 }
 
-// Runs the programs. Returns the transcript in their version, made in the memory of `room`, whose bytes are discarded.
-// The line of each entry is written when the entry is made, and no entry is kept.
+// Runs the programs. Returns the transcript in their version. The line of each entry is written when the entry is made,
+// and no entry is kept.
 fn transcript_of_run<R: Threads + Wait + Sync, G: Gate + Sync>(
     rt: &R,
     alloc: Global,
-    room: Vec<u8>,
     programs: Programs,
     workers: usize,
     gate: &G,
@@ -139,7 +182,7 @@ fn transcript_of_run<R: Threads + Wait + Sync, G: Gate + Sync>(
     ensures refused { IfErr result (IsRefusedFor workers programs) }
 {
     let version = programs.version();
-    let (system, _fronts) = run_system(rt, alloc, programs, EntryLines::new(room), workers, gate)?;
+    let (system, _fronts) = run_system(rt, alloc, programs, EntryLines::new(alloc), workers, gate)?;
     let (lines, config) = system.into_parts();
     let drivers = DriverSpec::copies(alloc, config.drivers())?;
     let view = config.into_view()?;

@@ -13,7 +13,7 @@ mod system;
 mod turn_table;
 
 pub use door::Door;
-pub use entry_sink::{EntryCount, EntrySink, GhostValue};
+pub use entry_sink::{EntryCount, EntrySink};
 pub use front::{Front, Fronts};
 pub use shared::{Hold, Seat, Shared};
 pub use shared_fault::{ApplyFault, CloseFault, TryFault};
