@@ -50,7 +50,7 @@ fn text_of_replay(alloc: Global, input: &[u8], at: Option<usize>) -> Result<Vec<
 {
     let transcript = read_transcript(alloc, input)?;
     let part = asked_part(transcript, at)?;
-    let text = replay(alloc, part, Vec::new(alloc))?;
+    let text = replay(alloc, part)?;
     Ok(text)
 }
 
@@ -100,7 +100,7 @@ fn text_of_trace(alloc: Global, input: &[u8], each: bool) -> Result<Vec<u8>, Mai
     ensures { Answers (tracing each) input.now (items_of result) }
 {
     let transcript = read_transcript(alloc, input)?;
-    Ok(trace(alloc, transcript, each, Vec::new(alloc))?)
+    Ok(trace(alloc, transcript, each)?)
 }
 
 /// Reads a transcript from `feed`, legal or not, and writes to `sink`, in this form, a picture of the configuration

@@ -109,7 +109,7 @@ impl Session {
     pub fn opening(&self, alloc: Global) -> Result<Vec<u8>, NoMemory>
         ensures { IfOk result (λ v. BeginsTranscript self.now.version self.now.drivers [] v.items) }
     {
-        transcript_opening(Vec::new(alloc), self.version(), self.drivers())
+        transcript_opening(alloc, self.version(), self.drivers())
     }
 
     /// Returns the line of the last entry, with its line feed. Fails if there is no entry yet, or if it is out of

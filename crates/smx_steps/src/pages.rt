@@ -71,7 +71,7 @@ pub fn page(alloc: Global, transcript: Transcript) -> Result<Vec<u8>, PageFault>
     }
     let drivers = transcript.drivers.as_slice();
     let mut config = Config::new(alloc, drivers)?;
-    let opening = transcript_opening(Vec::new(alloc), transcript.version, drivers)?;
+    let opening = transcript_opening(alloc, transcript.version, drivers)?;
     let mut out = Vec::new(alloc);
     put(&mut out, HEAD)?;
     let view = write_beginning(alloc, &config, opening.as_slice(), &mut out)?;

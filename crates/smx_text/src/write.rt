@@ -104,17 +104,15 @@ pub fn finish_transcript(
     Ok(text)
 }
 
-/// Writes the opening of a transcript: its header and a line for each driver. Discards the bytes of `room`, and writes
-/// into its allocation. Fails only if out of memory.
+/// Writes the opening of a transcript: its header and a line for each driver. Fails only if out of memory.
 pub fn transcript_opening(
-    room: Vec<u8>,
+    alloc: Global,
     version: Version,
     drivers: &[DriverSpec],
 ) -> Result<Vec<u8>, NoMemory>
     ensures { IfOk result (λ v. BeginsTranscript version drivers.now [] v.items) }
 {
-    let mut text = room;
-    text.clear();
+    let mut text = Vec::new(alloc);
     write_opening(&mut text, version, drivers)?;
     Ok(text)
 }

@@ -27,9 +27,8 @@ pub fn first_entries(transcript: Transcript, count: usize) -> Transcript
 
 /// Performs the commands of a transcript, each for its process, in order, starting with the empty configuration.
 /// Ignores the replies and the configuration that the transcript has. Returns the text of the transcript that results,
-/// in the same version. Reuses the memory of `room`, and discards its bytes. Fails if the drivers are not valid, or if
-/// it is out of memory.
-pub fn replay(alloc: Global, transcript: Transcript, room: Vec<u8>) -> Result<Vec<u8>, ConfigFault>
+/// in the same version. Fails if the drivers are not valid, or if it is out of memory.
+pub fn replay(alloc: Global, transcript: Transcript) -> Result<Vec<u8>, ConfigFault>
     ensures written { IfOk result (λ text. IsReplayText transcript text.items) }
     ensures refused { IfErr result (RefusesDrivers transcript.drivers) }
 {
@@ -41,18 +40,17 @@ pub fn replay(alloc: Global, transcript: Transcript, room: Vec<u8>) -> Result<Ve
     } = transcript;
     let drivers = drivers.as_slice();
     let mut config = Config::new(alloc, drivers)?;
-    let lines = perform_all(&mut config, entries, room)?;
+    let lines = perform_all(alloc, &mut config, entries)?;
     let view = config.into_view()?;
     Ok(finish_transcript(lines, version, drivers, &view)?)
 }
 
 // Performs the commands of all entries. Returns the lines of the entries, each with its new reply.
-fn perform_all(config: &mut Config, entries: Entries, room: Vec<u8>) -> Result<Vec<u8>, NoMemory>
+fn perform_all(alloc: Global, config: &mut Config, entries: Entries) -> Result<Vec<u8>, NoMemory>
     ensures { IfOk result (λ lines. (drivers : List AnyDriver) → HasCome drivers [] config.old []
         → HasCome drivers entries config.new lines.items) }
 {
-    let mut lines = room;
-    lines.clear();
+    let mut lines = Vec::new(alloc);
     for entry in entries.as_slice() {
         let reply = config.step(entry.process, &entry.command)?;
         add_entry_line(&mut lines, entry.process, &entry.command, &reply)?;

@@ -18,15 +18,9 @@ use std::alloc::Global;
 /// Performs the commands of a transcript as `replay` does. Returns the text of the transcript that results, with more
 /// lines, which are indented by two spaces. Below each entry are the lines of what it changed. If `each` is set, the
 /// `waits` lines of all queues come after these lines. In the configuration, the `waits` line of a queue comes after
-/// the lines of its messages. Reuses the memory of `room`, and discards its bytes. Keeps two views at a time. The time
-/// for an entry grows with the size of the views before and after it. Fails if the drivers are not valid, or if it is
-/// out of memory.
-pub fn trace(
-    alloc: Global,
-    transcript: Transcript,
-    each: bool,
-    room: Vec<u8>,
-) -> Result<Vec<u8>, ConfigFault>
+/// the lines of its messages. Keeps two views at a time. The time for an entry grows with the size of the views before
+/// and after it. Fails if the drivers are not valid, or if it is out of memory.
+pub fn trace(alloc: Global, transcript: Transcript, each: bool) -> Result<Vec<u8>, ConfigFault>
     ensures written { IfOk result (λ text. IsTraceText each transcript text.items) }
     ensures refused { IfErr result (RefusesDrivers transcript.drivers) }
 {
@@ -38,7 +32,7 @@ pub fn trace(
     } = transcript;
     let drivers = drivers.as_slice();
     let mut config = Config::new(alloc, drivers)?;
-    let mut text = transcript_opening(room, version, drivers)?;
+    let mut text = transcript_opening(alloc, version, drivers)?;
     let view = trace_all(alloc, &mut config, entries, each, &mut text)?;
     write_configuration(&mut text, &config, &view)?;
     put(&mut text, b"end\n")?;
