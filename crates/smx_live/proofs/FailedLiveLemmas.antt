@@ -1,4 +1,4 @@
--- What a session has done if a read fails, or if a line is too long.
+-- How far a session has come if a read fails, or if a line is too long.
 use Rattle.smx_live.proofs.Common.{◌≡◌, ℕ, Bool, false, List, [], ◌∷◌, ◌++◌, ◌<◌, length, refl, sym, ap, subst}
 use Rattle.smx_live.proofs.Common.{◌∙◌, inl, inr, arith, rules, length-append, not_one, codes, ProgramLists, V2}
 use Rattle.smx_live.proofs.Common.{LINE_FEED, line_of, Spells, programs_grammar, HasOneReading, one_value, IsOneLine}

@@ -29,7 +29,7 @@ worked_turns explain =
 abbrev pub worked_input : List ℕ
 worked_input = codes "programs 2\ndriver eth leaf 2 8 3 16\n3 clone eth\n\nx\nend\n3 exit\n"
 
--- the first line behind the table
+-- the first line after the table
 abbrev pub worked_line : List ℕ
 worked_line = codes "3 clone eth\n"
 

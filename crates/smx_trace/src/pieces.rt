@@ -43,7 +43,7 @@ pub fn put_place_words(
     }
 }
 
-/// Returns the name of the driver with this number, or nothing if there is none.
+/// Returns the name of the driver with this number, or no bytes if no driver has it.
 pub fn name_of(drivers: &[DriverSpec], driver: u8) -> &[u8]
     ensures { result.now ≡ name_of drivers.now driver }
 {
