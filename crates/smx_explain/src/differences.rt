@@ -22,7 +22,7 @@ pub fn explain(alloc: Global, text: &[u8], transcript: Transcript) -> Result<Vec
     ensures told { IfOk result (λ told. IsExplanation transcript told.items) }
     ensures refused { IfErr result (RefusesDrivers transcript.drivers) }
 {
-    let replayed = replay(alloc, transcript, Vec::new(alloc))?;
+    let replayed = replay(alloc, transcript)?;
     match first_difference(text, replayed.as_slice()) {
         Some((number, told, has)) => Ok(difference_text(alloc, number, told, has)?),
         None => Ok(Vec::new(alloc)),

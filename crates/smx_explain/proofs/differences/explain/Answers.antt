@@ -13,4 +13,4 @@ returns-clause-told c =
     let alike = subst (λ other. AreAlike text other) c.as_slice.ensures.value c.in-None.ensures in
     reports_nothing c.args.transcript text c.in_ok-replayed.replayed.items c.requires c.in_ok-replayed.ensures.written
     (one_reading_of_all transcript_grammar versions) (can_be_expressed quiet_replies quiet_streams) _ alike
-    c.new-in-None.ensures.items
+    c.new.ensures.items
