@@ -41,25 +41,27 @@ pub enum EntryFault {
     NoEntry,
 }
 
-/// Returns out-of-memory as `NoMemory`, and every other fault of a text unchanged.
-pub(crate) fn of_text(fault: TextFault) -> StartFault
-    ensures { ((result ≡ memory) × (fault.cause ≡ cause.NoMemory))
-        ⊎ ((result ≡ Text fault) × (fault.cause ≢ cause.NoMemory)) }
-{
-    match fault.cause {
-        Cause::NoMemory => StartFault::NoMemory,
-        _ => StartFault::Text(fault),
+impl From<TextFault> for StartFault {
+    ghost from_gives = { λ fault f. ((f ≡ memory) × (fault.cause ≡ cause.NoMemory))
+        ⊎ ((f ≡ Text fault) × (fault.cause ≢ cause.NoMemory)) };
+
+    fn from(fault: TextFault) -> StartFault {
+        match fault.cause {
+            Cause::NoMemory => StartFault::NoMemory,
+            _ => StartFault::Text(fault),
+        }
     }
 }
 
-/// Returns out-of-memory as `NoMemory`, and every other fault of drivers unchanged.
-pub(crate) fn of_drivers(fault: ConfigFault) -> StartFault
-    ensures { ((result ≡ memory) × (fault ≡ config.NoMemory))
-        ⊎ ((result ≡ Drivers fault) × (fault ≢ config.NoMemory)) }
-{
-    match fault {
-        ConfigFault::NoMemory => StartFault::NoMemory,
-        _ => StartFault::Drivers(fault),
+impl From<ConfigFault> for StartFault {
+    ghost from_gives = { λ fault f. ((f ≡ memory) × (fault ≡ config.NoMemory))
+        ⊎ ((f ≡ Drivers fault) × (fault ≢ config.NoMemory)) };
+
+    fn from(fault: ConfigFault) -> StartFault {
+        match fault {
+            ConfigFault::NoMemory => StartFault::NoMemory,
+            _ => StartFault::Drivers(fault),
+        }
     }
 }
 

@@ -11,7 +11,7 @@ ghost use Rattle.smx_session.specs.Sessions.{HasNoLine, IsLastLine, IsNotPerform
 ghost use Rattle.smx_session.specs.Sessions.{shown_lines};
 ghost use Rattle.smx_session.specs.declared.faults.EntryFault.TheVariants.{NoEntry};
 
-use crate::faults::{EntryFault, LineFault, StartFault, of_drivers, of_text};
+use crate::faults::{EntryFault, LineFault, StartFault};
 use smx_config::Config;
 use smx_text::{read_programs, transcript_opening, write_view};
 use smx_types::{ConfigView, DriverSpec, Entry, NoMemory, Version};
@@ -46,18 +46,13 @@ impl Session {
     pub fn new(alloc: Global, programs: &[u8]) -> Result<Session, StartFault>
         ensures { StartsAs programs.now result }
     {
-        let programs = match read_programs(alloc, programs) {
-            Ok(programs) => programs,
-            Err(fault) => return Err(of_text(fault)),
-        };
-        match Config::new(alloc, programs.drivers()) {
-            Ok(config) => Ok(Session {
-                version: programs.version(),
-                config,
-                last: None,
-            }),
-            Err(fault) => Err(of_drivers(fault)),
-        }
+        let programs = read_programs(alloc, programs)?;
+        let config = Config::new(alloc, programs.drivers())?;
+        Ok(Session {
+            version: programs.version(),
+            config,
+            last: None,
+        })
     }
 
     /// Performs the command of a line, and keeps the entry: the process, the command and the reply. The line is
