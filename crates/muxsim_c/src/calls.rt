@@ -19,16 +19,12 @@ pub fn open(alloc: Global, handle: &mut Handle, programs: &[u8]) -> Result<(), C
         put(handle, session);
         return Err(CallFault::IsOpen);
     }
-    match Session::new(alloc, programs) {
-        Ok(session) => match Box::new(alloc, session) {
-            Ok(session) => {
-                put(handle, session);
-                Ok(())
-            }
-            Err(_) => Err(CallFault::NoMemory),
-        },
-        Err(fault) => Err(CallFault::from(fault)),
-    }
+    let session = Session::new(alloc, programs)?;
+    let Ok(session) = Box::new(alloc, session) else {
+        return Err(CallFault::NoMemory);
+    };
+    put(handle, session);
+    Ok(())
 }
 
 /// Performs the command of a line.
@@ -115,10 +111,10 @@ fn reason(alloc: Global, programs: &[u8]) -> Result<String, CallFault>
         Err(StartFault::NoMemory) => return Err(CallFault::NoMemory),
         Err(fault) => fault,
     };
-    match printed(alloc, fault) {
-        Ok(words) => Ok(words),
-        Err(_) => Err(CallFault::NoMemory),
-    }
+    let Ok(words) = printed(alloc, fault) else {
+        return Err(CallFault::NoMemory);
+    };
+    Ok(words)
 }
 
 // Returns the words that a fault prints.
