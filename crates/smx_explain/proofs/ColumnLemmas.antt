@@ -2,9 +2,9 @@
 use Rattle.smx_explain.proofs.Common.{◌≡◌, ℕ, ◌+◌, List, [], ◌∷◌, ◌++◌, length, Option, Some, None, refl, sym, ap}
 use Rattle.smx_explain.proofs.Common.{subst, ◌∙◌, append_assoc, arith, inl, inr, Bor, AllByRecursion, Version, IsFree}
 use Rattle.smx_explain.proofs.Common.{SPACE, IsLine, IsColumn, IsWhole, LeadTo, first_choice, spaced, GoesOn, Choice}
-use Rattle.smx_explain.proofs.Common.{LineKind, Value, Wanted, LineColumn}
+use Rattle.smx_explain.proofs.Common.{LineKind, Value, Wanted}
 use Rattle.std.proofs.Common.{append-nil}
-use Rattle.std.specs.Prelude.{◌↔◌, MatchOption}
+use Rattle.std.specs.Prelude.{◌↔◌}
 use Rattle.std.proofs.lemmas.Bool.{cases_eq}
 use Rattle.std.proofs.lemmas.List.{length-append}
 use Rattle.smx_explain.specs.Columns.{Begins, EndsThere, IsWanted, Stops, left_of, wanted_of}
@@ -227,12 +227,3 @@ module _ {kind : LineKind} {version : Version} {line : List ℕ} {column : ℕ} 
   pub ends_here : rest ≡ None → (EndsThere (wanted_of values next) → ⊥)
       → IsColumn kind version line (record { column = column; wanted = wanted_of values next })
   ends_here is stops = column_here [] tt (ap left_of is) (λ whole. stops (ends_there.0 whole))
-
-  -- if nothing is left, the line is valid or the column is that of its end, as the code decides
-  pub at_end : rest ≡ None → (o : Option LineColumn)
-      → MatchOption o (EndsThere (wanted_of values next)) (λ at. (EndsThere (wanted_of values next) → ⊥)
-      × (at ≡ record { column = column; wanted = wanted_of values next }))
-      → MatchOption o (IsWhole kind version line) (λ at. IsColumn kind version line at)
-  at_end is None ends = whole_here is ends
-  at_end is (Some at) (stops, same) =
-      subst (λ (p : LineColumn). IsColumn kind version line p) (sym same) (ends_here is stops)

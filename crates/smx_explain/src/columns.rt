@@ -3,10 +3,10 @@
 ghost use Rattle.std.specs.Prelude.{◌≡◌, ℕ, List, ◌∷◌, ◌++◌, [], MatchOption, Some};
 ghost use Rattle.smx_words.specs.Words.{IsFree, SPACE};
 ghost use Rattle.smx_explain.specs.ColumnWords.{column_words, space_words};
-ghost use Rattle.smx_explain.specs.Columns.{EndsThere, IsColumn, IsPartAt, IsWhole, first_choice, left_of, wanted_of};
+ghost use Rattle.smx_explain.specs.Columns.{IsColumn, IsPartAt, IsWhole, first_choice, left_of};
 
 use crate::kinds::{Choice, LineKind, Wanted};
-use crate::rows::{FoundRow, go_on, may_end};
+use crate::rows::{FoundRow, go_on};
 use memchr::memchr;
 use smx_types::Version;
 use std::fmt;
@@ -56,14 +56,19 @@ pub fn column_of(kind: LineKind, version: Version, line: &[u8]) -> Option<LineCo
     let mut column = 1usize;
     'words: while let Some(text) = rest {
         let (word, behind) = first_word(text);
-        let Some(next) = go_on(version, row.values, row.next, word) else {
-            return Some(stopped(column, row));
+        let Some(next) = go_on(version, row, word) else {
+            let wanted = row.wanted();
+            return Some(LineColumn { column, wanted });
         };
         row = next;
         rest = behind;
         column += word.len() + 1;
     }
-    ended(column, row)
+    let wanted = row.wanted();
+    if wanted.may_end() {
+        return None;
+    }
+    Some(LineColumn { column, wanted })
 }
 
 /// Returns the word that begins at this column of a line. Columns are counted from 1. The word is empty if the line
@@ -98,27 +103,4 @@ fn first_word(text: &[u8]) -> (&[u8], Option<&[u8]>)
         Some(at) => (&text[..at], Some(&text[at + 1..])),
         None => (text, None),
     }
-}
-
-// Returns this column, together with what `row` says is expected there.
-fn stopped(column: usize, row: FoundRow) -> LineColumn
-    ensures { result ≡ record { column = column; wanted = wanted_of row.values.now row.next } }
-{
-    let wanted = match row.values {
-        [] => Wanted::Choice(row.next),
-        [value, ..] => Wanted::Value(*value),
-    };
-    LineColumn { column, wanted }
-}
-
-// Returns the column of the end of the line, unless the line may end there.
-fn ended(column: usize, row: FoundRow) -> Option<LineColumn>
-    ensures { MatchOption result (EndsThere (wanted_of row.values.now row.next))
-        (λ at. (EndsThere (wanted_of row.values.now row.next) → ⊥)
-        × (at ≡ record { column = column; wanted = wanted_of row.values.now row.next })) }
-{
-    if row.values.is_empty() && may_end(row.next) {
-        return None;
-    }
-    Some(stopped(column, row))
 }

@@ -1,9 +1,8 @@
 //! Explains why a text is malformed, and why a session can't read a line.
 
-ghost use Rattle.std.specs.Prelude.{◌≡◌, ◌⊎◌, IfOk, MatchBool, MatchOption, string_bytes};
+ghost use Rattle.std.specs.Prelude.{◌≡◌, IfOk, MatchBool, string_bytes};
 ghost use Rattle.smx_explain.specs.ColumnWords.{IsExplanationOf, explanation_text};
 ghost use Rattle.smx_explain.specs.Hints.{IsHeader};
-ghost use Rattle.smx_explain.specs.declared.kinds.TextKind.TheVariants as header;
 
 use crate::columns::{ColumnWords, LineColumn, column_of, word_at};
 use crate::hints::{Hint, hint_of};
@@ -94,35 +93,28 @@ fn write_hint<W: fmt::Write>(
 
 // Returns what is wrong with a first line that is the header of the other kind of text, or no header.
 fn header_reason(kind: TextKind, line: &[u8]) -> &'static str {
-    match (kind, kind_of(line)) {
-        (TextKind::Programs, Some(TextKind::Transcript)) => {
+    match kind {
+        TextKind::Programs if is_header(TextKind::Transcript, line) => {
             "this is a transcript, for 'muxsim check', 'muxsim replay' or 'muxsim draw'"
         }
-        (TextKind::Transcript, Some(TextKind::Programs)) => "these are programs, for 'muxsim run'",
-        (TextKind::Programs, _) => "the first line has to be 'programs 1' or 'programs 2'",
-        (TextKind::Transcript, _) => "the first line has to be 'transcript 1' or 'transcript 2'",
+        TextKind::Transcript if is_header(TextKind::Programs, line) => {
+            "these are programs, for 'muxsim run'"
+        }
+        TextKind::Programs => "the first line has to be 'programs 1' or 'programs 2'",
+        TextKind::Transcript => "the first line has to be 'transcript 1' or 'transcript 2'",
     }
 }
 
-// Returns the kind of text whose header this line is, if it is a header.
-fn kind_of(line: &[u8]) -> Option<TextKind>
-    ensures { MatchOption result ((IsHeader header.Programs line.now → ⊥) × (IsHeader header.Transcript line.now → ⊥))
-        (λ kind. IsHeader kind line.now) }
+// Returns whether this line is the header of a text of this kind.
+fn is_header(kind: TextKind, line: &[u8]) -> bool
+    ensures { MatchBool result (IsHeader kind line.now) (IsHeader kind line.now → ⊥) }
 {
-    if is_one_of(line, "programs 1", "programs 2") {
-        Some(TextKind::Programs)
-    } else if is_one_of(line, "transcript 1", "transcript 2") {
-        Some(TextKind::Transcript)
-    } else {
-        None
+    match kind {
+        TextKind::Programs => line == "programs 1".as_bytes() || line == "programs 2".as_bytes(),
+        TextKind::Transcript => {
+            line == "transcript 1".as_bytes() || line == "transcript 2".as_bytes()
+        }
     }
-}
-
-fn is_one_of(line: &[u8], one: &str, other: &str) -> bool
-    ensures { MatchBool result ((line.now ≡ one.now) ⊎ (line.now ≡ other.now))
-        ((line.now ≡ one.now) ⊎ (line.now ≡ other.now) → ⊥) }
-{
-    line == one.as_bytes() || line == other.as_bytes()
 }
 
 // If a malformed line looks like one of a session's output or of a trace, returns what to leave out of this output.

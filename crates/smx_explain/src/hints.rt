@@ -1,14 +1,13 @@
 //! A hint on a word that is not valid in its column.
 
 ghost use Rattle.std.specs.List.{list_all, list_any};
-ghost use Rattle.std.specs.Prelude.{◌≡◌, ◌⊎◌, MatchBool, MatchOption, None, Some};
+ghost use Rattle.std.specs.Prelude.{◌≡◌, MatchBool, MatchOption, None, Some};
 ghost use Rattle.smx_explain.specs.Hints.{IsHintOn, IsLater, are_exchanged, first_near, hint_words, is_any_digit};
 ghost use Rattle.smx_explain.specs.Hints.{is_capital_digit, is_capital_hex, is_near, meant};
-ghost use Rattle.smx_explain.specs.Rows.{rows_in, rows_of};
-ghost use Rattle.smx_explain.specs.declared.kinds.Choice.TheVariants.{ProgramsLine, SessionCommand};
+ghost use Rattle.smx_explain.specs.Rows.{rows_of};
 
 use crate::kinds::{Choice, Value, Wanted};
-use crate::rows::go_on;
+use crate::rows::chosen;
 use crate::tables::{Row, rows_in};
 use smx_types::Version;
 use std::fmt;
@@ -56,7 +55,7 @@ fn is_of_later_version(version: Version, wanted: Wanted, word: &[u8]) -> bool
     ensures { MatchBool result (IsLater version wanted word.now) (IsLater version wanted word.now → ⊥) }
 {
     match (version, wanted) {
-        (Version::V1, Wanted::Choice(choice)) => go_on(Version::V2, &[], choice, word).is_some(),
+        (Version::V1, Wanted::Choice(choice)) => chosen(Version::V2, choice, word).is_some(),
         (Version::V1, Wanted::Value(_)) | (Version::V2, _) => false,
     }
 }
@@ -105,27 +104,15 @@ fn near_word(version: Version, choice: Choice, word: &[u8]) -> Option<&'static s
     if word.is_empty() {
         return None;
     }
-    match near_fixed(version, choice, word) {
-        Some(verb) => Some(verb),
-        None if may_be_command(choice) => near_fixed(version, Choice::Command, word),
-        None => None,
+    if let Some(verb) = near_row(rows_in(version, choice), word) {
+        return Some(verb);
     }
-}
-
-// Returns whether a word of this choice may begin a command without a reply, as in programs and in sessions.
-fn may_be_command(choice: Choice) -> bool
-    ensures { MatchBool result ((choice ≡ ProgramsLine) ⊎ (choice ≡ SessionCommand))
-        ((choice ≡ ProgramsLine) ⊎ (choice ≡ SessionCommand) → ⊥) }
-{
-    choice == Choice::ProgramsLine || choice == Choice::SessionCommand
-}
-
-// Returns the first fixed word of a choice that can be made from `word` by at most one edit.
-fn near_fixed(version: Version, choice: Choice, word: &[u8]) -> Option<&'static str>
-    ensures { MatchOption result (first_near (rows_in version choice) word.now ≡ None)
-        (λ verb. first_near (rows_in version choice) word.now ≡ Some verb.now) }
-{
-    near_row(rows_in(version, choice), word)
+    match choice {
+        Choice::ProgramsLine | Choice::SessionCommand => {
+            near_row(rows_in(version, Choice::Command), word)
+        }
+        _ => None,
+    }
 }
 
 // Returns the first word of some rows that can be made from `word` by at most one edit.

@@ -1,6 +1,7 @@
 //! The kinds of words that a line can have, and how each is described.
 
-ghost use Rattle.std.specs.Prelude.{◌≡◌, Some};
+ghost use Rattle.std.specs.Prelude.{◌≡◌, MatchBool, Some};
+ghost use Rattle.smx_explain.specs.Columns.{EndsThere};
 ghost use Rattle.smx_explain.specs.WantedWords.{choice_words, value_words, wanted_words};
 
 use std::fmt;
@@ -128,6 +129,15 @@ impl Choice {
             Choice::Serials => "a number from 0 to 4294967295, or the end of the line",
             Choice::End => "the end of the line",
         }
+    }
+}
+
+impl Wanted {
+    /// Returns whether a line may end where this kind of word is expected.
+    pub fn may_end(self) -> bool
+        ensures { MatchBool result (EndsThere self) (EndsThere self → ⊥) }
+    {
+        matches!(self, Wanted::Choice(Choice::Serials | Choice::End))
     }
 }
 

@@ -1,23 +1,36 @@
 //! How a line goes on after each word.
 
-ghost use Rattle.std.specs.Prelude.{◌≡◌, MatchBool, MatchOption, List, []};
-ghost use Rattle.smx_explain.specs.Rows.{GoesOn, IsChosen, IsFixed, IsNoRow, IsOther, IsRow, IsValue, MayEnd};
-ghost use Rattle.smx_explain.specs.Rows.{rows_in, rows_of};
+ghost use Rattle.std.specs.Prelude.{◌≡◌, MatchBool, MatchOption, List};
+ghost use Rattle.smx_explain.specs.Columns.{wanted_of};
+ghost use Rattle.smx_explain.specs.Rows.{GoesOn, IsChosen, IsFixed, IsNoRow, IsOther, IsRow, IsValue, rows_of};
 ghost use Rattle.smx_explain.specs.declared.kinds.Choice.{Choice as AnyChoice};
 ghost use Rattle.smx_explain.specs.declared.kinds.Value.{Value as AnyValue};
 
-use crate::kinds::{Choice, Value};
+use crate::kinds::{Choice, Value, Wanted};
 use crate::tables::{Row, rows_in};
 use smx_types::{MAX_PROCESSES, Version};
 use smx_words::{driver_kind, link_kind, name, number, side, sides, spells_bytes, which};
 
-// How a line goes on: with words for these values, and then with a word of a choice.
+/// How a line goes on: with words for these values, and then with a word of a choice.
 #[derive(Clone, Copy)]
 pub struct FoundRow {
     pub values: &'static [Value],
     pub next: Choice,
 }
 
+impl FoundRow {
+    /// Returns what the next word has to be.
+    pub fn wanted(self) -> Wanted
+        ensures { result ≡ wanted_of self.values.now self.next }
+    {
+        match self.values {
+            [] => Wanted::Choice(self.next),
+            [value, ..] => Wanted::Value(*value),
+        }
+    }
+}
+
+// Returns how a line goes on after a fixed word.
 fn find(rows: &'static [Row], word: &[u8]) -> Option<FoundRow>
     ensures { MatchOption result (IsNoRow (rows_of rows.now) word.now)
         (λ row. IsRow (rows_of rows.now) word.now row.values.now row.next) }
@@ -32,14 +45,6 @@ fn find(rows: &'static [Row], word: &[u8]) -> Option<FoundRow>
         return find(more, word);
     }
     None
-}
-
-// Returns how a line goes on after a fixed word.
-fn fixed(version: Version, choice: Choice, word: &[u8]) -> Option<FoundRow>
-    ensures { MatchOption result (IsNoRow (rows_in version choice) word.now)
-        (λ row. IsFixed version choice word.now row.values.now row.next) }
-{
-    find(rows_in(version, choice), word)
 }
 
 fn is_value(value: Value, word: &[u8]) -> bool
@@ -67,13 +72,13 @@ fn is_process(word: &[u8]) -> bool
     }
 }
 
-// If the word gives a value of this kind, returns that the line goes on with the choice `next`.
-fn then(value: Value, word: &[u8], next: Choice) -> Option<FoundRow>
+// If the word gives a value of this kind, returns that the line goes on with `values` and then with the choice `next`.
+fn then(value: Value, word: &[u8], values: &'static [Value], next: Choice) -> Option<FoundRow>
     ensures { MatchOption result (IsValue value word.now → ⊥)
-        (λ row. IsValue value word.now × (row.values.now ≡ []) × (row.next ≡ next)) }
+        (λ row. IsValue value word.now × (row.values.now ≡ values.now) × (row.next ≡ next)) }
 {
     if is_value(value, word) {
-        return Some(FoundRow { values: &[], next });
+        return Some(FoundRow { values, next });
     }
     None
 }
@@ -86,9 +91,9 @@ fn other(version: Version, choice: Choice, word: &[u8]) -> Option<FoundRow>
 {
     match choice {
         Choice::ProgramsLine | Choice::SessionCommand => command(version, word),
-        Choice::TranscriptLine => then(Value::Process, word, Choice::Command),
-        Choice::SessionLine => then(Value::Process, word, Choice::SessionCommand),
-        Choice::Serials => then(Value::Number, word, Choice::Serials),
+        Choice::TranscriptLine => then(Value::Process, word, &[], Choice::Command),
+        Choice::SessionLine => then(Value::Process, word, &[], Choice::SessionCommand),
+        Choice::Serials => then(Value::Number, word, &[], Choice::Serials),
         _ => None,
     }
 }
@@ -101,53 +106,33 @@ fn command(version: Version, word: &[u8]) -> Option<FoundRow>
         (λ row. IsFixed version AnyChoice.Command word.now row.values.now AnyChoice.Equals
         × (row.next ≡ AnyChoice.End)) }
 {
-    match fixed(version, Choice::Command, word) {
-        Some(FoundRow { values, .. }) => Some(FoundRow {
-            values,
-            next: Choice::End,
-        }),
-        None => None,
-    }
+    let row = find(rows_in(version, Choice::Command), word)?;
+    Some(FoundRow {
+        values: row.values,
+        next: Choice::End,
+    })
 }
 
-// Returns how a line goes on after a word of this choice.
-fn chosen(version: Version, choice: Choice, word: &[u8]) -> Option<FoundRow>
+/// Returns how a line goes on after a word of this choice, or `None` if the word is not one of this choice.
+pub fn chosen(version: Version, choice: Choice, word: &[u8]) -> Option<FoundRow>
     ensures { MatchOption result
         ((values : List AnyValue) (next : AnyChoice) → IsChosen version choice word.now values next → ⊥)
         (λ row. IsChosen version choice word.now row.values.now row.next) }
 {
-    match fixed(version, choice, word) {
+    match find(rows_in(version, choice), word) {
         Some(row) => Some(row),
         None => other(version, choice, word),
     }
 }
 
-/// Returns how a line goes on after a word, or `None` if the word was not expected. `values` and `next` say what was
-/// expected: words for these values, and then a word of this choice.
-pub fn go_on(
-    version: Version,
-    values: &'static [Value],
-    next: Choice,
-    word: &[u8],
-) -> Option<FoundRow>
+/// Returns how a line goes on after a word, or `None` if the word was not expected. `row` says what was expected.
+pub fn go_on(version: Version, row: FoundRow, word: &[u8]) -> Option<FoundRow>
     ensures { MatchOption result
-        ((more : List AnyValue) (then : AnyChoice) → GoesOn version values.now next word.now more then → ⊥)
-        (λ row. GoesOn version values.now next word.now row.values.now row.next) }
+        ((more : List AnyValue) (then : AnyChoice) → GoesOn version row.values.now row.next word.now more then → ⊥)
+        (λ found. GoesOn version row.values.now row.next word.now found.values.now found.next) }
 {
-    match values {
-        [] => chosen(version, next, word),
-        [value, more @ ..] => {
-            if is_value(*value, word) {
-                return Some(FoundRow { values: more, next });
-            }
-            None
-        }
+    match row.values {
+        [] => chosen(version, row.next, word),
+        [value, more @ ..] => then(*value, word, more, row.next),
     }
-}
-
-/// Returns whether a line may end where a word of this choice could come.
-pub fn may_end(choice: Choice) -> bool
-    ensures { MatchBool result (MayEnd choice) (MayEnd choice → ⊥) }
-{
-    matches!(choice, Choice::Serials | Choice::End)
 }

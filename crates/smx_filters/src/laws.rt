@@ -38,9 +38,7 @@ ghost use Rattle.smx_filters.specs.StepsText.{RefusesSteps, stepping};
 ghost use Rattle.smx_filters.specs.TraceText.{tracing};
 
 use smx_config::laws::{reports_are_judged_legal, there_is_one_verdict};
-use smx_explain::laws_of_explanations::{
-    a_legal_transcript_needs_none, a_transcript_has_one_explanation,
-};
+use smx_explain::laws::{a_legal_transcript_needs_none, a_transcript_has_one_explanation};
 use smx_text::laws::{one_text_has_one_reading, one_transcript_has_one_reading};
 use smx_trace::laws::{
     a_transcript_has_one_replay, a_transcript_has_one_trace, replays_are_the_legal_transcripts,

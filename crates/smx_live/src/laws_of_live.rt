@@ -36,7 +36,7 @@ ghost use Rattle.smx_live.specs.declared.talk.TurnFault.{TurnFault};
 ghost use Rattle.smx_live.specs.declared.talk.TurnFault.TheVariants.{NoCommand, NoMemory, Full};
 
 use smx_config::laws::drivers_have_one_fault;
-use smx_explain::laws_of_columns::{a_line_has_one_explanation, worked_explanations};
+use smx_explain::laws::{a_line_has_one_explanation, worked_explanations};
 use smx_model::laws::{one_entry_more, without_a_hangup_none_is_reported};
 use smx_session::laws_of_sessions::a_worked_session;
 use smx_text::laws::one_text_has_one_reading;

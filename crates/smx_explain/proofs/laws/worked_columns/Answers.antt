@@ -1,6 +1,6 @@
 use Rattle.smx_explain.proofs.Common.{[], ◌∷◌, inl, inr, refl, arith, rules, codes}
 use Rattle.smx_explain.proofs.WorkedColumnLemmas as worked
-use Rattle.smx_explain.proofs.laws_of_columns.worked_columns.Goals as goal
+use Rattle.smx_explain.proofs.laws.worked_columns.Goals as goal
 
 pub returns-clause-empty : goal.returns-clause-empty
 returns-clause-empty c = worked.empty

@@ -1,5 +1,5 @@
 use Rattle.smx_explain.proofs.LineLemmas.{not_both, one_difference, one_first_line}
-use Rattle.smx_explain.proofs.laws_of_explanations.texts_have_one_first_difference.Goals as goal
+use Rattle.smx_explain.proofs.laws.texts_have_one_first_difference.Goals as goal
 
 pub returns-clause-one : goal.returns-clause-one
 returns-clause-one c = one_difference

@@ -1,5 +1,5 @@
 use Rattle.smx_explain.proofs.ExplanationLemmas.{differs_reported}
-use Rattle.smx_explain.proofs.laws_of_explanations.a_differing_line_is_reported.Goals as goal
+use Rattle.smx_explain.proofs.laws.a_differing_line_is_reported.Goals as goal
 
 pub returns : goal.returns
 returns c = λ t output allowed h.

@@ -1,5 +1,5 @@
 use Rattle.smx_explain.proofs.ExplanationLemmas.{illegal_reported}
-use Rattle.smx_explain.proofs.laws_of_explanations.an_illegal_entry_is_reported.Goals as goal
+use Rattle.smx_explain.proofs.laws.an_illegal_entry_is_reported.Goals as goal
 
 pub returns : goal.returns
 returns c = λ t output allowed h.

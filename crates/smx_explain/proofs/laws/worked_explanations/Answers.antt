@@ -2,7 +2,7 @@ use Rattle.std.proofs.Common.{[], ◌∷◌, inl, refl}
 use Rattle.smx_explain.specs.declared.kinds.Choice.TheVariants as choice
 use Rattle.smx_explain.specs.declared.kinds.Value.TheVariants as value
 use Rattle.smx_explain.proofs.SessionLineLemmas.{of_a_misspelt_word, of_no_request}
-use Rattle.smx_explain.proofs.laws_of_columns.worked_explanations.Goals as goal
+use Rattle.smx_explain.proofs.laws.worked_explanations.Goals as goal
 
 pub returns-clause-no_request : goal.returns-clause-no_request
 returns-clause-no_request c = of_no_request

@@ -1,5 +1,5 @@
 use Rattle.smx_explain.proofs.ExplanationLemmas.{legal_reported, legal_unexplained, nothing_reported}
-use Rattle.smx_explain.proofs.laws_of_explanations.a_legal_transcript_needs_none.Goals as goal
+use Rattle.smx_explain.proofs.laws.a_legal_transcript_needs_none.Goals as goal
 
 pub returns-clause-legal : goal.returns-clause-legal
 returns-clause-legal c =

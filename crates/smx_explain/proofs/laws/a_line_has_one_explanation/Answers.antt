@@ -1,5 +1,5 @@
 use Rattle.smx_explain.proofs.SessionLineLemmas.{nothing_explained, one_explanation}
-use Rattle.smx_explain.proofs.laws_of_columns.a_line_has_one_explanation.Goals as goal
+use Rattle.smx_explain.proofs.laws.a_line_has_one_explanation.Goals as goal
 
 pub returns-clause-one : goal.returns-clause-one
 returns-clause-one c = one_explanation

@@ -1,5 +1,5 @@
 use Rattle.smx_explain.proofs.WorkedDifferenceLemmas as worked
-use Rattle.smx_explain.proofs.laws_of_explanations.worked_differences.Goals as goal
+use Rattle.smx_explain.proofs.laws.worked_differences.Goals as goal
 
 pub returns-clause-second : goal.returns-clause-second
 returns-clause-second c = worked.second
