@@ -67,6 +67,11 @@ pub record LooksOnce (old new : Seated) (front : Front) : Type 0 where
   pub last : new.last ≡ word_of front
   pub sees : SeesFront old.known new.known front
 
+-- the fault of a try that got the turn, from the fault of its call
+abbrev pub try_fault_of : ApplyFault → TryFault
+try_fault_of apply.HistoryFull = try.HistoryFull
+try_fault_of apply.NoMemory = try.NoMemory
+
 -- the try added no entry: the one word that it read showed that a seat had the turn; or it was refused as a call is
 abbrev pub RefusesTry : Seated → Seated → TryFault → Type 0
 RefusesTry old new (try.Busy front) = LooksOnce old new front × (front.held ≡ true)

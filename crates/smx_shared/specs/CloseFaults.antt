@@ -19,10 +19,6 @@ pub record ShowsHeld (old : Known) (front : Front) : Type 0 where
 abbrev pub IsHeld : Known → CloseFault → Type 0
 IsHeld old (Held front) = ShowsHeld old front
 
--- the words for a turn that is held
-abbrev pub turn_held_words : List ℕ
-turn_held_words = codes "turn held"
-
 -- the words in which the fault prints itself
 abbrev pub close_fault_words : CloseFault → List ℕ
-close_fault_words (Held front) = turn_held_words
+close_fault_words (Held front) = codes "turn held"

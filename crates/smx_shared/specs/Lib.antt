@@ -5,7 +5,6 @@ pub mod Fronts
 pub mod Recorded
 pub mod Seats
 pub mod SeatViews
-pub mod TryFaults
 pub mod TurnRule
 pub mod WorkedCalls
 pub mod WorkedSystems

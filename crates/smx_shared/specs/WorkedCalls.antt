@@ -54,6 +54,17 @@ strayed = record (with_first 1 9) { history = exited ∷ [] }
 abbrev pub sits : SharedId → Known → ℕ → ℕ → Seated
 sits id known last looks = record { shared = id; known = known; last = last; looks = looks; turn = false; met = [] }
 
+-- a seat of process 1 before the entry; and after it, when it last read this word, and has made this number of steps
+abbrev pub first : SharedId → Seated
+first id = sits id (knows 1 0 9) 0 0
+
+abbrev pub after : SharedId → ℕ → ℕ → Seated
+after id last looks = sits id (knows 1 1 9) last looks
+
+-- another seat, which knows this
+abbrev pub other : SharedId → Known → Seated
+other id known = sits id known 4096 1
+
 -- the same seat with the turn
 abbrev pub keeps : Seated → Seated
 keeps seat = record seat { turn = true }

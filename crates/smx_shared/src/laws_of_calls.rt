@@ -9,11 +9,11 @@ ghost use Rattle.smx_shared.specs.Calls.{AddsEntry, AnswersEntry, EndsAs, GoesOn
 ghost use Rattle.smx_shared.specs.Calls.{Meets, Refuses, RefusesTry, Rests};
 ghost use Rattle.smx_shared.specs.CloseFaults.{IsHeld};
 ghost use Rattle.smx_shared.specs.Fronts.{front_of, word_of, IsFrontOf};
-ghost use Rattle.smx_shared.specs.Seats.{HasMetAll, SharedId, met_seat, shared_as};
+ghost use Rattle.smx_shared.specs.Seats.{HasMetAll, Seated, SharedId, met_seat, shared_as};
 ghost use Rattle.smx_shared.specs.SeatViews.{AddsFor, Mine, Published};
 ghost use Rattle.smx_shared.specs.TurnRule.{Slot};
-ghost use Rattle.smx_shared.specs.WorkedCalls.{astray, blind, exited, front, idle, keeps, knows, meets, opened, passed};
-ghost use Rattle.smx_shared.specs.WorkedCalls.{sits, strayed, twice};
+ghost use Rattle.smx_shared.specs.WorkedCalls.{after, astray, blind, exited, first, front, idle, keeps, knows, meets};
+ghost use Rattle.smx_shared.specs.WorkedCalls.{opened, other, passed, sits, strayed, twice};
 ghost use Rattle.smx_shared.specs.WorkedSystems.{with_first};
 ghost use Rattle.smx_shared.specs.declared.shared_fault.CloseFault.TheVariants.{Held};
 ghost use Rattle.smx_shared.specs.declared.shared_fault.ApplyFault.TheVariants as apply;
@@ -22,23 +22,12 @@ ghost use Rattle.smx_shared.specs.declared.shared_fault.TryFault.TheVariants as 
 use crate::laws_of_systems::an_example_is_sound;
 
 /// The returned entry has the process and the command. It is the last entry that the seat has seen, and it was made
-/// with the seat.
+/// with the seat. A call of `perform` adds exactly one such entry, but doesn't return it.
 pub fn answer_examples()
     ensures answers { AnswersEntry (knows 0 0 9) (knows 0 1 9) (OpenClone ip) opened }
-    ensures not_to_another_command { AnswersEntry (knows 0 0 9) (knows 0 1 9) CloseAll opened → ⊥ }
-    ensures not_to_another_process { AnswersEntry (knows 1 0 9) (knows 0 1 9) (OpenClone ip) opened → ⊥ }
-    ensures not_before_another { AnswersEntry (knows 0 0 9) passed (OpenClone ip) opened → ⊥ }
-    ensures not_unseen { AnswersEntry (knows 0 0 9) blind (OpenClone ip) opened → ⊥ }
-    ensures not_unmade { AnswersEntry (knows 0 0 9) idle (OpenClone ip) opened → ⊥ }
-{}
-
-/// A call of `perform`, which returns no entry, adds exactly one entry. This entry has the process and the command. It
-/// is the last entry that the seat has seen, and it was made with the seat.
-pub fn unanswered_call_examples()
-    ensures one { AddsEntry (knows 0 0 9) (OpenClone ip) (knows 0 1 9) }
     ensures not_none { AddsEntry (knows 0 0 9) (OpenClone ip) (knows 0 0 9) → ⊥ }
     ensures not_two { AddsEntry (knows 0 0 9) (Dup 0) twice → ⊥ }
-    ensures not_another { AddsEntry (knows 0 0 9) CloseAll (knows 0 1 9) → ⊥ }
+    ensures not_of_another_command { AddsEntry (knows 0 0 9) CloseAll (knows 0 1 9) → ⊥ }
     ensures not_of_another_process { AddsEntry (knows 1 0 9) (OpenClone ip) (knows 0 1 9) → ⊥ }
     ensures not_before_another { AddsEntry (knows 0 0 9) (OpenClone ip) passed → ⊥ }
     ensures not_unseen { AddsEntry (knows 0 0 9) (OpenClone ip) blind → ⊥ }
@@ -50,7 +39,6 @@ pub fn store_examples()
     ensures published { (st : Step Slot) (m : Mine) (n : ℕ) (new : Mine)
         → Published st m n new → AddsFor m.0.process m.0.seen new.0.seen }
     ensures one { AddsFor 0 [] (opened ∷ []) }
-    ensures one_more { AddsFor 1 (opened ∷ []) (opened ∷ exited ∷ []) }
     ensures none { AddsFor 1 (opened ∷ []) (opened ∷ []) }
     ensures not_two { AddsFor 0 [] twice.seen → ⊥ }
     ensures not_of_another_process { AddsFor 1 [] (opened ∷ []) → ⊥ }
@@ -67,7 +55,6 @@ pub fn knowledge_examples()
     ensures not_of_another_history { HasSeenMore astray (knows 0 1 9) → ⊥ }
     ensures not_of_another_limit { HasSeenMore (knows 0 0 9) (knows 0 1 8) → ⊥ }
     ensures not_of_another_process { HasSeenMore (knows 0 0 9) (knows 1 1 9) → ⊥ }
-    ensures not_past_the_limit { HasSeenMore (knows 0 0 0) (knows 0 1 0) → ⊥ }
     ensures not_illegal { HasSeenMore (knows 0 0 9) (knows 0 2 9) → ⊥ }
     ensures not_unmade { HasSeenMore (knows 0 0 9) idle → ⊥ }
 {
@@ -97,51 +84,30 @@ pub fn front_examples()
 
 /// After each call a seat is at rest: it belongs to the same shared system as before, and doesn't have the turn.
 pub fn rest_examples()
-    ensures rests { (id : SharedId) → Rests (sits id (knows 1 0 9) 0 0) (sits id (knows 1 1 9) 4096 1) }
-    ensures not_with_the_turn { (id : SharedId) → Rests (sits id (knows 1 0 9) 0 0)
-        (keeps (sits id (knows 1 1 9) 4096 1)) → ⊥ }
-    ensures not_at_another { (id other : SharedId) → (id ≡ other → ⊥) → Rests (sits id (knows 1 0 9) 0 0)
-        (sits other (knows 1 1 9) 4096 1) → ⊥ }
+    ghost id: { SharedId }
+    ensures rests { Rests (first id) (after id 4096 1) }
+    ensures not_with_the_turn { Rests (first id) (keeps (after id 4096 1)) → ⊥ }
+    ensures not_at_another { (there : SharedId) → (id ≡ there → ⊥) → Rests (first id) (after there 4096 1) → ⊥ }
 {}
 
 /// A look (`glance`) is one step, which reads the first word. This word is the returned front, and also the front of
 /// the history that the seat has seen afterwards. `try_call` fails with `Busy` only after such a look, and only if the
-/// returned front shows that the turn is held.
+/// returned front shows that the turn is held. If it fails with another fault, it is refused as `call` is.
 pub fn look_examples()
-    ensures looks { (id : SharedId) → LooksOnce (sits id (knows 1 0 9) 0 0) (sits id (knows 1 1 9) 4096 1)
-        (front 1 0 false) }
-    ensures not_without_a_step { (id : SharedId) → LooksOnce (sits id (knows 1 0 9) 0 0)
-        (sits id (knows 1 1 9) 4096 0) (front 1 0 false) → ⊥ }
-    ensures not_by_two { (id : SharedId) → LooksOnce (sits id (knows 1 0 9) 0 0)
-        (sits id (knows 1 1 9) 4096 2) (front 1 0 false) → ⊥ }
-    ensures not_another_word { (id : SharedId) → LooksOnce (sits id (knows 1 0 9) 0 0)
-        (sits id (knows 1 1 9) 4097 1) (front 1 0 false) → ⊥ }
-    ensures not_of_the_past { (id : SharedId) → LooksOnce (sits id (knows 1 0 9) 0 0)
-        (sits id (knows 1 1 9) 0 1) (front 0 0 false) → ⊥ }
-    ensures not_added { (id : SharedId) → LooksOnce (sits id (knows 0 0 9) 0 0) (sits id (knows 0 1 9) 4096 1)
-        (front 1 0 false) → ⊥ }
-    ensures busy { (id : SharedId) → RefusesTry (sits id (knows 1 0 9) 0 0) (sits id (knows 1 1 9) 4097 1)
-        (try.Busy (front 1 0 true)) }
-    ensures not_busy { (id : SharedId) → RefusesTry (sits id (knows 1 0 9) 0 0) (sits id (knows 1 1 9) 4096 1)
-        (try.Busy (front 1 0 false)) → ⊥ }
-    ensures not_busy_by_two { (id : SharedId) → RefusesTry (sits id (knows 1 0 9) 0 0)
-        (sits id (knows 1 1 9) 4097 2) (try.Busy (front 1 0 true)) → ⊥ }
-{}
-
-/// If `try_call` fails with another fault than `Busy`, it is refused as `call` is.
-pub fn refused_try_examples()
-    ensures full { (id : SharedId) → RefusesTry (sits id (knows 1 0 1) 0 0) (sits id (knows 1 1 1) 4096 2)
-        try.HistoryFull }
-    ensures not_full { (id : SharedId) → RefusesTry (sits id (knows 1 0 9) 0 0) (sits id (knows 1 1 9) 4096 2)
-        try.HistoryFull → ⊥ }
-    ensures not_added_and_full { (id : SharedId) → RefusesTry (sits id (knows 0 0 1) 0 0)
-        (sits id (knows 0 1 1) 4096 2) try.HistoryFull → ⊥ }
-    ensures no_memory { (id : SharedId) → RefusesTry (sits id (knows 1 0 9) 0 0)
-        (sits id (knows 1 1 9) 4096 2) try.NoMemory }
-    ensures not_for_a_full_history { (id : SharedId) → RefusesTry (sits id (knows 1 0 1) 0 0)
-        (sits id (knows 1 1 1) 4096 2) try.NoMemory → ⊥ }
-    ensures not_added { (id : SharedId) → RefusesTry (sits id (knows 0 0 9) 0 0)
-        (sits id (knows 0 1 9) 4096 2) try.NoMemory → ⊥ }
+    ghost id: { SharedId }
+    ensures looks { LooksOnce (first id) (after id 4096 1) (front 1 0 false) }
+    ensures not_without_a_step { LooksOnce (first id) (after id 4096 0) (front 1 0 false) → ⊥ }
+    ensures not_by_two { LooksOnce (first id) (after id 4096 2) (front 1 0 false) → ⊥ }
+    ensures not_another_word { LooksOnce (first id) (after id 4097 1) (front 1 0 false) → ⊥ }
+    ensures not_of_the_past { LooksOnce (first id) (after id 0 1) (front 0 0 false) → ⊥ }
+    ensures not_added { LooksOnce (sits id (knows 0 0 9) 0 0) (sits id (knows 0 1 9) 4096 1) (front 1 0 false) → ⊥ }
+    ensures busy { RefusesTry (first id) (after id 4097 1) (try.Busy (front 1 0 true)) }
+    ensures not_busy { RefusesTry (first id) (after id 4096 1) (try.Busy (front 1 0 false)) → ⊥ }
+    ensures not_busy_by_two { RefusesTry (first id) (after id 4097 2) (try.Busy (front 1 0 true)) → ⊥ }
+    ensures full { (old new : Seated) → RefusesTry old new try.HistoryFull
+        → Refuses old.known new.known apply.HistoryFull }
+    ensures no_memory { (old new : Seated) → RefusesTry old new try.NoMemory
+        → Refuses old.known new.known apply.NoMemory }
 {}
 
 /// In a meeting, the first seat records the other seat, which has the same limit, and the seats that either of them had
@@ -149,34 +115,20 @@ pub fn refused_try_examples()
 /// history that it has then seen, the entries of the process of each recorded seat are exactly those made with that
 /// seat.
 pub fn meeting_examples()
-    ensures meets { (id : SharedId) → Meets (sits id (knows 1 0 9) 0 0) (sits id (knows 0 1 9) 4096 1)
-        (meets (sits id (knows 1 1 9) 4096 1) (knows 0 1 9)) }
-    ensures not_unnoted { (id : SharedId) → Meets (sits id (knows 1 0 9) 0 0) (sits id (knows 0 1 9) 4096 1)
-        (sits id (knows 1 1 9) 4096 1) → ⊥ }
-    ensures notes_all { (id : SharedId) → Meets (meets (sits id (knows 1 0 9) 0 0) (knows 3 0 9))
-        (meets (sits id (knows 0 1 9) 4096 1) (knows 2 0 9))
-        (record (sits id (knows 1 1 9) 4096 1)
+    ghost id: { SharedId }
+    ensures meets { Meets (first id) (other id (knows 0 1 9)) (meets (after id 4096 1) (knows 0 1 9)) }
+    ensures not_unnoted { Meets (first id) (other id (knows 0 1 9)) (after id 4096 1) → ⊥ }
+    ensures notes_all { Meets (meets (first id) (knows 3 0 9)) (meets (other id (knows 0 1 9)) (knows 2 0 9))
+        (record (after id 4096 1)
         { met = met_seat (knows 0 1 9) ∷ met_seat (knows 2 0 9) ∷ met_seat (knows 3 0 9) ∷ [] }) }
-    ensures not_without_theirs { (id : SharedId) → Meets (sits id (knows 1 0 9) 0 0)
-        (meets (sits id (knows 0 1 9) 4096 1) (knows 2 0 9))
-        (meets (sits id (knows 1 1 9) 4096 1) (knows 0 1 9)) → ⊥ }
-    ensures not_without_those_before { (id : SharedId) → Meets
-        (meets (sits id (knows 1 0 9) 0 0) (knows 2 0 9)) (sits id (knows 0 1 9) 4096 1)
-        (meets (sits id (knows 1 1 9) 4096 1) (knows 0 1 9)) → ⊥ }
-    ensures not_where_those_before_are_wrong { (id : SharedId) → Meets
-        (meets (sits id (knows 1 0 9) 0 0) (knows 2 0 8)) (sits id (knows 0 1 9) 4096 1)
-        (record (sits id (knows 1 1 9) 4096 1) { met = met_seat (knows 0 1 9) ∷ met_seat (knows 2 0 8) ∷ [] })
-        → ⊥ }
-    ensures not_unseen_of_another { (id : SharedId) → Meets (sits id (knows 1 0 9) 0 0)
-        (sits id (knows 2 1 9) 4096 1) (meets (sits id (knows 1 0 9) 4096 1) (knows 2 1 9)) → ⊥ }
-    ensures not_unseen { (id : SharedId) → Meets (sits id (knows 1 0 9) 0 0) (sits id (knows 0 1 9) 4096 1)
-        (meets (sits id (knows 1 0 9) 4096 1) (knows 0 1 9)) → ⊥ }
-    ensures not_of_another_limit { (id : SharedId) → Meets (sits id (knows 1 0 9) 0 0)
-        (sits id (knows 0 1 8) 4096 1) (meets (sits id (knows 1 1 9) 4096 1) (knows 0 1 8)) → ⊥ }
-    ensures not_unmade { (id : SharedId) → Meets (sits id (knows 1 0 9) 0 0) (sits id idle 4096 1)
-        (meets (sits id (knows 1 1 9) 4096 1) idle) → ⊥ }
-    ensures not_added { (id : SharedId) → Meets (sits id (knows 0 0 9) 0 0) (sits id (knows 1 1 9) 4096 1)
-        (meets (sits id (knows 0 1 9) 4096 1) (knows 1 1 9)) → ⊥ }
+    ensures not_where_those_before_are_wrong { Meets (meets (first id) (knows 2 0 8)) (other id (knows 0 1 9))
+        (record (after id 4096 1) { met = met_seat (knows 0 1 9) ∷ met_seat (knows 2 0 8) ∷ [] }) → ⊥ }
+    ensures not_unseen { Meets (first id) (other id (knows 2 1 9)) (meets (first id) (knows 2 1 9)) → ⊥ }
+    ensures not_of_another_limit { Meets (first id) (other id (knows 0 1 8))
+        (meets (after id 4096 1) (knows 0 1 8)) → ⊥ }
+    ensures not_unmade { Meets (first id) (other id idle) (meets (after id 4096 1) idle) → ⊥ }
+    ensures not_added { Meets (other id (knows 0 0 9)) (other id (knows 1 1 9))
+        (meets (other id (knows 0 1 9)) (knows 1 1 9)) → ⊥ }
 {}
 
 /// A seat has met all others if it met a seat of every process except its own.
@@ -184,7 +136,6 @@ pub fn met_all_examples()
     ensures all { HasMetAll 2 (knows 1 0 9) (met_seat (knows 0 1 9) ∷ []) }
     ensures alone { HasMetAll 1 (knows 0 0 9) [] }
     ensures not_all { HasMetAll 3 (knows 1 0 9) (met_seat (knows 0 1 9) ∷ []) → ⊥ }
-    ensures not_alone { HasMetAll 2 (knows 0 0 9) [] → ⊥ }
     ensures not_by_its_own { HasMetAll 2 (knows 0 0 9) (met_seat (knows 0 1 9) ∷ []) → ⊥ }
 {}
 
@@ -192,21 +143,20 @@ pub fn met_all_examples()
 /// processes among which the system was shared. The returned system agrees with the knowledge of the seat that closed
 /// it.
 pub fn close_examples()
-    ensures goes_on { (id : SharedId) → GoesOnFrom (shared_as id (with_first 0 9) 1) (with_first 1 9) }
-    ensures not_to_another_limit { (id : SharedId) → GoesOnFrom (shared_as id (with_first 0 9) 1) (with_first 1 8) → ⊥ }
-    ensures not_by_another_process { (id : SharedId) → GoesOnFrom (shared_as id (with_first 0 9) 0)
-        (with_first 1 9) → ⊥ }
-    ensures not_from_another_history { (id : SharedId) → GoesOnFrom (shared_as id strayed 1) (with_first 1 9) → ⊥ }
-    ensures not_back { (id : SharedId) → GoesOnFrom (shared_as id (with_first 1 9) 1) (with_first 0 9) → ⊥ }
+    ghost id: { SharedId }
+    ensures goes_on { GoesOnFrom (shared_as id (with_first 0 9) 1) (with_first 1 9) }
+    ensures not_to_another_limit { GoesOnFrom (shared_as id (with_first 0 9) 1) (with_first 1 8) → ⊥ }
+    ensures not_by_another_process { GoesOnFrom (shared_as id (with_first 0 9) 0) (with_first 1 9) → ⊥ }
+    ensures not_from_another_history { GoesOnFrom (shared_as id strayed 1) (with_first 1 9) → ⊥ }
     ensures ends { EndsAs (knows 1 0 9) [] (with_first 1 9) }
     ensures not_with_another_limit { EndsAs (knows 1 0 9) [] (with_first 1 8) → ⊥ }
     ensures not_illegal { EndsAs (knows 0 1 9) [] (with_first 2 9) → ⊥ }
     ensures not_before_what_was_seen { EndsAs (knows 1 1 9) [] (with_first 0 9) → ⊥ }
-    ensures not_held { IsHeld (knows 1 0 9) (Held (front 1 0 false)) → ⊥ }
+    ensures not_with_others_of_the_process { EndsAs (knows 0 0 9) [] (with_first 1 9) → ⊥ }
     ensures held { IsHeld (knows 1 0 9) (Held (front 0 0 true)) }
+    ensures not_held { IsHeld (knows 1 0 9) (Held (front 1 0 false)) → ⊥ }
     ensures not_held_with_a_link { IsHeld (knows 1 0 9) (Held (front 0 1 true)) → ⊥ }
     ensures not_held_before_what_was_seen { IsHeld (knows 1 1 9) (Held (front 0 0 true)) → ⊥ }
-    ensures not_with_others_of_the_process { EndsAs (knows 0 0 9) [] (with_first 1 9) → ⊥ }
 {
     an_example_is_sound();
 }

@@ -13,9 +13,10 @@ ghost use Rattle.smx_shared.specs.Seats.{first_seat, shared_as, HasMetAll, Seate
 use crate::door::Door;
 use crate::entry_sink::EntrySink;
 use crate::front::Front;
+use crate::seat_view::{Deal, Look, Meet, TakeName};
 use crate::shared_fault::{ApplyFault, CloseFault, TryFault};
 use crate::system::System;
-use crate::turn_table::{Token, TurnTable};
+use crate::turn_table::{FRONT, NAMES, SYSTEM, Token, TurnTable};
 use smx_types::{Command, Entry, NoMemory, Process};
 use std::alloc::Global;
 use std::marker::Model;
@@ -47,9 +48,15 @@ impl<K: EntrySink> Model for Seat<K> {
 /// A system that many threads share: they take turns, and each call adds one entry. Contracts see a name that no other
 /// shared system has, the system as it was when it was shared, and the number of processes. They see later entries only
 /// through seats: a seat knows the history that it has seen.
-#[derive(Drop)]
 pub struct Shared<K: EntrySink = Vec<Entry>> {
     turns: TurnTable<K>,
+}
+
+impl<K: EntrySink> Drop for Shared<K> {
+    // Written by hand, so that functions drop a shared system with one call, not part by part.
+    fn drop(self) {
+        let Shared { turns: _turns } = self;
+    }
 }
 
 impl<K: EntrySink> Model for Shared<K> {
@@ -59,36 +66,10 @@ impl<K: EntrySink> Model for Shared<K> {
         s.turns.table.shared.key.processes };
 }
 
-// Makes a seat for each of the processes from 0 to `processes` - 1, and pushes these seats to a list that has room for
-// them. Each seat takes the next name, which is the number of its process. It then splits off the next seat, which may
-// take the name after that one.
-fn deal_seats<K: EntrySink>(
-    turns: &TurnTable<K>,
-    first: Token<K>,
-    processes: usize,
-    seats: &mut Vec<Seat<K>>,
-)
-    requires table { first.table_id ≡ turns.now.table.shared.table_id }
-    requires first { first.me ≡ (first_view turns.now.table.shared.key.system.value, []) }
-    requires processes { (turns.now.table.shared.key.processes ≡ processes) × (processes ≤ MAX_PROCESSES) }
-    requires room { (seats.old.items ≡ []) × (processes ≤ vec_capacity seats.old) }
-    ensures { seats.new.items
-        ≡ map (first_seat turns.now.table.shared.table_id turns.now.table.shared.key.system.value)
-        (range_with_len 0 processes) }
-{
-    let mut token = first;
-    for number in 0..processes {
-        let process = Process::new(number as u32).unwrap();
-        turns.name(&mut token);
-        let next = turns.deal(&mut token);
-        seats.push_reserved(Seat { process, token });
-        token = next;
-    }
-}
-
 impl<K: EntrySink> Shared<K> {
     /// Shares a system among `processes` processes, 1 to 64, and returns a seat for each, from process 0 on. Fails if
-    /// an allocation fails.
+    /// an allocation fails. Each seat takes the next name, which is the number of its process. It then splits off the
+    /// next seat, which may take the name after that one.
     pub fn start(
         alloc: Global,
         system: System<K>,
@@ -100,8 +81,17 @@ impl<K: EntrySink> Shared<K> {
         ensures sound { IfOk result (λ _. IsSoundSystem system) }
     {
         let mut seats = Vec::with_capacity(alloc, processes)?;
-        let (turns, first) = TurnTable::open(alloc, system, processes)?;
-        deal_seats(&turns, first, processes, &mut seats);
+        let (turns, mut token) = TurnTable::open(alloc, system, processes)?;
+        for number in 0..processes {
+            let process = Process::new(number as u32).unwrap();
+            turns
+                .table
+                .shared
+                .fetch_add::<TakeName>(&mut token, NAMES, 1);
+            let next = turns.table.shared.split_seat::<Deal>(&mut token);
+            seats.push_reserved(Seat { process, token });
+            token = next;
+        }
         Ok((Shared { turns }, seats))
     }
 
@@ -156,7 +146,11 @@ impl<K: EntrySink> Shared<K> {
         ensures seen { HasSeenMore seat.old.known seat.new.known }
         ensures meets { Meets seat.old other seat.new }
     {
-        self.turns.meet(&mut seat.token, other.token);
+        self.turns
+            .table
+            .shared
+            .join_seat::<Meet>(&mut seat.token, other.token);
+        self.turns.table.shared.load::<Look>(&mut seat.token, FRONT);
     }
 
     /// Returns the system with its whole history, after all its callers have ended. Fails only if a turn was never
@@ -169,9 +163,19 @@ impl<K: EntrySink> Shared<K> {
         ensures held { IfErr result (IsHeld seat.known) }
         ensures alone { HasMetAll self.processes seat.known seat.met → IsOk result }
     {
-        match self.turns.close(seat.token) {
-            Ok(system) => Ok(system),
-            Err(word) => Err(CloseFault::Held(Front::read(word))),
+        let Shared {
+            turns: TurnTable { table },
+        } = self;
+        let mut closed = table.close_with(seat.token);
+        let word = closed.word(FRONT);
+        let slot = closed.take(SYSTEM);
+        closed.free();
+        if word % 2 != 0 {
+            return Err(CloseFault::Held(Front::read(word)));
+        }
+        match slot {
+            Some(boxed) => Ok(Box::into_inner(boxed.system)),
+            None => unreachable!(),
         }
     }
 }
@@ -231,6 +235,6 @@ impl<K: EntrySink> Door for Shared<K> {
         ensures seen { HasSeenMore seat.old.known seat.new.known }
         ensures front { LooksOnce seat.old seat.new result }
     {
-        Front::read(self.turns.look(&mut seat.token))
+        Front::read(self.turns.table.shared.load::<Look>(&mut seat.token, FRONT))
     }
 }

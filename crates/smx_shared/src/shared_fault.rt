@@ -1,9 +1,9 @@
 //! The faults of a shared system, and the words that they print.
 
 ghost use Rattle.std.specs.Prelude.{◌≡◌, Some};
+ghost use Rattle.smx_shared.specs.Calls.{try_fault_of};
 ghost use Rattle.smx_shared.specs.CloseFaults.{close_fault_words};
 ghost use Rattle.smx_shared.specs.FaultWords.{apply_fault_words};
-ghost use Rattle.smx_shared.specs.TryFaults.{try_fault_of, try_fault_words};
 ghost use Rattle.smx_shared.specs.declared.shared_fault.ApplyFault.TheVariants as apply;
 
 use crate::front::Front;
@@ -50,8 +50,7 @@ impl fmt::Display for ApplyFault {
 
 impl std::error::Error for ApplyFault {}
 
-/// The reason why `try_call` performed no command. Then no entry was added. The fault prints as `turn held`, `history
-/// full` or `no memory`.
+/// The reason why `try_call` performed no command. Then no entry was added.
 #[derive(Clone, Copy, Debug, PartialEq, Eq)]
 pub enum TryFault {
     /// Another seat had the turn, as this front showed.
@@ -72,20 +71,6 @@ impl From<ApplyFault> for TryFault {
         }
     }
 }
-
-impl fmt::Display for TryFault {
-    ghost output = { λ fault. Some (try_fault_words fault) };
-
-    fn fmt<W: fmt::Write>(&self, f: &mut fmt::Formatter<W>) -> fmt::Result {
-        match self {
-            TryFault::Busy(_) => f.write_str("turn held"),
-            TryFault::HistoryFull => f.write_str("history full"),
-            TryFault::NoMemory => f.write_str("no memory"),
-        }
-    }
-}
-
-impl std::error::Error for TryFault {}
 
 /// The reason why a shared system was not given back. The fault prints as `turn held`.
 #[derive(Clone, Copy, Debug, PartialEq, Eq)]

@@ -31,24 +31,18 @@ pub type Token<K> = atomic_table::Seat<Option<BoxedSystem<K>>, SeatView>;
 /// Two words and a slot. The first word has the front and the turn bit, which is set while a seat has the turn. The
 /// second word has the number of names that seats have taken; a name is the number of a process. The slot has the
 /// system.
+#[derive(Drop)]
 pub struct TurnTable<K: EntrySink> {
     pub table: Table<Option<BoxedSystem<K>>, SeatView, Start<K>, OneTurn, Global>,
     pub ghost sized: { (table.shared.table_id.words ≡ 2) × (table.shared.table_id.slots ≡ 1) },
 }
 
-impl<K: EntrySink> Drop for TurnTable<K> {
-    // Written by hand, so that functions drop a table with one call, not part by part.
-    fn drop(self) {
-        let TurnTable { table: _table } = self;
-    }
-}
-
 // The positions of the words and of the slot.
-const FRONT: usize = 0;
+pub const FRONT: usize = 0;
 
-const NAMES: usize = 1;
+pub const NAMES: usize = 1;
 
-const SYSTEM: usize = 0;
+pub const SYSTEM: usize = 0;
 
 // A waiting caller yields `YIELDS` times before it sleeps. From `MOST_TRIES` tries on, its sleeps have the same length.
 const YIELDS: u32 = 1;
@@ -110,39 +104,6 @@ impl<K: EntrySink> TurnTable<K> {
             Ok((table, token)) => Ok((TurnTable { table }, token)),
             Err(_) => Err(NoMemory),
         }
-    }
-
-    /// Splits off another seat, which has seen the same history. The right to the next name goes over to the new seat.
-    pub fn deal(&self, token: &mut Token<K>) -> Token<K>
-        requires { token.old.table_id ≡ self.now.table.shared.table_id }
-        ensures same { (token.new.table_id ≡ token.old.table_id)
-            × (token.new.me ≡ (without_right token.old.me.0, token.old.me.1)) }
-        ensures other { (result.table_id ≡ token.old.table_id) × (result.me ≡ (view_beside token.old.me.0, [])) }
-    {
-        self.table.shared.split_seat::<Deal>(token)
-    }
-
-    /// Takes the next name for the seat.
-    pub fn name(&self, token: &mut Token<K>)
-        requires table { token.old.table_id ≡ self.now.table.shared.table_id }
-        requires right { (token.old.me.0.may_name ≡ true) × (token.old.me.0.next < 64) }
-        requires one_of { token.old.me.0.next < self.now.table.shared.key.processes }
-        requires idle { (token.old.me.0.spent ≡ false) × (token.old.me.0.turn ≡ false) }
-        ensures same { (token.new.table_id ≡ token.old.table_id)
-            × (token.new.me ≡ (with_next_name token.old.me.0, token.old.me.1)) }
-    {
-        self.table.shared.fetch_add::<TakeName>(token, NAMES, 1);
-    }
-
-    /// Loads the first word once.
-    pub fn look(&self, token: &mut Token<K>) -> u64
-        requires table { token.old.table_id ≡ self.now.table.shared.table_id }
-        requires rest { IsAtRest token.old.me }
-        ensures table { token.new.table_id ≡ token.old.table_id }
-        ensures rest { RestsAfter token.old.me.0 token.new.me }
-        ensures found { FoundWord token.old.me.0 token.new.me.0 result }
-    {
-        self.table.shared.load::<Look>(token, FRONT)
     }
 
     /// Takes the turn if it is free. Otherwise fails with the first word, which shows that the turn is held. Makes one
@@ -255,43 +216,5 @@ impl<K: EntrySink> TurnTable<K> {
         let outcome = boxed.system.perform(process, command);
         self.give_back(token, boxed);
         outcome
-    }
-
-    /// Joins the other seat into this one. Afterwards this seat has seen what either of the two had seen.
-    pub fn meet(&self, token: &mut Token<K>, other: Token<K>)
-        requires table { (token.old.table_id ≡ self.now.table.shared.table_id)
-            × (other.table_id ≡ self.now.table.shared.table_id) }
-        requires rest { IsAtRest token.old.me × IsAtRest other.me × (other.me.0.named ≡ true) }
-        ensures table { token.new.table_id ≡ token.old.table_id }
-        ensures rest { IsAtRest token.new.me × IsInformed token.new.me.0 }
-        ensures same { HasMet token.old.me.0 other.me.0 token.new.me.0 }
-    {
-        self.table.shared.join_seat::<Meet>(token, other);
-        self.table.shared.load::<Look>(token, FRONT);
-    }
-
-    /// Returns the system. If a seat never gave the turn back, fails with the first word, which shows that the turn is
-    /// held. Never fails for a seat that has met the seats of all other processes.
-    pub fn close(self, token: Token<K>) -> Result<System<K>, u64>
-        requires table { token.table_id ≡ self.table.shared.table_id }
-        requires rest { IsAtRest token.me × (token.me.0.named ≡ true) }
-        ensures ends { IfOk result (EndsAs (known_of token.me.0) token.me.0.met) }
-        ensures begun { IfOk result (GoesOnFrom (shared_as self.table.shared.table_id self.table.shared.key.system.value
-            self.table.shared.key.processes)) }
-        ensures held { IfErr result (λ word. (word % 2 ≡ 1) × IsWordFrom token.me.0 word) }
-        ensures alone { HasMetAll self.table.shared.key.processes (known_of token.me.0) token.me.0.met → IsOk result }
-    {
-        let TurnTable { table } = self;
-        let mut closed = table.close_with(token);
-        let word = closed.word(FRONT);
-        let slot = closed.take(SYSTEM);
-        closed.free();
-        if word % 2 != 0 {
-            return Err(word);
-        }
-        match slot {
-            Some(boxed) => Ok(Box::into_inner(boxed.system)),
-            None => unreachable!(),
-        }
     }
 }
