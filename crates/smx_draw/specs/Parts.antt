@@ -1,9 +1,10 @@
 -- The texts of each part of a configuration: the class words and the label of its row in an SVG, and its line for
 -- Graphviz, which names drivers, streams, queues and the items attached to them apart.
-use Rattle.std.specs.Prelude.{ℕ, List, [], ◌∷◌, ◌++◌, codes}
+use Rattle.std.specs.Prelude.{ℕ, List, [], ◌∷◌, ◌++◌, codes, map}
 use Rattle.std.specs.Fmt.{decimal}
 use Rattle.smx_types.specs.declared.driver.DriverSpec.{DriverSpec}
 use Rattle.smx_types.specs.declared.view.BindingLine.{BindingLine}
+use Rattle.smx_types.specs.declared.view.ConfigView.{ConfigView}
 use Rattle.smx_types.specs.declared.view.DescriptorLine.{DescriptorLine}
 use Rattle.smx_types.specs.declared.view.FullLine.{FullLine}
 use Rattle.smx_types.specs.declared.view.HungLine.{HungLine}
@@ -12,6 +13,8 @@ use Rattle.smx_types.specs.declared.view.RouteLine.{RouteLine}
 use Rattle.smx_draw.specs.Pieces.{driver_word, filled, link_word, side_letter, side_word, stroke}
 use Rattle.smx_draw.specs.declared.parts.Look.{Look}
 use Rattle.smx_draw.specs.declared.parts.Look.TheVariants.{Class, Label, Line}
+use Rattle.smx_draw.specs.declared.parts.Part.{Part}
+use Rattle.smx_draw.specs.declared.parts.Part.TheVariants as part
 use Rattle.smx_draw.specs.declared.queues.QueueItem.{QueueItem}
 use Rattle.smx_draw.specs.declared.queues.QueueItem.TheVariants as item
 use Rattle.smx_draw.specs.declared.queues.QueueRow.{QueueRow}
@@ -147,3 +150,20 @@ item_text look q (item.Bytes bytes high low) = queue_text (bytes_template look) 
 
 abbrev pub queue_row_text : Look → QueueRow → List ℕ
 queue_row_text look q = item_text look q q.item
+
+-- one of the texts of a part
+abbrev pub part_text : Look → Part → List ℕ
+part_text look (part.Driver d) = driver_text look d
+part_text look (part.Link l) = link_text look l
+part_text look (part.Hung h) = hung_text look h
+part_text look (part.Route r) = route_text look r
+part_text look (part.Descriptor d) = descriptor_text look d
+part_text look (part.Binding b) = binding_text look b
+part_text look (part.Queue q) = queue_row_text look q
+part_text look (part.Full f) = full_text look f
+
+-- all parts: the drivers, the lines of the view, and the rows of its queues
+abbrev pub parts : List DriverSpec → ConfigView → List QueueRow → List Part
+parts drivers v queues =
+    map part.Driver drivers ++ map part.Link v.links ++ map part.Hung v.hungs ++ map part.Route v.routes
+    ++ map part.Descriptor v.fds ++ map part.Binding v.binds ++ map part.Queue queues ++ map part.Full v.fulls

@@ -46,8 +46,8 @@ shown_length bytes = shown_number (length bytes)
 -- a number in decimal, a name, a word
 abbrev pub piece_text : Piece → List ℕ
 piece_text (piece.Number n) = decimal n
-piece_text (piece.Process process) = decimal process.now
-piece_text (piece.Name name) = name.now
+piece_text (piece.Process process) = decimal process
+piece_text (piece.Name name) = name
 piece_text (piece.Driver kind) = driver_word kind
 piece_text (piece.Link kind) = link_word kind
 piece_text (piece.Stroke kind) = stroke kind

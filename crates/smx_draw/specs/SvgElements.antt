@@ -3,9 +3,10 @@ use Rattle.std.specs.Prelude.{ℕ, ◌-◌, Bool, true, false, List, [], ◌∷�
 use Rattle.std.specs.Fmt.{decimal}
 use Rattle.smx_types.specs.declared.driver.DriverSpec.{DriverSpec}
 use Rattle.smx_types.specs.declared.view.LinkLine.{LinkLine}
+use Rattle.smx_draw.specs.Parts.{part_text}
 use Rattle.smx_draw.specs.Pieces.{driver_word, filled, link_word}
-use Rattle.smx_draw.specs.declared.parts.Look.{Look}
 use Rattle.smx_draw.specs.declared.parts.Look.TheVariants.{Class, Label}
+use Rattle.smx_draw.specs.declared.parts.Part.{Part}
 use Rattle.smx_draw.specs.declared.queues.QueueItem.{QueueItem}
 use Rattle.smx_draw.specs.declared.queues.QueueItem.TheVariants.{Bytes, Message, More}
 use Rattle.smx_draw.specs.declared.queues.QueueRow.{QueueRow}
@@ -17,11 +18,11 @@ abbrev pub corners : Area → List (List ℕ)
 corners at = decimal at.left ∷ decimal at.top ∷ decimal at.right ∷ decimal at.bottom ∷ []
 
 -- the row of a part: a rectangle with its label
-abbrev pub row : {X : Type 0} → (Look → X → List ℕ) → X → Area → List ℕ
-row text x at =
-    codes "<g class=\"" ++ (text Class x ++ (
+abbrev pub row : Part → Area → List ℕ
+row p at =
+    codes "<g class=\"" ++ (part_text Class p ++ (
     filled (codes "\"><path d=\"M@0 @1H@2V@3H@0Z\"/><text x=\"@0\" y=\"@1\" dx=\"6\" dy=\"11\">") (corners at)
-    ++ (text Label x ++ codes "</text></g>\n")))
+    ++ (part_text Label p ++ codes "</text></g>\n")))
 
 -- the frame of a driver
 abbrev pub frame_element : DriverSpec → Area → List ℕ

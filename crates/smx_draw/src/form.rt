@@ -2,13 +2,14 @@
 
 ghost use Rattle.std.specs.Prelude.{◌≡◌, ◌++◌, IfOk, OnOk};
 ghost use Rattle.std.specs.List.{flat_map};
-ghost use Rattle.smx_draw.specs.DotText.{dot_text, dot_view};
+ghost use Rattle.smx_draw.specs.DotText.{dot_text};
+ghost use Rattle.smx_draw.specs.Parts.{part_text};
 ghost use Rattle.smx_draw.specs.Pictures.{IsPictureOf};
-ghost use Rattle.smx_draw.specs.declared.parts.Look.TheVariants as look;
+ghost use Rattle.smx_draw.specs.declared.parts.Look.TheVariants.{Line};
 
-use crate::parts::{Look, Part};
+use crate::parts::{Look, Part, parts_of};
 use crate::pieces::put;
-use crate::queues::{QueueRow, queue_rows};
+use crate::queues::queue_rows;
 use crate::svg::write_svg;
 use smx_types::{ConfigView, DriverSpec, NoMemory, Transcript};
 use std::alloc::Global;
@@ -46,32 +47,19 @@ fn write_dot(alloc: Global, drivers: &[DriverSpec], view: &ConfigView) -> Result
     ensures { IfOk result (λ v. v.items ≡ dot_text drivers.now view.now) }
 {
     let queues = queue_rows(alloc, drivers, view.msgs.as_slice())?;
+    let parts = parts_of(alloc, drivers, view, queues.as_slice())?;
     let mut out = Vec::new(alloc);
     put(&mut out, HEAD, &[])?;
-    put_lines(&mut out, drivers)?;
-    put_view(&mut out, view, queues.as_slice())?;
+    put_lines(&mut out, parts.as_slice())?;
     put(&mut out, b"}\n", &[])?;
     Ok(out)
 }
 
-// Appends the lines of the parts of a view, and of the rows of its queues.
-fn put_view(out: &mut Vec<u8>, view: &ConfigView, queues: &[QueueRow]) -> Result<(), NoMemory>
-    ensures { OnOk result (out.new.items ≡ out.old.items ++ dot_view view.now queues.now) }
+fn put_lines(out: &mut Vec<u8>, parts: &[Part]) -> Result<(), NoMemory>
+    ensures { OnOk result (out.new.items ≡ out.old.items ++ flat_map (part_text Line) parts.now) }
 {
-    put_lines(out, view.links.as_slice())?;
-    put_lines(out, view.hungs.as_slice())?;
-    put_lines(out, view.routes.as_slice())?;
-    put_lines(out, view.fds.as_slice())?;
-    put_lines(out, view.binds.as_slice())?;
-    put_lines(out, queues)?;
-    put_lines(out, view.fulls.as_slice())
-}
-
-fn put_lines<T: Part>(out: &mut Vec<u8>, items: &[T]) -> Result<(), NoMemory>
-    ensures { OnOk result (out.new.items ≡ out.old.items ++ flat_map (T.text look.Line) items.now) }
-{
-    for item in items {
-        item.put(Look::Line, out)?;
+    for part in parts {
+        part.put(Look::Line, out)?;
     }
     Ok(())
 }

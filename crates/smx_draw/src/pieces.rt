@@ -9,13 +9,13 @@ use smx_types::{DriverKind, LinkKind, Name, NoMemory, Process, Side};
 /// A value for a hole of a template (see `put`). Names consist of lower-case letters and digits, so nothing that is
 /// written needs escaping.
 #[derive(Clone, Copy)]
-pub enum Piece<'a> {
+pub enum Piece {
     /// A number, in decimal.
     Number(u32),
     /// The number of a process.
-    Process(&'a Process),
+    Process(Process),
     /// The name of a driver.
-    Name(&'a Name),
+    Name(Name),
     /// Whether a driver is a leaf or a multiplexer.
     Driver(DriverKind),
     /// Whether a link is ordinary or persistent.

@@ -4,6 +4,7 @@ ghost use Rattle.std.specs.Prelude.{◌≡◌, ◌++◌, ◌∷◌, [], IfOk, On
 ghost use Rattle.smx_draw.specs.Queues.{driver_named, end_rows, goes_on, is_same, message_rows, queue_rows, row};
 
 use crate::pieces::shown_length;
+use crate::svg::block::{Row, Seat};
 use smx_types::{DriverSpec, MessageLine, Name, NoMemory, Side};
 use std::alloc::Global;
 
@@ -28,6 +29,18 @@ pub enum QueueItem {
     More(u32),
     /// The number of bytes of all messages, and the high and the low water mark of the driver.
     Bytes(u32, u32, u32),
+}
+
+impl QueueRow {
+    /// Returns where the row belongs.
+    pub fn seat(&self) -> Seat {
+        let row = match self.item {
+            QueueItem::Message(..) => Row::Message,
+            QueueItem::More(_) => Row::More,
+            QueueItem::Bytes(..) => Row::Queue,
+        };
+        Seat::of_queue(&self.driver, self.minor, self.side, row)
+    }
 }
 
 /// Returns the rows of the queues. The caller gives the messages sorted by queue. A queue has a row for each of its

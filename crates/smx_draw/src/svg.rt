@@ -3,7 +3,7 @@
 ghost use Rattle.std.specs.Prelude.{◌≡◌, ℕ, ◌++◌, List, IfOk, OnOk};
 ghost use Rattle.smx_draw.specs.Drawing.{Draws};
 ghost use Rattle.smx_draw.specs.SvgElements.{row};
-ghost use Rattle.smx_draw.specs.SvgText.{DrawsRows, DrawsUnder, IsSvgOf};
+ghost use Rattle.smx_draw.specs.SvgText.{IsSvgOf};
 
 pub mod block;
 mod places;
@@ -11,10 +11,10 @@ mod plan;
 mod under;
 mod ways;
 
-use crate::parts::{Look, Part};
+use crate::parts::{Look, Part, parts_of};
 use crate::pieces::Piece::Number;
 use crate::pieces::put;
-use crate::queues::{QueueRow, queue_rows};
+use crate::queues::queue_rows;
 use crate::svg::block::Area;
 use crate::svg::plan::Plan;
 use crate::svg::under::streams_of;
@@ -62,8 +62,8 @@ const HEAD: &[u8] =
 // The end of the picture, with the id of the next link and the serial of the next message.
 const FOOT: &[u8] = b"<text x=\"24\" y=\"44\">next link @0, next message @1</text>\n</svg>\n";
 
-/// One element that is drawn before the rows, so that they are on top of it: the frame of a driver, a link, the column
-/// of a stream, or the gauge of a queue (a bar for its bytes).
+/// One element of a picture: the frame of a driver, a link, the column of a stream, the gauge of a queue (a bar for its
+/// bytes), or the row of a part.
 pub trait Drawn {
     ghost use Rattle.smx_draw.specs.declared.svg.block.Area.{Area};
 
@@ -79,6 +79,31 @@ pub trait Drawn {
         ensures { OnOk result (out.new.items ≡ out.old.items ++ element self.now at) };
 }
 
+impl Drawn for Part {
+    ghost element = { row };
+
+    fn place(&self, plan: &mut Plan) -> Option<Area> {
+        plan.take_row(&self.seat())
+    }
+
+    fn put_at(&self, at: Area, out: &mut Vec<u8>) -> Result<(), NoMemory> {
+        put(out, b"<g class=\"", &[])?;
+        self.put(Look::Class, out)?;
+        let corners = [
+            Number(at.left),
+            Number(at.top),
+            Number(at.right),
+            Number(at.bottom),
+        ];
+        let template =
+            b"\"><path d=\"M@0 @1H@2V@3H@0Z\"/><text x=\"@0\" y=\"@1\" dx=\"6\" dy=\"11\">";
+        put(out, template, &corners)?;
+        self.put(Look::Label, out)?;
+        put(out, b"</text></g>\n", &[])?;
+        Ok(())
+    }
+}
+
 /// Returns the picture of a configuration, given its drivers and its view. Fails only if it is out of memory.
 pub fn write_svg(
     alloc: Global,
@@ -88,59 +113,20 @@ pub fn write_svg(
     ensures { IfOk result (λ v. IsSvgOf drivers.now view.now v.items) }
 {
     let queues = queue_rows(alloc, drivers, view.msgs.as_slice())?;
-    let mut plan = Plan::new(alloc, drivers, view, queues.as_slice())?;
+    let parts = parts_of(alloc, drivers, view, queues.as_slice())?;
+    let mut plan = Plan::new(alloc, parts.as_slice(), view.links.as_slice())?;
+    let streams = streams_of(alloc, &plan)?;
+    let size = [Number(plan.width.0), Number(plan.height.0)];
     let mut out = Vec::new(alloc);
-    put(
-        &mut out,
-        HEAD,
-        &[Number(plan.width.0), Number(plan.height.0)],
-    )?;
-    put_under(alloc, &mut plan, &mut out, drivers, view, queues.as_slice())?;
-    put_view(&mut plan, &mut out, drivers, view, queues.as_slice())?;
-    put(
-        &mut out,
-        FOOT,
-        &[Number(view.next_id), Number(view.next_serial)],
-    )?;
+    put(&mut out, HEAD, &size)?;
+    draw_all(&mut plan, &mut out, drivers)?;
+    draw_all(&mut plan, &mut out, view.links.as_slice())?;
+    draw_all(&mut plan, &mut out, streams.as_slice())?;
+    draw_all(&mut plan, &mut out, queues.as_slice())?;
+    draw_all(&mut plan, &mut out, parts.as_slice())?;
+    let next = [Number(view.next_id), Number(view.next_serial)];
+    put(&mut out, FOOT, &next)?;
     Ok(out)
-}
-
-// Appends the frames, the links, the columns and the gauges.
-fn put_under(
-    alloc: Global,
-    plan: &mut Plan,
-    out: &mut Vec<u8>,
-    drivers: &[DriverSpec],
-    view: &ConfigView,
-    queues: &[QueueRow],
-) -> Result<(), NoMemory>
-    ensures { OnOk result (DrawsUnder drivers.now view.now queues.now out.old.items out.new.items) }
-{
-    let streams = streams_of(alloc, plan)?;
-    draw_all(plan, out, drivers)?;
-    draw_all(plan, out, view.links.as_slice())?;
-    draw_all(plan, out, streams.as_slice())?;
-    draw_all(plan, out, queues)
-}
-
-// Appends the rows.
-fn put_view(
-    plan: &mut Plan,
-    out: &mut Vec<u8>,
-    drivers: &[DriverSpec],
-    view: &ConfigView,
-    queues: &[QueueRow],
-) -> Result<(), NoMemory>
-    ensures { OnOk result (DrawsRows drivers.now view.now queues.now out.old.items out.new.items) }
-{
-    put_rows(plan, out, drivers)?;
-    put_rows(plan, out, view.links.as_slice())?;
-    put_rows(plan, out, view.hungs.as_slice())?;
-    put_rows(plan, out, view.routes.as_slice())?;
-    put_rows(plan, out, view.fds.as_slice())?;
-    put_rows(plan, out, view.binds.as_slice())?;
-    put_rows(plan, out, queues)?;
-    put_rows(plan, out, view.fulls.as_slice())
 }
 
 fn draw_all<T: Drawn>(plan: &mut Plan, out: &mut Vec<u8>, items: &[T]) -> Result<(), NoMemory>
@@ -150,33 +136,5 @@ fn draw_all<T: Drawn>(plan: &mut Plan, out: &mut Vec<u8>, items: &[T]) -> Result
         let at = item.place(plan).unwrap_or_default();
         item.put_at(at, out)?;
     }
-    Ok(())
-}
-
-fn put_rows<T: Part>(plan: &mut Plan, out: &mut Vec<u8>, items: &[T]) -> Result<(), NoMemory>
-    ensures { OnOk result (Draws (row T.text) items.now out.old.items out.new.items) }
-{
-    for item in items {
-        let at = plan.take_row(&item.seat()).unwrap_or_default();
-        put_row(item, at, out)?;
-    }
-    Ok(())
-}
-
-fn put_row<T: Part>(item: &T, at: Area, out: &mut Vec<u8>) -> Result<(), NoMemory>
-    ensures { OnOk result (out.new.items ≡ out.old.items ++ row T.text item.now at) }
-{
-    put(out, b"<g class=\"", &[])?;
-    item.put(Look::Class, out)?;
-    let corners = [
-        Number(at.left),
-        Number(at.top),
-        Number(at.right),
-        Number(at.bottom),
-    ];
-    let template = b"\"><path d=\"M@0 @1H@2V@3H@0Z\"/><text x=\"@0\" y=\"@1\" dx=\"6\" dy=\"11\">";
-    put(out, template, &corners)?;
-    item.put(Look::Label, out)?;
-    put(out, b"</text></g>\n", &[])?;
     Ok(())
 }

@@ -2,9 +2,8 @@
 
 use crate::parts::{Look, Part};
 use crate::pieces::{Piece, put, shown_length};
-use crate::queues::QueueRow;
 use crate::svg::block::{Area, Block, Px, Row, Seat};
-use smx_types::{ConfigView, DriverSpec, LinkLine, NoMemory};
+use smx_types::{LinkLine, NoMemory};
 use std::alloc::Global;
 use std::num::Saturating;
 
@@ -43,20 +42,11 @@ pub struct Plan {
     pub ways: Vec<Way>,
     pub width: Px,
     pub height: Px,
-    // The rows: the seat of each, and the length of its label.
-    rows: Vec<(Seat, u32)>,
-    // A buffer for labels whose lengths are measured.
-    text: Vec<u8>,
 }
 
 impl Plan {
-    /// Makes the plan of a picture. Fails only if it is out of memory.
-    pub fn new(
-        alloc: Global,
-        drivers: &[DriverSpec],
-        view: &ConfigView,
-        queues: &[QueueRow],
-    ) -> Result<Plan, NoMemory> {
+    /// Makes the plan of a picture of these parts and links. Fails only if it is out of memory.
+    pub fn new(alloc: Global, parts: &[Part], links: &[LinkLine]) -> Result<Plan, NoMemory> {
         let mut plan = Plan {
             blocks: Vec::new(alloc),
             frames: Vec::new(alloc),
@@ -64,55 +54,29 @@ impl Plan {
             ways: Vec::new(alloc),
             width: Saturating(0),
             height: Saturating(0),
-            rows: Vec::new(alloc),
-            text: Vec::new(alloc),
         };
-        plan.add_all(drivers)?;
-        plan.add_all(view.links.as_slice())?;
-        plan.add_all(view.hungs.as_slice())?;
-        plan.add_all(view.routes.as_slice())?;
-        plan.add_all(view.fds.as_slice())?;
-        plan.add_all(view.binds.as_slice())?;
-        plan.add_all(queues)?;
-        plan.add_all(view.fulls.as_slice())?;
-        plan.arrange(alloc, view.links.as_slice())?;
+        plan.add_blocks(alloc, parts, links)?;
+        plan.add_rows(alloc, parts)?;
+        plan.add_names(alloc)?;
+        plan.add_ways(links)?;
+        plan.place()?;
+        plan.route();
         Ok(plan)
     }
 
-    fn add_all<T: Part>(&mut self, items: &[T]) -> Result<(), NoMemory> {
-        for item in items {
-            self.text.clear();
-            item.put(Look::Label, &mut self.text)?;
-            let length = shown_length(self.text.as_slice());
-            self.rows.push((item.seat(), length))?;
-        }
-        Ok(())
-    }
-
-    // Makes the blocks of the rows that were added, and those of these links. Gives the blocks and the links their
-    // places.
-    fn arrange(&mut self, alloc: Global, links: &[LinkLine]) -> Result<(), NoMemory> {
-        self.add_blocks(alloc, links)?;
-        for (seat, length) in self.rows.as_slice() {
-            let at = find(&self.blocks, seat);
-            if let Some(block) = self.blocks.get_mut(at) {
-                block.add_row(seat.row, *length);
-            }
-        }
-        self.add_names()?;
-        self.add_ways(links)?;
-        self.place()?;
-        self.route();
-        Ok(())
-    }
-
-    // Adds the blocks of the driver and the stream of each row, and of the controlling stream of each link and its
+    // Adds the blocks of the driver and the stream of each part, and of the controlling stream of each link and its
     // driver.
-    fn add_blocks(&mut self, alloc: Global, links: &[LinkLine]) -> Result<(), NoMemory> {
+    fn add_blocks(
+        &mut self,
+        alloc: Global,
+        parts: &[Part],
+        links: &[LinkLine],
+    ) -> Result<(), NoMemory> {
         let mut seats = Vec::new(alloc);
-        for (seat, _) in self.rows.as_slice() {
+        for part in parts {
+            let seat = part.seat();
             seats.push(Seat::of_driver(&seat.driver, Row::Name))?;
-            seats.push(*seat)?;
+            seats.push(seat)?;
         }
         for link in links {
             seats.push(Seat::of_driver(&link.ctl_driver, Row::Name))?;
@@ -134,15 +98,30 @@ impl Plan {
         Ok(())
     }
 
+    // Adds the row of each part to its block.
+    fn add_rows(&mut self, alloc: Global, parts: &[Part]) -> Result<(), NoMemory> {
+        let mut label = Vec::new(alloc);
+        for part in parts {
+            label.clear();
+            part.put(Look::Label, &mut label)?;
+            let seat = part.seat();
+            if let Some(block) = self.block(&seat) {
+                block.add_row(seat.row, shown_length(label.as_slice()));
+            }
+        }
+        Ok(())
+    }
+
     // Adds to each column a row with the name of the stream. A stream without other rows counts as closed.
-    fn add_names(&mut self) -> Result<(), NoMemory> {
+    fn add_names(&mut self, alloc: Global) -> Result<(), NoMemory> {
+        let mut name = Vec::new(alloc);
         for block in self.blocks.iter_mut() {
             if let Some(minor) = block.seat.minor() {
-                self.text.clear();
-                let values = [Piece::Name(&block.seat.driver), Piece::Number(minor)];
-                put(&mut self.text, b"@0 @1 closed", &values)?;
+                name.clear();
+                let values = [Piece::Name(block.seat.driver), Piece::Number(minor)];
+                put(&mut name, b"@0 @1 closed", &values)?;
                 block.is_closed = block.height.0 == 0;
-                block.add_row(Row::Name as usize, shown_length(self.text.as_slice()));
+                block.add_row(Row::Name as usize, shown_length(name.as_slice()));
             }
         }
         Ok(())
@@ -153,12 +132,13 @@ impl Plan {
             let from = Seat::of_stream(&link.ctl_driver, link.ctl_minor, Row::Name);
             let upper = Seat::of_driver(&link.ctl_driver, Row::Name);
             let lower = Seat::of_driver(&link.lower_driver, Row::Name);
+            let to = Seat::of_stream(&link.lower_driver, link.lower_minor, Row::Link);
             let way = Way {
                 number,
                 upper: find(&self.blocks, &upper),
                 from: find(&self.blocks, &from),
                 lower: find(&self.blocks, &lower),
-                to: find(&self.blocks, &link.seat()),
+                to: find(&self.blocks, &to),
                 area: Area::default(),
             };
             if let Some(frame) = self.blocks.get_mut(way.upper) {

@@ -3,7 +3,6 @@
 ghost use Rattle.std.specs.Prelude.{◌≡◌, ◌-◌, ◌++◌, OnOk};
 ghost use Rattle.smx_draw.specs.SvgElements.{frame_element, gauge_element, sized_gauge, stream_element, way_element};
 
-use crate::parts::Part;
 use crate::pieces::Piece::{self, Driver, Link, Number};
 use crate::pieces::put;
 use crate::queues::{QueueItem, QueueRow};
@@ -27,7 +26,7 @@ impl Drawn for DriverSpec {
     ghost element = { frame_element };
 
     fn place(&self, plan: &mut Plan) -> Option<Area> {
-        Some(plan.block(&self.seat())?.area())
+        Some(plan.block(&Seat::of_driver(&self.name, Row::Name))?.area())
     }
 
     fn put_at(&self, at: Area, out: &mut Vec<u8>) -> Result<(), NoMemory> {
@@ -54,7 +53,7 @@ impl Drawn for LinkLine {
         let values = [
             Number(self.id),
             Link(self.kind),
-            Piece::Name(&self.ctl_driver),
+            Piece::Name(self.ctl_driver),
             Number(self.ctl_minor),
             Number(at.left),
             Number(at.top),
@@ -84,7 +83,7 @@ impl Drawn for Stream {
             Number(at.top),
             Number(at.right),
             Number(at.bottom),
-            Piece::Name(&self.driver),
+            Piece::Name(self.driver),
             Number(self.minor),
         ];
         let template: &[u8] = if self.is_closed {
