@@ -28,7 +28,7 @@ pub use Rattle.smx_text.specs.TranscriptLines.{TranscriptLine}
 pub use Rattle.smx_words.specs.Words.{LINE_FEED, line_of}
 pub use Rattle.smx_trace.specs.Answers.{HasCome}
 pub use Rattle.smx_trace.specs.Missing.{ComesTo}
-pub use Rattle.smx_trace.specs.Queues.{waits_left, IsLeft, queues_left}
+pub use Rattle.smx_trace.specs.Queues.{IsLeft, queues_left}
 pub use Rattle.smx_trace.specs.Ranks.{is_before}
 pub use Rattle.smx_trace.specs.Replays.{IsReplayOf}
 pub use Rattle.smx_trace.specs.Serials.{same_line, FindsBySerial}

@@ -4,7 +4,7 @@ use Rattle.smx_trace.proofs.Common.{sym, ap, ◌∙◌, arith, append_assoc, inl
 use Rattle.smx_trace.proofs.Common.{if◌then◌else◌, nat_lt, cases_Bool, false_from_ne_true, or_from, or_parts}
 use Rattle.smx_trace.proofs.Common.{nat_tests, flat_map-append, append-nil, DriverSpec, Place, MessageLine}
 use Rattle.smx_trace.proofs.Common.{Configuration, QueuedMessage, is_at, IsDriverList, view_of_message, Wait, wait_at}
-use Rattle.smx_trace.proofs.Common.{LINE_FEED, line_of, IsLeft, queues_left, waits_left, TraceLine, queue_lines}
+use Rattle.smx_trace.proofs.Common.{LINE_FEED, line_of, IsLeft, queues_left, TraceLine, queue_lines}
 use Rattle.std.proofs.Common.{◌≡◌, ℕ, ◌&&◌, List, [], ◌∷◌, ◌++◌, length, map, ◌≤◌, Ok, Err}
 use Rattle.std.specs.List.{cons_option, filter_map}
 use Rattle.std.specs.Fmt.{decimal}
@@ -334,11 +334,11 @@ all_left drivers c text out lines kept is = record {
 }
 
 -- the waits of these messages are that below the first, and those of the others
-pub waits_step : (drivers : List DriverSpec) (c : Configuration) (h : QueuedMessage) (hs : List QueuedMessage)
+waits_step : (drivers : List DriverSpec) (c : Configuration) (h : QueuedMessage) (hs : List QueuedMessage)
     (out new : List ℕ) → new ≡ out ++ trace_lines_text drivers (wait_below drivers c h hs)
-    → new ++ waits_left drivers c hs ≡ out ++ waits_left drivers c (h ∷ hs)
+    → new ++ queues_left false drivers c hs ≡ out ++ queues_left false drivers c (h ∷ hs)
 waits_step drivers c h hs out new e =
-    ap (λ (t : List ℕ). t ++ waits_left drivers c hs) e ∙ append_assoc out _ _
+    ap (λ (t : List ℕ). t ++ queues_left false drivers c hs) e ∙ append_assoc out _ _
     ∙ ap (λ (t : List ℕ). out ++ t) (by_any (list_any (is_at h.place) hs)) where
       by_wait : (o : Option Wait)
           → trace_lines_text drivers (line_by o) ++ waits_text drivers (filter_map (wait_at drivers c) (places_in hs))
@@ -347,19 +347,37 @@ waits_step drivers c h hs out new e =
       by_wait (Some w) = append_assoc (wait_text drivers w) [] _
 
       by_any : (b : Bool)
-          → trace_lines_text drivers (if b then [] else wait_line drivers c h.place) ++ waits_left drivers c hs
+          → trace_lines_text drivers (if b then [] else wait_line drivers c h.place) ++ queues_left false drivers c hs
           ≡ waits_text drivers (filter_map (wait_at drivers c) (if b then places_in hs else h.place ∷ places_in hs))
       by_any true = refl
       by_any false = by_wait (wait_at drivers c h.place)
 
 -- the same of messages and their waits
-pub queues_step : (drivers : List DriverSpec) (c : Configuration) (h : QueuedMessage) (hs : List QueuedMessage)
+queues_step : (drivers : List DriverSpec) (c : Configuration) (h : QueuedMessage) (hs : List QueuedMessage)
     (out mid new : List ℕ)
     → mid ≡ out ++ trace_line_text drivers (trace.Plain (line.Msg (view_of_message drivers h)))
     → new ≡ mid ++ trace_lines_text drivers (wait_below drivers c h hs)
-    → new ++ queues_left drivers c hs ≡ out ++ queues_left drivers c (h ∷ hs)
+    → new ++ queues_left true drivers c hs ≡ out ++ queues_left true drivers c (h ∷ hs)
 queues_step drivers c h hs out mid new e f =
     let Line : List ℕ = trace_line_text drivers (trace.Plain (line.Msg (view_of_message drivers h))) in
-    after_two out mid new (new ++ queues_left drivers c hs) Line _ (queues_left drivers c hs) e f refl
+    after_two out mid new (new ++ queues_left true drivers c hs) Line _ (queues_left true drivers c hs) e f refl
     ∙ ap (λ (t : List ℕ). out ++ (Line ++ t))
     (sym (flat_map-append (trace_line_text drivers) (wait_below drivers c h hs) (queue_lines drivers c hs)))
+
+-- the text of the first message, if it is shown, and its wait are followed by the text of the others
+pub left_step : (shown : Bool) (drivers : List DriverSpec) (c : Configuration) (h : QueuedMessage)
+    (hs : List QueuedMessage) (out mid new : List ℕ)
+    → mid ≡ out ++ (
+    if shown then trace_line_text drivers (trace.Plain (line.Msg (view_of_message drivers h))) else []
+    )
+    → new ≡ mid ++ trace_lines_text drivers (wait_below drivers c h hs)
+    → new ++ queues_left shown drivers c hs ≡ out ++ queues_left shown drivers c (h ∷ hs)
+left_step true drivers c h hs out mid new e f = queues_step drivers c h hs out mid new e f
+left_step false drivers c h hs out mid new e f =
+    waits_step drivers c h hs out new
+    (f ∙ ap (λ (t : List ℕ). t ++ trace_lines_text drivers (wait_below drivers c h hs)) (e ∙ append-nil out))
+
+-- no message has no text
+pub none_left : (shown : Bool) (drivers : List DriverSpec) (c : Configuration) → queues_left shown drivers c [] ≡ []
+none_left true drivers c = refl
+none_left false drivers c = refl

@@ -1,5 +1,5 @@
 -- Queued messages that are left to be written. No public clause needs this.
-use Rattle.std.specs.Prelude.{◌≡◌, ℕ, Bool, false, ◌&&◌, ◌==◌, if◌then◌else◌, List, [], ◌∷◌, ◌++◌, map}
+use Rattle.std.specs.Prelude.{◌≡◌, ℕ, Bool, true, false, ◌&&◌, ◌==◌, if◌then◌else◌, List, [], ◌∷◌, ◌++◌, map}
 use Rattle.std.specs.List.{AllByRecursion, filter_map, list_any}
 use Rattle.std.specs.Str.{bytes_eq}
 use Rattle.smx_types.specs.declared.driver.DriverSpec.{DriverSpec}
@@ -33,13 +33,10 @@ pub record AreQueued (drivers : List DriverSpec) (hs : List QueuedMessage) : Typ
 abbrev pub wait_below : List DriverSpec → Configuration → QueuedMessage → List QueuedMessage → List TraceLine
 wait_below drivers c h hs = if list_any (is_at h.place) hs then [] else wait_line drivers c h.place
 
--- the text of the waits of these messages
-abbrev pub waits_left : List DriverSpec → Configuration → List QueuedMessage → List ℕ
-waits_left drivers c hs = waits_text drivers (filter_map (wait_at drivers c) (places_in hs))
-
--- the text of these messages and their waits
-abbrev pub queues_left : List DriverSpec → Configuration → List QueuedMessage → List ℕ
-queues_left drivers c hs = trace_lines_text drivers (queue_lines drivers c hs)
+-- the text of the waits of these messages, with the messages or without them
+abbrev pub queues_left : Bool → List DriverSpec → Configuration → List QueuedMessage → List ℕ
+queues_left true drivers c hs = trace_lines_text drivers (queue_lines drivers c hs)
+queues_left false drivers c hs = waits_text drivers (filter_map (wait_at drivers c) (places_in hs))
 
 -- the text up to now and the text of the rest are together the whole text
 pub record IsLeft (drivers : List DriverSpec) (flow : List QueuedMessage) (text : List QueuedMessage → List ℕ)

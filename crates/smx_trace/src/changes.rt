@@ -120,18 +120,6 @@ fn lines_from<'a, T: Ranked>(drivers: &[DriverSpec], lines: &'a [T], line: &T) -
     rest
 }
 
-// If `line` is the first of `lines`, returns the lines after it.
-fn lines_after<'a, T: Same>(lines: &'a [T], line: &T) -> Option<&'a [T]>
-    ensures { MatchOption result (slice_get lines.now 0 ≡ Some line.now → ⊥) (λ rest. lines.now ≡ line.now ∷ rest.now) }
-{
-    let (first, rest) = lines.split_first()?;
-    if first.is_same(line) {
-        Some(rest)
-    } else {
-        None
-    }
-}
-
 // Appends a mark and then `line`, unless `others` has this line. `others` must be in rising order. Returns the rest of
 // `others`, in which the caller goes on to search for the lines that follow `line` in its own list.
 fn write_if_missing<'a, T: Ranked>(
@@ -145,9 +133,9 @@ fn write_if_missing<'a, T: Ranked>(
         line.now others.now rest.now out.old.items out.new.items) }
 {
     let rest = lines_from(drivers, others, line);
-    match lines_after(rest, line) {
-        Some(more) => Ok(more),
-        None => {
+    match rest.split_first() {
+        Some((first, more)) if first.is_same(line) => Ok(more),
+        _ => {
             write_marked(out, mark, line)?;
             Ok(rest)
         }

@@ -9,8 +9,6 @@ mod pieces;
 mod queues;
 mod reasons;
 mod replaying;
-mod tracing;
 
 pub use changes::write_changes;
-pub use replaying::{first_entries, replay};
-pub use tracing::{trace, trace_entry};
+pub use replaying::{first_entries, replay, trace, trace_entry};

@@ -40,23 +40,6 @@ fn with_serial<'a>(
     lines.get(i)
 }
 
-// If no line of `after` has the serial of `line`, appends `line` as gone. Fails only if out of memory.
-fn write_if_gone(
-    out: &mut Vec<u8>,
-    line: &MessageLine,
-    index: &IndexMap<u32, usize>,
-    after: &[MessageLine],
-) -> Result<(), NoMemory>
-    requires { FindsBySerial (get nat_eq index.now) after.now after.now }
-    ensures { OnOk result (out.new.items ≡ out.old.items ++ changes_text
-        (map (λ m. change.Gone (change.Msg m)) (missing_from same_serial (line.now ∷ []) after.now))) }
-{
-    match with_serial(index, after, line.message.serial) {
-        Some(_) => Ok(()),
-        None => write_marked(out, b"  - ", line),
-    }
-}
-
 // Appends the lines of the messages that are gone. Fails only if out of memory.
 fn write_gone(
     alloc: Global,
@@ -69,7 +52,10 @@ fn write_gone(
 {
     let index = index_of(alloc, after)?;
     for line in before {
-        write_if_gone(out, line, &index, after)?;
+        match with_serial(&index, after, line.message.serial) {
+            Some(_) => {}
+            None => write_marked(out, b"  - ", line)?,
+        }
     }
     Ok(())
 }
@@ -87,25 +73,6 @@ fn write_moved(out: &mut Vec<u8>, was: &MessageLine, now: &MessageLine) -> Resul
     put(out, b"\n")
 }
 
-// If the message of `line` moved or is new, appends the line of this change. Fails only if out of memory.
-fn write_arrival(
-    out: &mut Vec<u8>,
-    before: &[MessageLine],
-    index: &IndexMap<u32, usize>,
-    line: &MessageLine,
-) -> Result<(), NoMemory>
-    requires index { FindsBySerial (get nat_eq index.now) before.now before.now }
-    requires apart { AreSerialsApart before.now }
-    ensures { OnOk result (out.new.items ≡ out.old.items ++ changes_text
-        (map (arrival_change before.now) (missing_from same_line (line.now ∷ []) before.now))) }
-{
-    match with_serial(index, before, line.message.serial) {
-        None => write_marked(out, b"  + ", line),
-        Some(was) if was.is_same(line) => Ok(()),
-        Some(was) => write_moved(out, was, line),
-    }
-}
-
 // Appends the lines of the messages that moved or are new. Fails only if out of memory.
 fn write_arrivals(
     alloc: Global,
@@ -119,7 +86,11 @@ fn write_arrivals(
 {
     let index = index_of(alloc, before)?;
     for line in after {
-        write_arrival(out, before, &index, line)?;
+        match with_serial(&index, before, line.message.serial) {
+            None => write_marked(out, b"  + ", line)?,
+            Some(was) if was.is_same(line) => {}
+            Some(was) => write_moved(out, was, line)?,
+        }
     }
     Ok(())
 }

@@ -6,10 +6,8 @@ ghost use Rattle.smx_model.specs.DriverList.{IsDriverList};
 ghost use Rattle.smx_model.specs.KeptConfigurations.{IsKept};
 ghost use Rattle.smx_model.specs.KnownStreams.{IsKnown};
 ghost use Rattle.smx_model.specs.Views.{view_of_message};
-ghost use Rattle.smx_model.specs.Waits.{waits};
-ghost use Rattle.smx_trace.specs.Queues.{AreQueued, begins_with_place, wait_below};
-ghost use Rattle.smx_trace.specs.TraceWords.{waits_text};
-ghost use Rattle.smx_trace.specs.Traces.{queue_lines, trace_lines_text};
+ghost use Rattle.smx_trace.specs.Queues.{AreQueued, begins_with_place, queues_left, wait_below};
+ghost use Rattle.smx_trace.specs.Traces.{trace_lines_text};
 
 use crate::reasons::write_wait;
 use smx_config::Config;
@@ -70,41 +68,25 @@ fn write_wait_of_last(
     }
 }
 
-/// Appends the `waits` lines of all queues, indented by two spaces. `lines` must be the lines of all queued messages.
-/// Fails only if out of memory.
-pub fn write_waits(
-    out: &mut Vec<u8>,
-    config: &Config,
-    lines: &[MessageLine],
-) -> Result<(), NoMemory>
-    requires kept { IsKept config.now.drivers config.now.configuration }
-    requires lines { lines.now ≡ map (view_of_message config.now.drivers) config.now.configuration.flow }
-    ensures { OnOk result (out.new.items ≡ out.old.items
-        ++ waits_text config.now.drivers (waits config.now.drivers config.now.configuration)) }
-{
-    let mut rest = lines;
-    'lines: while let Some((line, more)) = rest.split_first() {
-        write_wait_of_last(out, config, line, more)?;
-        rest = more;
-    }
-    Ok(())
-}
-
-/// Appends `lines`, which must be the lines of all queued messages. After the last line of each queue comes its `waits`
-/// line, indented by two spaces. Fails only if out of memory.
+/// Appends the `waits` lines of all queues, indented by two spaces. `lines` must be the lines of all queued messages. If
+/// `with_messages` is set, appends these lines too: the `waits` line of a queue comes after the last of its lines. Fails
+/// only if out of memory.
 pub fn write_queues(
     out: &mut Vec<u8>,
     config: &Config,
     lines: &[MessageLine],
+    with_messages: bool,
 ) -> Result<(), NoMemory>
     requires kept { IsKept config.now.drivers config.now.configuration }
     requires lines { lines.now ≡ map (view_of_message config.now.drivers) config.now.configuration.flow }
-    ensures { OnOk result (out.new.items ≡ out.old.items ++ trace_lines_text config.now.drivers
-        (queue_lines config.now.drivers config.now.configuration config.now.configuration.flow)) }
+    ensures { OnOk result (out.new.items ≡ out.old.items ++ queues_left with_messages config.now.drivers
+        config.now.configuration config.now.configuration.flow) }
 {
     let mut rest = lines;
     'lines: while let Some((line, more)) = rest.split_first() {
-        line.write_line(out)?;
+        if with_messages {
+            line.write_line(out)?;
+        }
         write_wait_of_last(out, config, line, more)?;
         rest = more;
     }

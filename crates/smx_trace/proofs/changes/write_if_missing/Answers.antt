@@ -10,9 +10,9 @@ returns-in-Some g c =
     (λ line. marked c.args.mark.now (g.T.Spell.words line)) c.args.line.now c.args.others.now
     c.lines_from-rest.result.now c.in-Some.more.now c.args.out.now.items c.lines_from-rest.ensures.passed parts
 
-pub returns-in_ok-write_marked-in-None : goal.returns-in_ok-write_marked-in-None
-returns-in_ok-write_marked-in-None g c =
+pub returns-in_ok-write_marked-in_default : goal.returns-in_ok-write_marked-in_default
+returns-in_ok-write_marked-in_default g c =
     step_missing (g.T.Ranked.rank c.args.drivers.now) g.T.PartialEq.eq g.met.T.Same.tells
     (λ line. marked c.args.mark.now (g.T.Spell.words line)) c.args.line.now c.args.others.now
     c.lines_from-rest.result.now c.args.out.now.items c.write_marked.new.out.items c.lines_from-rest.ensures.passed
-    c.lines_from-rest.ensures.starts c.in-None.ensures c.in_ok-write_marked-in-None.ensures
+    c.lines_from-rest.ensures.starts (λ k. search rules) c.in_ok-write_marked-in_default.ensures

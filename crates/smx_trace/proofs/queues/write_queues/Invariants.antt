@@ -7,4 +7,4 @@ decreases-lines l = length l.rest
 
 abbrev pub invariant-lines : goal.invariant-lines
 invariant-lines l = IsLeft l.config.drivers l.config.configuration.flow
-    (queues_left l.config.drivers l.config.configuration) l.initial.out.items l.out.items l.rest
+    (queues_left l.with_messages l.config.drivers l.config.configuration) l.initial.out.items l.out.items l.rest

@@ -3,7 +3,7 @@ use Rattle.std.proofs.Common.{◌≡◌}
 use Rattle.std.proofs.lemmas.Result.{err_from_is_err_and}
 use Rattle.smx_config.specs.DriverFaults.{RefusesDrivers}
 use Rattle.smx_trace.proofs.TraceLemmas.{trace_begun, whole_trace}
-use Rattle.smx_trace.proofs.tracing.trace.Goals as goal
+use Rattle.smx_trace.proofs.replaying.trace.Goals as goal
 
 pub returns-clause-written : goal.returns-clause-written
 returns-clause-written c =

@@ -1,7 +1,7 @@
 use Rattle.std.specs.Prelude.{ℕ, List, [], take}
 use Rattle.smx_types.specs.declared.driver.DriverSpec.{DriverSpec}
 use Rattle.smx_trace.specs.Tracing.{HasTraced, IsNow}
-use Rattle.smx_trace.proofs.tracing.trace_all.Given as goal
+use Rattle.smx_trace.proofs.replaying.trace_all.Given as goal
 
 abbrev pub invariant-loop-entry : goal.invariant-loop-entry
 invariant-loop-entry l = record {

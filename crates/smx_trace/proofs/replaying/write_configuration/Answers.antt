@@ -1,7 +1,7 @@
 use Rattle.std.proofs.Common.{◌∷◌, [], ◌∙◌, append_assoc}
 use Rattle.smx_words.specs.Words.{LINE_FEED}
 use Rattle.smx_trace.proofs.TraceLemmas.{configuration_written}
-use Rattle.smx_trace.proofs.tracing.write_configuration.Goals as goal
+use Rattle.smx_trace.proofs.replaying.write_configuration.Goals as goal
 
 pub returns : goal.returns
 returns c =

@@ -1,6 +1,6 @@
 use Rattle.std.proofs.lemmas.List.{take_all, take_more}
 use Rattle.smx_trace.proofs.TraceLemmas.{traced_more}
-use Rattle.smx_trace.proofs.tracing.trace_all.Goals as goal
+use Rattle.smx_trace.proofs.replaying.trace_all.Goals as goal
 
 pub loop-entry-init : goal.loop-entry-init
 loop-entry-init c = record {
