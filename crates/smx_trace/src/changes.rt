@@ -5,7 +5,7 @@ ghost use Rattle.std.specs.List.{flat_map};
 ghost use Rattle.smx_types.specs.declared.driver.DriverSpec.{DriverSpec as AnyDriver};
 ghost use Rattle.smx_model.specs.Changes.{changes, missing_from};
 ghost use Rattle.smx_model.specs.Configuration.{pair_before};
-ghost use Rattle.smx_trace.specs.Missing.{ComesTo, StartsAt, StepsTo};
+ghost use Rattle.smx_trace.specs.Missing.{ComesTo, StartsAt};
 ghost use Rattle.smx_trace.specs.Ranks.{IsRanked, bind_rank, fd_rank, full_rank, hung_rank, link_rank, number_of};
 ghost use Rattle.smx_trace.specs.Ranks.{route_rank};
 ghost use Rattle.smx_trace.specs.ShownViews.{IsShown};
@@ -120,28 +120,6 @@ fn lines_from<'a, T: Ranked>(drivers: &[DriverSpec], lines: &'a [T], line: &T) -
     rest
 }
 
-// Appends a mark and then `line`, unless `others` has this line. `others` must be in rising order. Returns the rest of
-// `others`, in which the caller goes on to search for the lines that follow `line` in its own list.
-fn write_if_missing<'a, T: Ranked>(
-    out: &mut Vec<u8>,
-    drivers: &[DriverSpec],
-    mark: &[u8],
-    line: &T,
-    others: &'a [T],
-) -> Result<&'a [T], NoMemory>
-    ensures { IfOk result (λ rest. StepsTo (T.rank drivers.now) T.eq (λ line. marked mark.now (T.words line))
-        line.now others.now rest.now out.old.items out.new.items) }
-{
-    let rest = lines_from(drivers, others, line);
-    match rest.split_first() {
-        Some((first, more)) if first.is_same(line) => Ok(more),
-        _ => {
-            write_marked(out, mark, line)?;
-            Ok(rest)
-        }
-    }
-}
-
 // For each of `lines` that is not in `others`, appends the mark and then the line. Both lists must be in rising order.
 fn write_missing<T: Ranked>(
     out: &mut Vec<u8>,
@@ -157,7 +135,11 @@ fn write_missing<T: Ranked>(
 {
     let mut rest = others;
     for line in lines {
-        rest = write_if_missing(out, drivers, mark, line, rest)?;
+        rest = lines_from(drivers, rest, line);
+        match rest.split_first() {
+            Some((first, more)) if first.is_same(line) => rest = more,
+            _ => write_marked(out, mark, line)?,
+        }
     }
     Ok(())
 }

@@ -1,4 +1,4 @@
-use Rattle.std.proofs.Common.{rules, sym}
+use Rattle.std.proofs.Common.{sym}
 use Rattle.smx_model.specs.Changes.{same_serial}
 use Rattle.smx_model.specs.Changes as change
 use Rattle.smx_trace.proofs.SerialLemmas.{gone_text, kept_text, one_more_change}
