@@ -38,6 +38,16 @@ first_some : (ms : List Message) (m : Message) → Some m ≡ slice_get ms 0 →
 first_some [] m e = absurd (cc)
 first_some (x ∷ ms) m e = omega arith
 
+-- a list without a first message is empty
+pub none_first : (ms : List Message) → slice_get ms 0 ≡ None → ms ≡ []
+none_first [] e = refl
+none_first (x ∷ ms) e = absurd cc
+
+-- after setting a place's queue, the place is still there, and this queue is there
+pub place_set : (queues : List (Option Queue)) (p : ℕ) (q : Queue) → IsPlace queues p
+    → IsPlace (with_queue queues p q) p × (queue_at (with_queue queues p q) p ≡ q)
+place_set queues p q is = grind (arith, place_below, get_or-set_same, set_at)
+
 -- the place is still there, and it will be the same without messages; each message that left freed an entry
 pub record IsClearing (old new : QueueTable) (p : ℕ) : Type 0 where
   pub there : IsPlace new.queues p

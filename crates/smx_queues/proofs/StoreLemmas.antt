@@ -16,13 +16,15 @@ use Rattle.smx_types.specs.declared.message.Message.{Message}
 use Rattle.smx_model.specs.Queues.{bytes_of}
 use Rattle.smx_queues.specs.declared.chain.Node.{Node}
 use Rattle.smx_queues.specs.declared.chain.Chain.{Chain}
-use Rattle.smx_queues.specs.QueueTable.{IsPlace, Queue, queue_at, with_arrival, without_front}
+use Rattle.smx_queues.specs.QueueTable.{IsPlace, Queue, QueueTable, queue_at, with_arrival, with_queue, without_front}
+use Rattle.smx_queues.specs.QueueTable.{without_messages}
 use Rattle.smx_queues.specs.Chains.{HasBytesThatFit, HasMessages, IsChain, IsQueue, IsSound, IsStore, chain_at}
 use Rattle.smx_queues.specs.Chains.{chain_with_last, chain_without_first, no_chain, slot_of, walk, with_follower}
 use Rattle.smx_queues.specs.Slots.{message_total, messages_in}
 use Rattle.smx_queues.proofs.ChainLemmas.{chain_more, first_with_is, frame, keys_differ, last_owner, owned, owned-other}
 use Rattle.smx_queues.proofs.ChainLemmas.{owned-same, walk_chain}
 use Rattle.smx_queues.proofs.FollowLemmas.{followed, node_from}
+use Rattle.smx_queues.proofs.QueueTableLemmas.{IsClearing, place_set, set_again}
 
 -- the number of bytes of a message
 abbrev pub size : Message → ℕ
@@ -401,6 +403,31 @@ remarked s chains sound p there none chain read exists marked =
     let n = reset s chains sound p (record chain { there = exists; full = marked }) a.below count
     (has_none _ has.count has.bytes has.high_bounded has.low_below) in
     seen_now (record { store = n.store; is = n.is ∙ rw a.seen refl })
+
+-- if a place has no messages left and loses its full mark, contracts see it cleared
+pub unmarked : (s : Slab Node) (chains : List Chain) (sound : IsSound s chains) (old now : QueueTable) (p : ℕ)
+    → IsClearing old now p → map (slot_of s) chains ≡ now.queues → (queue_at now.queues p).messages ≡ []
+    → (chain : Chain) → chain ≡ get_or chains p chain
+    → IsSeen s (set chains p (record chain { full = false }))
+    (with_queue old.queues p (without_messages (queue_at old.queues p)))
+unmarked s chains sound old now p c same none chain read =
+    let is : IsPlace (map (slot_of s) chains) p = rw same c.there in
+    let empty : (queue_at (map (slot_of s) chains) p).messages ≡ [] = rw same none in
+    let there = (place_at sound.own s chains 0 sound.store p is chain read).there in
+    let seen = remarked s chains sound p is empty chain read true false in
+    rw (← c.cleared, ← same) (rw there seen)
+
+-- if a cleared place goes, contracts see no place there
+pub dropped : (s : Slab Node) (chains : List Chain) (sound : IsSound s chains) (old : List (Option Queue)) (p : ℕ)
+    → IsPlace old p → map (slot_of s) chains ≡ with_queue old p (without_messages (queue_at old p)) → (chain : Chain)
+    → chain ≡ get_or chains p chain → IsSeen s (set chains p (record chain { there = false })) (set old p None)
+dropped s chains sound old p there same chain read =
+    let q = without_messages (queue_at old p) in
+    let after = place_set old p q there in
+    let is : IsPlace (map (slot_of s) chains) p = rw same after.0 in
+    let empty : (queue_at (map (slot_of s) chains) p).messages ≡ [] = rw same (ap (λ (x : Queue). x.messages) after.1) in
+    let seen = remarked s chains sound p is empty chain read false chain.full in
+    rw (← set_again old p (Some q) None, ← same) seen
 
 -- if a chain without nodes gets the number of a place that has gone, contracts see its queue there
 pub again : (s : Slab Node) (chains : List Chain) (sound : IsSound s chains) (p : ℕ) (after : Chain) → p < length chains

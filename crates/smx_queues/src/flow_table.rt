@@ -137,10 +137,8 @@ impl FlowTable {
     pub fn front(&self, place: Place) -> Option<&Message>
         ensures { option_copied result ≡ first_message self.now.flow place }
     {
-        match self.places.number(place) {
-            Some(p) => self.queues.front(p),
-            None => None,
-        }
+        let p = self.places.number(place)?;
+        self.queues.front(p)
     }
 
     /// Makes sure that there is room for one message. Fails only if out of memory.
@@ -170,10 +168,8 @@ impl FlowTable {
         ensures left { OnSome result (self.new ≡ record (after_leaving self.old place) { spare = self.new.spare }) }
         ensures none { IfNone result (self.new ≡ self.old) }
     {
-        match self.places.number(place) {
-            Some(p) => self.queues.take(p),
-            None => None,
-        }
+        let p = self.places.number(place)?;
+        self.queues.take(p)
     }
 
     /// Moves the first message of place number `from` to the end of the queue of place number `to`, which is not full.

@@ -65,15 +65,6 @@ fn marks_of(drivers: &[DriverSpec], driver: u8) -> (usize, usize)
     (d.high as usize, d.low as usize)
 }
 
-// Returns the number of minors of a driver that exists.
-fn minors_at(drivers: &[DriverSpec], driver: usize) -> u8
-    requires list { IsDriverList drivers.now }
-    requires there { driver < length drivers.now }
-    ensures { result ≡ minors_of drivers.now driver }
-{
-    drivers[driver].minors as u8
-}
-
 // Appends both sides of each stream of a driver, for the minors below `minors`.
 fn push_sides(places: &mut Vec<Place>, driver: u8, minors: u8) -> Result<(), NoMemory>
     ensures { OnOk result (places.new.items ≡ places.old.items ++ sides_of driver minors) }
@@ -101,7 +92,7 @@ impl Places {
         let mut rows = Vec::with_capacity(alloc, drivers.len())?;
         let mut places = Vec::new(alloc);
         for i in 0..drivers.len() {
-            let minors = minors_at(drivers, i);
+            let minors = drivers[i].minors as u8;
             rows.push(DriverRow {
                 first: places.len(),
                 minors: minors as usize,

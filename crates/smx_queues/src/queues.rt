@@ -12,7 +12,7 @@ ghost use Rattle.smx_queues.specs.QueueTable.{with_queue, with_arrival, without_
 
 use crate::chain::{Chain, Node, first_gone};
 use slab::Slab;
-use smx_types::{Bytes, Message, NoMemory};
+use smx_types::{Message, NoMemory};
 use std::alloc::Global;
 use std::marker::Model;
 
@@ -24,22 +24,6 @@ fn follow(nodes: &mut Slab<Node>, chain: Chain, key: usize)
     if chain.count > 0 {
         nodes[chain.last].next = key;
     }
-}
-
-// Returns the message, and the number of its bytes. This number is below 2^63, as the length of any vector is.
-fn sized(message: Message) -> (Message, usize)
-    ensures same { result.0 ≡ message }
-    ensures size { result.1 ≡ length message.bytes }
-    ensures few { result.1 < 2 ^ 63 }
-{
-    let bytes = message.bytes.into_vec();
-    let size = bytes.len();
-    let message = Message {
-        serial: message.serial,
-        addr: message.addr,
-        bytes: Bytes::from_vec(bytes),
-    };
-    (message, size)
 }
 
 /// The number of a place, from 0 on.
@@ -116,25 +100,14 @@ impl Queues {
     }
 
     /// Removes the place with its messages. Does nothing if there is no place with this number. Does not allocate.
-    #[tactic(auto, using(crate::proofs::QueueTableLemmas::set_again))]
     pub fn drop_place(&mut self, p: PlaceId)
         ensures gone { self.new.queues ≡ slice_set self.old.queues p None }
         ensures spare { self.new.spare ≡ self.old.spare + length (queue_at self.old.queues p).messages }
     {
         if self.has_place(p) {
             self.clear(p);
-            self.drop_empty(p);
+            self.chains[p].there = false;
         }
-    }
-
-    // Removes a place without messages.
-    fn drop_empty(&mut self, p: PlaceId)
-        requires place { IsPlace self.old.queues p }
-        requires none { (queue_at self.old.queues p).messages ≡ [] }
-        ensures gone { self.new.queues ≡ slice_set self.old.queues p None }
-        ensures spare { self.new.spare ≡ self.old.spare }
-    {
-        self.chains[p].there = false;
     }
 
     /// Makes sure that a node is reserved for one message. Fails only if out of memory.
@@ -164,22 +137,7 @@ impl Queues {
             ≡ with_queue self.old.queues p (with_arrival (queue_at self.old.queues p) message) }
         ensures spare { self.old.spare ≡ self.new.spare + 1 }
     {
-        let (message, size) = sized(message);
-        self.append(p, message, size);
-    }
-
-    // Adds a message of `size` bytes at the end of the queue of a place that is not full.
-    fn append(&mut self, p: PlaceId, message: Message, size: usize)
-        requires place { IsPlace self.old.queues p }
-        requires open { (queue_at self.old.queues p).full ≡ false }
-        requires size { size ≡ length message.bytes }
-        requires some { 0 < size }
-        requires few { size < 2 ^ 63 }
-        requires spare { 0 < self.old.spare }
-        ensures put { self.new.queues
-            ≡ with_queue self.old.queues p (with_arrival (queue_at self.old.queues p) message) }
-        ensures spare { self.old.spare ≡ self.new.spare + 1 }
-    {
+        let size = message.bytes.as_slice().len();
         let chain = self.chains[p];
         let key = self.nodes.insert_reserved(Node { message, next: 0 });
         follow(&mut self.nodes, chain, key);
@@ -237,17 +195,6 @@ impl Queues {
         ensures spare { self.new.spare ≡ self.old.spare + length (queue_at self.old.queues p).messages }
     {
         while let Some(_message) = self.take(p) {}
-        self.unmark(p);
-    }
-
-    // Removes the full mark of a place without messages.
-    fn unmark(&mut self, p: PlaceId)
-        requires place { IsPlace self.old.queues p }
-        requires none { (queue_at self.old.queues p).messages ≡ [] }
-        ensures unmarked { self.new.queues
-            ≡ with_queue self.old.queues p (without_messages (queue_at self.old.queues p)) }
-        ensures spare { self.new.spare ≡ self.old.spare }
-    {
         self.chains[p].full = false;
     }
 

@@ -87,16 +87,6 @@ impl Rings {
         self.owners[p] = 0;
     }
 
-    // Takes the number out of its ring, if it is in one.
-    fn leave(&mut self, p: usize)
-        requires { p < self.old.count }
-        ensures { self.new ≡ record self.old { owners = slice_set self.old.owners p 0 } }
-    {
-        if self.owners[p] != 0 {
-            self.remove(p);
-        }
-    }
-
     /// Puts number p into the ring of q, and takes it out of any other ring. Takes no memory.
     pub fn enter(&mut self, p: usize, q: usize)
         requires p { p < self.old.count }
@@ -104,7 +94,9 @@ impl Rings {
         ensures { self.new ≡ record self.old { owners = slice_set self.old.owners p (suc q) } }
     {
         if self.owners[p] != q + 1 {
-            self.leave(p);
+            if self.owners[p] != 0 {
+                self.remove(p);
+            }
             self.insert(p, q);
         }
     }

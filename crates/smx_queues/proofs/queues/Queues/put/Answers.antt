@@ -6,8 +6,8 @@ use Rattle.smx_queues.specs.QueueTable.{queue_at, with_arrival}
 use Rattle.smx_queues.proofs.FollowLemmas.{node_from}
 use Rattle.smx_queues.proofs.StoreLemmas.{IsAt, IsSeen, attached, last_there, open_count, place_at, read_twice}
 use Rattle.smx_queues.proofs.StoreLemmas.{seen_now}
-use Rattle.smx_queues.proofs.queues.Queues.append.Goals as goal
-use Rattle.smx_queues.proofs.queues.Queues.append.Goals.{After-index-chain, After-add_last}
+use Rattle.smx_queues.proofs.queues.Queues.put.Goals as goal
+use Rattle.smx_queues.proofs.queues.Queues.put.Goals.{After-index-chain, After-add_last}
 
 -- the chain that was read is the chain of the place
 at : (c : After-index-chain) → IsAt c.self.invariant.own c.self.inside.nodes c.self.inside.chains.items c.args.p
@@ -25,11 +25,12 @@ put c =
     c.index-chain.ensures in
     let same = read_twice _ _ _ _ a.below c.index-chain.ensures c.index_mut.ensures.value in
     let new = c.insert_reserved-key in
-    rw (c.add_last.ensures, same, c.requires.size, c.follow.ensures) (seen_now (attached _ _ new.new.self _ 0 _ _
+    let few = rw c.as_slice-size.ensures at c.as_slice-size.type_inv.1 in
+    rw (c.add_last.ensures, same, c.as_slice-size.ensures, c.follow.ensures) (seen_now (attached _ _ new.new.self _ 0 _ _
     new.result (node_from c.args.message 0) c.self.invariant.store a
     (λ x i r n at _ _ e. let v = ap (get c.self.inside.nodes) e ∙ new.ensures.was_vacant in absurd (cc))
     new.ensures.updates.others new.ensures.updates.changed (omega (arith, new.ensures.len))
-    (omega (arith, c.requires.size, c.requires.some)) (omega (arith, c.requires.size, c.requires.few))))
+    c.requires.some (omega (arith, few))))
 
 pub follow-requires : goal.follow-requires
 follow-requires c some =
@@ -53,7 +54,7 @@ add_last-requires-clause-bytes c =
     let a = at (goal.at.add_last-requires-clause-bytes c).After-index-chain in
     let same = read_twice _ _ _ _ a.below c.index-chain.ensures c.index_mut.ensures.value in
     let below = a.queue.has.open_below_high (rw (← c.self.view_is, a.seen) at c.requires.open) in
-    omega (arith, below, a.queue.has.high_bounded, c.requires.few, ap (λ (x : Chain). x.bytes) same)
+    omega (arith, below, a.queue.has.high_bounded, c.as_slice-size.type_inv.1, ap (λ (x : Chain). x.bytes) same)
 
 pub invariant_of-self : goal.invariant_of-self
 invariant_of-self c = (put (goal.at.invariant_of-self c).After-add_last).sound
