@@ -5,7 +5,5 @@ pub mod GridLemmas
 pub mod HungRowLemmas
 pub mod RecordLemmas
 pub mod NameLemmas
-pub mod NextLemmas
 pub mod WentLemmas
 pub mod HungLemmas
-pub mod HungNextLemmas

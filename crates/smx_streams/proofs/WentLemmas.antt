@@ -1,13 +1,47 @@
--- The streams that cease to exist when descriptors are closed.
-use Rattle.smx_model.proofs.Common.{◌≡◌, ℕ, ◌+◌, true, false, ◌&&◌, not, eqb, List, [], ◌∷◌, find, filter, Option, Some}
-use Rattle.smx_model.proofs.Common.{None, refl, sym, ap, ◌∙◌, arith, inl, inr, option_map, cases_Bool, false≢true}
+-- The descriptors that are left, and the streams that cease to exist, when descriptors are closed.
+use Rattle.smx_model.proofs.Common.{◌≡◌, ℕ, suc, ◌+◌, ◌<◌, ◌≤◌, Bool, true, false, ◌&&◌, not, eqb, List, [], ◌∷◌, find}
+use Rattle.smx_model.proofs.Common.{filter, Option, Some, None, refl, sym, ap, ◌∙◌, arith, inl, inr, nat_lt, All}
+use Rattle.smx_model.proofs.Common.{option_map, cases_Bool, false≢true, MAX_DESCRIPTORS}
 use Rattle.smx_model.proofs.Common.{nat_tests, Descriptor, StreamId, same_stream, is_fd, fd_before, IsRising}
+use Rattle.std.proofs.lemmas.List.Elements.{filter_agree}
 use Rattle.smx_streams.specs.StreamTables.{StreamTable, HasOneLess, exists, is_last, number_at, stream_at}
 use Rattle.smx_streams.specs.TableFields.{names_of}
 use Rattle.smx_streams.proofs.GridLemmas.{same_is, same_self}
-use Rattle.smx_streams.proofs.ListLemmas.{none_goes}
+use Rattle.smx_streams.proofs.ListLemmas.{filter_twice, none_goes}
 use Rattle.smx_streams.proofs.NameLemmas.{named_is_some, names_taken}
-use Rattle.smx_streams.proofs.NextLemmas.{is_closed}
+
+-- filters by two tests that agree on each element are equal
+pub kept_same : (f g : Descriptor → Bool) (ds : List Descriptor) → All (λ d. f d ≡ g d) ds → filter f ds ≡ filter g ds
+kept_same f g [] h = refl
+kept_same f g (d ∷ ds) h =
+    let here : f d ≡ g d = h 0 d (omega arith) in
+    let rest = kept_same f g ds (λ i e lt. h (suc i) e (omega (arith, lt))) in
+    elim (cases_Bool (g d)) [
+      | inl t ↦ rw (here, t) (ap (λ (es : List Descriptor). d ∷ es) rest)
+      | inr n ↦ rw (here, n) rest
+    ]
+
+-- the descriptors of a process that were closed so far
+abbrev pub is_closed : ℕ → ℕ → Descriptor → Bool
+is_closed p n d = eqb d.process p && nat_lt d.fd n
+
+-- one more number
+pub closed_more : (p n : ℕ) (ds : List Descriptor)
+    → filter (λ d. not (is_fd p n d)) (filter (λ d. not (is_closed p n d)) ds)
+    ≡ filter (λ d. not (is_closed p (n + 1) d)) ds
+closed_more p n ds = filter_twice (λ d. not (is_closed p n d)) (λ d. not (is_fd p n d)) ds
+    ∙ filter_agree (λ d. not (is_closed p n d) && not (is_fd p n d)) (λ d. not (is_closed p (n + 1) d))
+    (λ d. grind (arith, nat_tests)) ds
+
+-- no descriptor is closed at first
+pub closed_none : (p : ℕ) (ds : List Descriptor) → ds ≡ filter (λ d. not (is_closed p 0 d)) ds
+closed_none p [] = refl
+closed_none p (d ∷ ds) = grind (arith, is_closed p 0 d, nat_tests, closed_none p ds)
+
+-- all descriptors of the process are closed at the end
+pub closed_all : (p n : ℕ) (ds : List Descriptor) → MAX_DESCRIPTORS ≤ n → All (λ d. d.fd < MAX_DESCRIPTORS) ds
+    → filter (λ d. not (is_closed p n d)) ds ≡ filter (λ d. not (eqb d.process p)) ds
+closed_all p n ds past h = kept_same _ _ ds (λ i d lt. let few = h i d lt in grind (arith, nat_tests))
 
 -- if a descriptor has no stream, there is no descriptor
 none_mapped : (o : Option Descriptor) → option_map (λ d. d.stream) o ≡ None → o ≡ None

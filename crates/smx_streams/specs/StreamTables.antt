@@ -1,5 +1,5 @@
 -- The value of a table of streams, as contracts see it.
-use Rattle.std.specs.Prelude.{◌≡◌, ℕ, ◌+◌, ◌<◌, Bool, true, false, ◌||◌, not, ◌==◌, nat_lt, nat_le, List, [], ◌∷◌}
+use Rattle.std.specs.Prelude.{◌≡◌, ℕ, Bool, true, false, ◌||◌, not, ◌==◌, nat_lt, nat_le, List, []}
 use Rattle.std.specs.Prelude.{length, find, filter, slice_index, slice_index_or}
 use Rattle.std.specs.Prelude.{Option, Some, None, Result, Ok, Err, IsOk, ◌⊎◌, if◌then◌else◌}
 use Rattle.std.specs.List.{list_any, range_with_len}
@@ -7,7 +7,7 @@ use Rattle.std.specs.Option.{option_map, option_map_or}
 use Rattle.smx_types.specs.declared.limits.TheConstants.{MAX_DESCRIPTORS}
 use Rattle.smx_types.specs.declared.stream.Descriptor.{Descriptor}
 use Rattle.smx_types.specs.declared.stream.StreamId.{StreamId}
-use Rattle.smx_model.specs.Configuration.{same_stream, is_fd, fd_before, pair_before, stream_before}
+use Rattle.smx_model.specs.Configuration.{same_stream, is_fd, fd_before, stream_before}
 use Rattle.smx_model.specs.Hangups.{is_hung, with_hung}
 use Rattle.smx_model.specs.Ordered.{IsRising, with_inserted}
 use Rattle.smx_model.specs.Standing.{is_named}
@@ -54,16 +54,6 @@ least_fd fds process = find (λ n. not (list_any (is_fd process n) fds)) (range_
 abbrev pub least_minor : StreamTable → ℕ → Option ℕ
 least_minor t driver =
     find (λ m. not (exists t (record { driver = driver; minor = m }))) (range_with_len 0 (slice_index t.minors driver))
-
--- the descriptors from a number of a process on
-abbrev pub fds_from : ℕ → ℕ → List Descriptor → List Descriptor
-fds_from process fd fds = filter (λ d. not (pair_before d.process d.fd process fd)) fds
-
--- the first of these descriptors, followed by those from the next number on; or there is no such descriptor
-abbrev pub IsNext : List Descriptor → ℕ → ℕ → Option Descriptor → Type 0
-IsNext fds process fd None = fds_from process fd fds ≡ []
-IsNext fds process fd (Some d) =
-    (fds_from process fd fds ≡ d ∷ fds_from d.process (d.fd + 1) fds) × (d.fd < MAX_DESCRIPTORS)
 
 -- a descriptor number and a stream, or the first refusal that applies
 abbrev pub Answer : Type 0

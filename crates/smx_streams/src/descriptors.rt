@@ -1,6 +1,6 @@
 //! The descriptors of all processes.
 
-ghost use Rattle.std.specs.Prelude.{◌≡◌, ◌<◌, ℕ, false, true, not, List, [], length, filter, replicate, Option, None};
+ghost use Rattle.std.specs.Prelude.{◌≡◌, ◌<◌, ◌≤◌, ◌++◌, ℕ, false, true, not, List, [], length, filter, replicate, Option, None};
 ghost use Rattle.std.specs.Prelude.{slice_index, slice_index_or, slice_set, IfNone, IfOk, IsOk, OnOk, OnErr};
 ghost use Rattle.std.specs.List.{list_any};
 ghost use Rattle.smx_types.specs.declared.limits.TheConstants.{MAX_DESCRIPTORS, MAX_PROCESSES};
@@ -8,9 +8,9 @@ ghost use Rattle.smx_types.specs.declared.stream.StreamId.{StreamId as StreamVal
 ghost use Rattle.smx_model.specs.Configuration.{is_fd, fd_before};
 ghost use Rattle.smx_model.specs.Ordered.{with_inserted};
 ghost use Rattle.smx_streams.specs.DescriptorRows.{AreRows, IsListed, Listed, cell_at, listed_of, with_cell};
-ghost use Rattle.smx_streams.specs.DescriptorRows.{with_room_at};
+ghost use Rattle.smx_streams.specs.DescriptorRows.{row_from, rows_from, with_room_at};
 ghost use Rattle.smx_streams.specs.RowRoom.{AreAllOrNone, with_room};
-ghost use Rattle.smx_streams.specs.StreamTables.{stream_at, least_fd, IsNext};
+ghost use Rattle.smx_streams.specs.StreamTables.{stream_at, least_fd};
 
 use smx_types::{Descriptor, MAX_DESCRIPTORS, MAX_PROCESSES, NoMemory, Process, StreamId};
 use std::alloc::Global;
@@ -101,6 +101,42 @@ fn cell_at(processes: &[DescriptorRow], process: Process, fd: u32) -> Option<Str
         Some(numbers) => numbers.get(fd),
         None => None,
     }
+}
+
+// Appends the descriptors of a process, by rising number.
+fn add_fds(
+    processes: &[DescriptorRow],
+    number: u32,
+    fds: &mut Vec<Descriptor>,
+) -> Result<(), NoMemory>
+    requires process { number < MAX_PROCESSES }
+    requires room { length (slice_index_or processes.now number []) ≤ MAX_DESCRIPTORS }
+    ensures { OnOk result (fds.new.items
+        ≡ fds.old.items ++ row_from number 0 (slice_index_or processes.now number [])) }
+{
+    let process = Process::new(number).unwrap();
+    for fd in 0..MAX_DESCRIPTORS {
+        if let Some(stream) = cell_at(processes, process, fd) {
+            fds.push(Descriptor {
+                process,
+                fd,
+                stream,
+            })?;
+        }
+    }
+    Ok(())
+}
+
+// Returns the descriptors of all processes, in order.
+fn fds_of(alloc: Global, processes: &[DescriptorRow]) -> Result<Vec<Descriptor>, NoMemory>
+    requires { AreRows processes.now }
+    ensures { IfOk result (λ v. v.items ≡ rows_from 0 processes.now) }
+{
+    let mut fds = Vec::new(alloc);
+    for number in 0..MAX_PROCESSES {
+        add_fds(processes, number, &mut fds)?;
+    }
+    Ok(fds)
 }
 
 // Sets the cell of a process for this descriptor number. The process has such a cell.
@@ -211,28 +247,11 @@ impl Descriptors {
         Some(stream)
     }
 
-    /// Returns the first descriptor, in the order of processes and numbers, that is at or after this process and
-    /// number. Reads each cell from there up to the cell of the returned descriptor.
-    pub fn next(&self, process: Process, fd: u32) -> Option<Descriptor>
-        requires { IsListed self.now.fds }
-        ensures { IsNext self.now.fds process fd result }
+    /// Returns all descriptors, in the order of processes and numbers.
+    pub fn list(&self, alloc: Global) -> Result<Vec<Descriptor>, NoMemory>
+        ensures { IfOk result (λ v. v.items ≡ self.now.fds) }
     {
-        let mut at = process;
-        let mut number = fd;
-        loop {
-            if number >= MAX_DESCRIPTORS {
-                at = Process::new(at.get() + 1)?;
-                number = 0;
-            } else if let Some(stream) = self.stream_of(at, number) {
-                return Some(Descriptor {
-                    process: at,
-                    fd: number,
-                    stream,
-                });
-            } else {
-                number += 1;
-            }
-        }
+        fds_of(alloc, &self.processes)
     }
 
     pub fn copy(&self, alloc: Global) -> Result<Descriptors, NoMemory>

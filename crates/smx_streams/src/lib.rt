@@ -3,12 +3,10 @@
 #![tactic(auto)]
 
 mod descriptors;
-mod hung_streams;
 mod keys;
 mod records;
 mod stream_fault;
 mod streams;
 
-pub use hung_streams::HungStreams;
 pub use stream_fault::StreamFault;
 pub use streams::{Closed, Streams};

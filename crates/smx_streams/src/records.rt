@@ -1,6 +1,6 @@
 //! The records of streams, found by driver and minor.
 
-ghost use Rattle.std.specs.Prelude.{◌≡◌, ◌≢◌, ◌+◌, ◌-◌, ◌<◌, ◌≤◌, ◌==◌, nat_lt, ◌&&◌, true, false, [], None, Some, map};
+ghost use Rattle.std.specs.Prelude.{◌≡◌, ◌≢◌, ◌+◌, ◌-◌, ◌<◌, ◌≤◌, ◌==◌, ◌++◌, nat_lt, ◌&&◌, true, false, [], None, Some, map};
 ghost use Rattle.std.specs.Prelude.{length, replicate, slice_get, slice_index_or, IfOk, IsOk, OnOk, OnErr};
 ghost use Rattle.std.specs.List.{list_all};
 ghost use Rattle.slab.specs.Slab.{get, Updates};
@@ -8,7 +8,7 @@ ghost use Rattle.smx_types.specs.declared.limits.TheConstants.{MAX_DRIVERS};
 ghost use Rattle.smx_types.specs.declared.stream.StreamId.{StreamId};
 ghost use Rattle.smx_streams.specs.RecordGrids.{key_at, with_key, is_used_and_hung, AreRecords, AreSet, AreSound, Uses};
 ghost use Rattle.smx_streams.specs.RecordGrids.{uses_of, IsRecordOf, IsSet};
-ghost use Rattle.smx_streams.specs.HungRows.{flag_at};
+ghost use Rattle.smx_streams.specs.HungRows.{flag_at, hung_from, hungs_from};
 ghost use Rattle.smx_streams.specs.StreamTables.{is_in_range, number_at};
 
 use crate::keys::Keys;
@@ -203,6 +203,32 @@ impl Records {
             Some(record) => record.hung,
             None => false,
         }
+    }
+
+    // Appends the hung-up streams of a driver, by rising minor.
+    fn add_hungs(&self, driver: u8, hungs: &mut Vec<StreamId>) -> Result<(), NoMemory>
+        requires { driver < length self.now.minors }
+        ensures { OnOk result (hungs.new.items
+            ≡ hungs.old.items ++ hung_from driver 0 (slice_index_or self.now.hungs driver [])) }
+    {
+        for minor in 0..self.drivers[driver as usize].len() {
+            let stream = StreamId { driver, minor };
+            if self.is_hung(stream) {
+                hungs.push(stream)?;
+            }
+        }
+        Ok(())
+    }
+
+    /// Returns the hung-up streams, sorted by driver and minor.
+    pub fn hungs(&self, alloc: Global) -> Result<Vec<StreamId>, NoMemory>
+        ensures { IfOk result (λ v. v.items ≡ hungs_from 0 self.now.hungs) }
+    {
+        let mut hungs = Vec::new(alloc);
+        for driver in 0..self.drivers.len() as u8 {
+            self.add_hungs(driver, &mut hungs)?;
+        }
+        Ok(hungs)
     }
 
     /// Returns whether the stream has a record.

@@ -7,13 +7,12 @@ ghost use Rattle.smx_types.specs.declared.stream.StreamId.{StreamId};
 ghost use Rattle.std.specs.Option.{option_map};
 ghost use Rattle.std.specs.List.{All, list_all};
 ghost use Rattle.smx_streams.specs.StreamTables.{number_at, is_in_range, exists, stream_at, is_last, least_fd};
-ghost use Rattle.smx_streams.specs.StreamTables.{least_minor, numbered, clone_answer, minor_answer, dup_answer, IsNext};
+ghost use Rattle.smx_streams.specs.StreamTables.{least_minor, numbered, clone_answer, minor_answer, dup_answer};
 ghost use Rattle.smx_streams.specs.StreamTables.{IsRefused, HasOneMore, HasOneLess, HasNoneOf, HasHolds, HasHungUp};
 ghost use Rattle.smx_streams.specs.StreamTables.{AreHungsSound};
 ghost use Rattle.smx_model.specs.Hangups.{is_hung};
 
 use crate::descriptors::Descriptors;
-use crate::hung_streams::HungStreams;
 use crate::records::Records;
 use crate::stream_fault::StreamFault;
 use smx_types::{Descriptor, MAX_DESCRIPTORS, NoMemory, Process, StreamId};
@@ -112,11 +111,11 @@ impl Streams {
         self.records.is_hung(stream)
     }
 
-    /// Returns an iterator over the hung-up streams, sorted by driver and minor. Does not allocate.
-    pub fn hungs(&self) -> HungStreams<'_>
-        ensures { result ≡ self.now.hungs }
+    /// Returns the hung-up streams, sorted by driver and minor. Fails only if out of memory.
+    pub fn hungs(&self, alloc: Global) -> Result<Vec<StreamId>, NoMemory>
+        ensures { IfOk result (λ v. v.items ≡ self.now.hungs) }
     {
-        HungStreams::new(&self.records)
+        self.records.hungs(alloc)
     }
 
     /// Returns the number of holds of the stream.
@@ -286,19 +285,11 @@ impl Streams {
         }
     }
 
-    /// Returns the first descriptor, in the order of processes and numbers, that is at or after this process and
-    /// number. Returns `None` if there is none.
-    pub fn next_fd(&self, process: Process, fd: u32) -> Option<Descriptor>
-        ensures { IsNext self.now.fds process fd result }
+    /// Returns all descriptors, in the order of processes and numbers. Fails only if out of memory.
+    pub fn fds(&self, alloc: Global) -> Result<Vec<Descriptor>, NoMemory>
+        ensures { IfOk result (λ v. v.items ≡ self.now.fds) }
     {
-        self.descriptors.next(process, fd)
-    }
-
-    /// Returns the first descriptor, in the order of processes and numbers, if there is one.
-    pub fn first_fd(&self) -> Option<Descriptor>
-        ensures { IsNext self.now.fds 0 0 result }
-    {
-        self.next_fd(Process::new(0).unwrap(), 0)
+        self.descriptors.list(alloc)
     }
 
     /// Counts one more hold of a stream that exists. Does not allocate.

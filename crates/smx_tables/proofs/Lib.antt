@@ -17,7 +17,6 @@ pub mod BelowLemmas
 pub mod DropLemmas
 pub mod DriverNameLemmas
 pub mod DriverListLemmas
-pub mod WalkLemmas
 pub mod KeptLemmas
 pub mod DescriptorLemmas
 pub mod DroppedLemmas

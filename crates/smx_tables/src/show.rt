@@ -26,20 +26,7 @@ fn name_of(drivers: &[DriverSpec], driver: u8) -> Name
     drivers[driver as usize].name
 }
 
-fn descriptor_line(drivers: &[DriverSpec], d: &Descriptor) -> DescriptorLine
-    requires { d.now.stream.driver < length drivers.now }
-    ensures { result ≡ view_of_fd drivers.now d.now }
-{
-    DescriptorLine {
-        process: d.process,
-        fd: d.fd,
-        driver: name_of(drivers, d.stream.driver),
-        minor: u32::from(d.stream.minor),
-    }
-}
-
 // Returns the lines of all descriptors, by rising process, and by rising number within a process.
-#[tactic(auto, using(crate::proofs::WalkLemmas::walk_of_fds))]
 fn descriptor_lines(
     alloc: Global,
     drivers: &[DriverSpec],
@@ -48,11 +35,15 @@ fn descriptor_lines(
     requires { All (λ d. d.stream.driver < length drivers.now) streams.now.fds }
     ensures { IfOk result (λ v. v.items ≡ map (view_of_fd drivers.now) streams.now.fds) }
 {
-    let mut lines = Vec::new(alloc);
-    let mut next = streams.first_fd();
-    while let Some(d) = next {
-        lines.push(descriptor_line(drivers, &d))?;
-        next = streams.next_fd(d.process, d.fd + 1);
+    let list = streams.fds(alloc)?;
+    let mut lines = Vec::with_capacity(alloc, list.len())?;
+    for d in &list {
+        lines.push(DescriptorLine {
+            process: d.process,
+            fd: d.fd,
+            driver: name_of(drivers, d.stream.driver),
+            minor: u32::from(d.stream.minor),
+        })?;
     }
     Ok(lines)
 }
@@ -177,9 +168,9 @@ fn hung_lines(
     requires { All (λ s. s.driver < length drivers.now) streams.now.hungs }
     ensures { IfOk result (λ v. v.items ≡ map (view_of_hung drivers.now) streams.now.hungs) }
 {
-    let mut lines = Vec::new(alloc);
-    let mut rest = streams.hungs();
-    while let Some(stream) = rest.next() {
+    let list = streams.hungs(alloc)?;
+    let mut lines = Vec::with_capacity(alloc, list.len())?;
+    for stream in &list {
         lines.push(HungLine {
             driver: name_of(drivers, stream.driver),
             minor: u32::from(stream.minor),

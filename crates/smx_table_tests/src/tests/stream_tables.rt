@@ -77,9 +77,15 @@ fn the_most_drivers(rt: HostRuntime) {
     forget(table);
 }
 
+fn has_fds(rt: &(impl AllocGlobal + Abort), table: &Streams, wanted: &[Descriptor]) {
+    let fds = table.fds(rt.alloc()).expect(rt, "memory");
+    assert!(rt; fds.as_slice() == wanted);
+    forget(fds);
+}
+
 // Gives process 5 two descriptors of one stream, and process 2 one descriptor of another stream.
-fn open_two(rt: &impl Abort, table: &mut Streams) {
-    assert!(rt; table.first_fd().is_none());
+fn open_two(rt: &(impl AllocGlobal + Abort), table: &mut Streams) {
+    has_fds(rt, table, &[]);
     clones(rt, table, 5, 0, Ok((0, stream(0, 0))));
     clones(rt, table, 2, 0, Ok((0, stream(0, 1))));
     assert!(rt; table.dup(process(rt, 5), 0) == Ok((1, stream(0, 0))));
@@ -92,7 +98,7 @@ fn finds_two(rt: &impl Abort, table: &Streams) {
     assert!(rt; !table.is_last(process(rt, 5), 0));
 }
 
-fn come_in_order(rt: &impl Abort, table: &Streams) {
+fn come_in_order(rt: &(impl AllocGlobal + Abort), table: &Streams) {
     let first = Descriptor {
         process: process(rt, 2),
         fd: 0,
@@ -103,8 +109,7 @@ fn come_in_order(rt: &impl Abort, table: &Streams) {
         fd: 0,
         stream: stream(0, 0),
     };
-    assert!(rt; table.first_fd() == Some(first));
-    assert!(rt; table.next_fd(process(rt, 2), 1) == Some(second));
+    has_fds(rt, table, &[first, second, Descriptor { fd: 1, ..second }]);
 }
 
 // Hangs up the stream, holds it, and then closes its descriptors.
@@ -118,10 +123,10 @@ fn holds(rt: &impl Abort, table: &mut Streams, held: StreamId) {
 }
 
 // Checks that this is the only hung-up stream, and that it no longer exists when its hold is released.
-fn releases(rt: &impl Abort, table: &mut Streams, held: StreamId) {
-    let mut rest = table.hungs();
-    assert!(rt; rest.next() == Some(held));
-    assert!(rt; rest.next().is_none());
+fn releases(rt: &(impl AllocGlobal + Abort), table: &mut Streams, held: StreamId) {
+    let hungs = table.hungs(rt.alloc()).expect(rt, "memory");
+    assert!(rt; hungs.as_slice() == [held].as_slice());
+    forget(hungs);
     assert!(rt; table.holds_of(held) == 1);
     assert!(rt; table.release(held));
     assert!(rt; !table.exists(held));

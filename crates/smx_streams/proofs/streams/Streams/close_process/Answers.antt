@@ -2,8 +2,7 @@ use Rattle.smx_model.proofs.Common.{not, ap, sym, subst, arith, filter, ◌<◌,
 use Rattle.smx_model.proofs.Common.{All, MAX_DESCRIPTORS, Descriptor, is_fd}
 use Rattle.std.proofs.Math.Nat.{eq-zero-or-pos}
 use Rattle.smx_streams.specs.StreamTables.{StreamTable, exists, stream_at}
-use Rattle.smx_streams.proofs.NextLemmas.{closed_none, closed_more, closed_all}
-use Rattle.smx_streams.proofs.WentLemmas.{at_next}
+use Rattle.smx_streams.proofs.WentLemmas.{at_next, closed_all, closed_more, closed_none}
 use Rattle.smx_streams.proofs.HungLemmas.{left_again}
 use Rattle.smx_streams.proofs.streams.Streams.close_process.Goals as goal
 

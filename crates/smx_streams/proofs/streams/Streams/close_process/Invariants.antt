@@ -1,6 +1,6 @@
 use Rattle.smx_model.proofs.Common.{◌≡◌, ℕ, ◌<◌, true, false, Some, not, filter, All, MAX_DESCRIPTORS, StreamId}
 use Rattle.smx_streams.specs.StreamTables.{exists, number_at, stream_at}
-use Rattle.smx_streams.proofs.NextLemmas.{is_closed}
+use Rattle.smx_streams.proofs.WentLemmas.{is_closed}
 use Rattle.smx_streams.proofs.streams.Streams.close_process.Given as goal
 
 abbrev pub invariant-loop-fd : goal.invariant-loop-fd
