@@ -8,7 +8,7 @@ use Rattle.std.proofs.lemmas.List.{get_or-set_same, length-set, length-replicate
 use Rattle.std.proofs.lemmas.List.Elements.{All-cons, All-append, All-set}
 use Rattle.std.proofs.Math.ListN.{get_or-map}
 use Rattle.smx_streams.specs.DescriptorRows.{Rows, AreRows, IsListed, with_cell, row_from, rows_from}
-use Rattle.smx_streams.specs.RowRoom.{AreAllOrNone, with_room}
+use Rattle.smx_streams.specs.DescriptorRows.{AreAllOrNone, with_room}
 use Rattle.smx_streams.proofs.ListLemmas.{comes_both}
 use Rattle.smx_streams.proofs.RowLemmas.{fd_of, later_row, later_rows, any_is_cell}
 

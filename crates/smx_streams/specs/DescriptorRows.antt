@@ -1,13 +1,21 @@
 -- The descriptors of all processes: one row of streams for each process. No public clause needs this.
 use Rattle.std.specs.Prelude.{◌≡◌, ℕ, ◌+◌, ◌<◌, ◌≤◌, List, [], ◌∷◌, ◌++◌, map, length, slice_index_or, slice_set}
-use Rattle.std.specs.Prelude.{Option, Some, None}
+use Rattle.std.specs.Prelude.{replicate, Option, Some, None}
 use Rattle.std.specs.List.{All}
 use Rattle.smx_types.specs.declared.limits.TheConstants.{MAX_DESCRIPTORS, MAX_PROCESSES}
 use Rattle.smx_types.specs.declared.stream.Descriptor.{Descriptor}
 use Rattle.smx_types.specs.declared.stream.StreamId.{StreamId}
 use Rattle.smx_model.specs.Configuration.{fd_before}
 use Rattle.smx_model.specs.Ordered.{IsRising}
-use Rattle.smx_streams.specs.RowRoom.{AreAllOrNone, with_room}
+
+-- cells for all numbers, or for none
+abbrev pub AreAllOrNone : List (Option StreamId) → Type 0
+AreAllOrNone cells = 0 < length cells → length cells ≡ MAX_DESCRIPTORS
+
+-- the same row, with cells for all numbers
+abbrev pub with_room : List (Option StreamId) → List (Option StreamId)
+with_room [] = replicate MAX_DESCRIPTORS None
+with_room (c ∷ cells) = c ∷ cells
 
 -- for each process, a row with a stream or `None` at each descriptor number
 abbrev pub Rows : Type 0

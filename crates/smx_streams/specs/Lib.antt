@@ -1,4 +1,3 @@
-pub mod RowRoom
 pub mod DescriptorRows
 pub mod StreamTables
 pub mod HungRows

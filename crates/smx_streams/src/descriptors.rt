@@ -4,84 +4,23 @@ ghost use Rattle.std.specs.Prelude.{◌≡◌, ◌<◌, ◌≤◌, ◌++◌, ℕ
 ghost use Rattle.std.specs.Prelude.{slice_index, slice_index_or, slice_set, IfNone, IfOk, IsOk, OnOk, OnErr};
 ghost use Rattle.std.specs.List.{list_any};
 ghost use Rattle.smx_types.specs.declared.limits.TheConstants.{MAX_DESCRIPTORS, MAX_PROCESSES};
-ghost use Rattle.smx_types.specs.declared.stream.StreamId.{StreamId as StreamValue};
 ghost use Rattle.smx_model.specs.Configuration.{is_fd, fd_before};
 ghost use Rattle.smx_model.specs.Ordered.{with_inserted};
-ghost use Rattle.smx_streams.specs.DescriptorRows.{AreRows, IsListed, Listed, cell_at, listed_of, with_cell};
+ghost use Rattle.smx_streams.specs.DescriptorRows.{AreRows, IsListed, Listed, listed_of};
 ghost use Rattle.smx_streams.specs.DescriptorRows.{row_from, rows_from, with_room_at};
-ghost use Rattle.smx_streams.specs.RowRoom.{AreAllOrNone, with_room};
 ghost use Rattle.smx_streams.specs.StreamTables.{stream_at, least_fd};
 
-use smx_types::{Descriptor, MAX_DESCRIPTORS, MAX_PROCESSES, NoMemory, Process, StreamId};
+use crate::rows::{Row, cell_at, set_cell};
+use smx_types::{Copied, Descriptor, MAX_DESCRIPTORS, MAX_PROCESSES, NoMemory, Process, StreamId};
 use std::alloc::Global;
 use std::marker::Model;
-
-// The descriptors of one process: for each descriptor number a cell, with the stream of this descriptor or `None`. The
-// row has no cells until the first open of the process. From then on it has cells for all numbers.
-#[derive(Debug, Drop)]
-struct DescriptorRow {
-    cells: Vec<Option<StreamId>>,
-}
-
-impl Model for DescriptorRow {
-    ghost Value = { List (Option StreamValue) };
-
-    ghost view = { λ n. n.cells.items };
-
-    ghost invariant = { λ n. AreAllOrNone n.cells.items };
-}
-
-impl DescriptorRow {
-    fn new(alloc: Global) -> DescriptorRow
-        ensures { result ≡ [] }
-    {
-        DescriptorRow {
-            cells: Vec::new(alloc),
-        }
-    }
-
-    fn get(&self, fd: u32) -> Option<StreamId>
-        ensures { result ≡ slice_index_or self.now fd None }
-    {
-        match self.cells.get(fd as usize) {
-            Some(cell) => *cell,
-            None => None,
-        }
-    }
-
-    // Makes cells for all numbers, if the row has none.
-    fn make_room(&mut self, alloc: Global) -> Result<(), NoMemory>
-        ensures ok { OnOk result (self.new ≡ with_room self.old) }
-        ensures err { OnErr result (self.new ≡ self.old) }
-        ensures in_place { 0 < length self.old → IsOk result }
-    {
-        if self.cells.is_empty() {
-            self.cells = vec![in alloc; None; MAX_DESCRIPTORS as usize]?;
-        }
-        Ok(())
-    }
-
-    fn set(&mut self, fd: u32, cell: Option<StreamId>)
-        requires { fd < length self.old }
-        ensures { self.new ≡ slice_set self.old fd cell }
-    {
-        self.cells[fd as usize] = cell;
-    }
-
-    fn copy(&self, alloc: Global) -> Result<DescriptorRow, NoMemory>
-        ensures { IfOk result (λ n. n ≡ self.now) }
-    {
-        Ok(DescriptorRow {
-            cells: Vec::from_slice(alloc, &self.cells)?,
-        })
-    }
-}
 
 /// Descriptors by process and number. A process has either no cells at all, or a cell for each descriptor number.
 /// Contracts see the list, and how many cells each process has.
 #[derive(Debug, Drop)]
 pub struct Descriptors {
-    processes: Vec<DescriptorRow>,
+    // For each process a row with a cell for each descriptor number, or with no cells before the first open.
+    processes: Vec<Row<StreamId>>,
 }
 
 impl Model for Descriptors {
@@ -92,20 +31,9 @@ impl Model for Descriptors {
     ghost invariant = { λ d. AreRows d.processes.items };
 }
 
-// Returns the stream of the process' descriptor with this number, if there is one.
-fn cell_at(processes: &[DescriptorRow], process: Process, fd: u32) -> Option<StreamId>
-    ensures { result ≡ cell_at processes.now process fd }
-{
-    let number = process.get();
-    match processes.get(number as usize) {
-        Some(numbers) => numbers.get(fd),
-        None => None,
-    }
-}
-
 // Appends the descriptors of a process, by rising number.
 fn add_fds(
-    processes: &[DescriptorRow],
+    processes: &[Row<StreamId>],
     number: u32,
     fds: &mut Vec<Descriptor>,
 ) -> Result<(), NoMemory>
@@ -116,7 +44,7 @@ fn add_fds(
 {
     let process = Process::new(number).unwrap();
     for fd in 0..MAX_DESCRIPTORS {
-        if let Some(stream) = cell_at(processes, process, fd) {
+        if let Some(stream) = cell_at(processes, number as usize, fd as usize) {
             fds.push(Descriptor {
                 process,
                 fd,
@@ -128,7 +56,7 @@ fn add_fds(
 }
 
 // Returns the descriptors of all processes, in order.
-fn fds_of(alloc: Global, processes: &[DescriptorRow]) -> Result<Vec<Descriptor>, NoMemory>
+fn fds_of(alloc: Global, processes: &[Row<StreamId>]) -> Result<Vec<Descriptor>, NoMemory>
     requires { AreRows processes.now }
     ensures { IfOk result (λ v. v.items ≡ rows_from 0 processes.now) }
 {
@@ -139,18 +67,9 @@ fn fds_of(alloc: Global, processes: &[DescriptorRow]) -> Result<Vec<Descriptor>,
     Ok(fds)
 }
 
-// Sets the cell of a process for this descriptor number. The process has such a cell.
-fn set_cell(processes: &mut Vec<DescriptorRow>, process: u32, fd: u32, cell: Option<StreamId>)
-    requires process { process < length processes.old.items }
-    requires room { fd < length (slice_index_or processes.old.items process []) }
-    ensures { processes.new.items ≡ with_cell processes.old.items process fd cell }
-{
-    processes[process as usize].set(fd, cell);
-}
-
 // Makes cells of a process for all descriptor numbers, if it has none.
 fn make_room(
-    processes: &mut Vec<DescriptorRow>,
+    processes: &mut Vec<Row<StreamId>>,
     alloc: Global,
     process: u32,
 ) -> Result<(), NoMemory>
@@ -159,28 +78,22 @@ fn make_room(
     ensures err { OnErr result (processes.new.items ≡ processes.old.items) }
     ensures in_place { 0 < length (slice_index_or processes.old.items process []) → IsOk result }
 {
-    processes[process as usize].make_room(alloc)
+    let row = &mut processes[process as usize];
+    if row.len() == 0 {
+        *row = Row::new(alloc, MAX_DESCRIPTORS as u8)?;
+    }
+    Ok(())
 }
 
 // Makes an empty row for each process.
-fn new_rows(alloc: Global) -> Result<Vec<DescriptorRow>, NoMemory>
+fn new_rows(alloc: Global) -> Result<Vec<Row<StreamId>>, NoMemory>
     ensures { IfOk result (λ v. v.items ≡ replicate MAX_PROCESSES []) }
 {
     let mut processes = Vec::with_capacity(alloc, MAX_PROCESSES as usize)?;
     for process in 0..MAX_PROCESSES {
-        processes.push(DescriptorRow::new(alloc))?;
+        processes.push(Row::new(alloc, 0)?)?;
     }
     Ok(processes)
-}
-
-fn copy_rows(alloc: Global, processes: &[DescriptorRow]) -> Result<Vec<DescriptorRow>, NoMemory>
-    ensures { IfOk result (λ v. v.items ≡ processes.now) }
-{
-    let mut made = Vec::with_capacity(alloc, processes.len())?;
-    for numbers in processes {
-        made.push(numbers.copy(alloc)?)?;
-    }
-    Ok(made)
 }
 
 impl Descriptors {
@@ -196,14 +109,14 @@ impl Descriptors {
     pub fn stream_of(&self, process: Process, fd: u32) -> Option<StreamId>
         ensures { result ≡ stream_at self.now.fds process fd }
     {
-        cell_at(&self.processes, process, fd)
+        cell_at(&self.processes, process.get() as usize, fd as usize)
     }
 
     // Returns whether the process has no descriptor with this number.
     fn is_free(&self, process: Process, fd: u32) -> bool
         ensures { result ≡ not (list_any (is_fd process fd) self.now.fds) }
     {
-        !cell_at(&self.processes, process, fd).is_some()
+        !cell_at(&self.processes, process.get() as usize, fd as usize).is_some()
     }
 
     /// Returns the lowest number from 0 to 15 that is not a descriptor of the process, if there is one.
@@ -232,7 +145,12 @@ impl Descriptors {
             ≡ with_inserted fd_before self.old.fds (record { process = process; fd = fd; stream = stream }) }
         ensures listed { IsListed self.new.fds }
     {
-        set_cell(&mut self.processes, process.get(), fd, Some(stream));
+        set_cell(
+            &mut self.processes,
+            process.get() as usize,
+            fd as usize,
+            Some(stream),
+        );
     }
 
     /// Removes the descriptor with this number, and returns its stream. Returns `None` if there is no such descriptor.
@@ -242,8 +160,13 @@ impl Descriptors {
         ensures listed { IsListed self.new.fds }
         ensures unchanged { IfNone result (self.new ≡ self.old) }
     {
-        let stream = cell_at(&self.processes, process, fd)?;
-        set_cell(&mut self.processes, process.get(), fd, None);
+        let stream = cell_at(&self.processes, process.get() as usize, fd as usize)?;
+        set_cell(
+            &mut self.processes,
+            process.get() as usize,
+            fd as usize,
+            None,
+        );
         Some(stream)
     }
 
@@ -258,7 +181,7 @@ impl Descriptors {
         ensures { IfOk result (λ d. d ≡ self.now) }
     {
         Ok(Descriptors {
-            processes: copy_rows(alloc, &self.processes)?,
+            processes: Row::copies(alloc, &self.processes)?,
         })
     }
 }

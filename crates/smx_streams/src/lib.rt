@@ -3,8 +3,8 @@
 #![tactic(auto)]
 
 mod descriptors;
-mod keys;
 mod records;
+mod rows;
 mod stream_fault;
 mod streams;
 

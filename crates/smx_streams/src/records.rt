@@ -11,15 +11,15 @@ ghost use Rattle.smx_streams.specs.RecordGrids.{uses_of, IsRecordOf, IsSet};
 ghost use Rattle.smx_streams.specs.HungRows.{flag_at, hung_from, hungs_from};
 ghost use Rattle.smx_streams.specs.StreamTables.{is_in_range, number_at};
 
-use crate::keys::Keys;
+use crate::rows::{Row, cell_at, set_cell};
 use slab::Slab;
-use smx_types::{NoMemory, StreamId};
-use std::alloc::{AllocError, Global};
+use smx_types::{Copied, NoMemory, StreamId};
+use std::alloc::Global;
 use std::marker::Model;
 
 /// A stream, the number of its descriptors, the number of its holds, and whether it is hung up. There is at least one
 /// descriptor or hold.
-#[derive(Copy, Debug)]
+#[derive(Clone, Copy, Debug)]
 pub struct Record {
     pub stream: StreamId,
     pub opens: u32,
@@ -27,20 +27,12 @@ pub struct Record {
     pub hung: bool,
 }
 
-impl Clone for Record {
-    ghost is_clone = { λ old copy. copy ≡ old };
-
-    fn clone(&self) -> Result<Record, AllocError> {
-        Ok(*self)
-    }
-}
-
 /// The records in one slab, and for each driver the keys of the records of its streams. Contracts see the number of
 /// minors of each driver. For each minor they see the number of descriptors, the number of holds, and whether the
 /// stream is hung up.
 #[derive(Debug, Drop)]
 pub struct Records {
-    drivers: Vec<Keys>,
+    drivers: Vec<Row<usize>>,
     records: Slab<Record>,
 }
 
@@ -50,25 +42,6 @@ impl Model for Records {
     ghost view = { λ r. uses_of r.drivers.items r.records };
 
     ghost invariant = { λ r. AreRecords r.drivers.items r.records };
-}
-
-// Returns the key of the stream's record, if it has one.
-fn key_of(drivers: &[Keys], stream: StreamId) -> Option<usize>
-    ensures { result ≡ key_at drivers.now stream }
-{
-    match drivers.get(stream.driver as usize) {
-        Some(keys) => keys.get(stream.minor),
-        None => None,
-    }
-}
-
-// Sets the key of a stream.
-fn set_key(drivers: &mut Vec<Keys>, stream: StreamId, key: Option<usize>)
-    requires driver { stream.driver < length drivers.old.items }
-    requires minor { stream.minor < length (slice_index_or drivers.old.items stream.driver []) }
-    ensures { drivers.new.items ≡ with_key drivers.old.items stream key }
-{
-    drivers[stream.driver as usize].set(stream.minor, key);
 }
 
 fn record_at(records: &Slab<Record>, key: usize) -> Option<Record>
@@ -85,25 +58,14 @@ fn set_record(records: &mut Slab<Record>, key: usize, changed: Record)
 }
 
 // Makes rows without keys, for drivers with these numbers of minors.
-fn new_keys(alloc: Global, minors: &[u8]) -> Result<Vec<Keys>, NoMemory>
+fn new_keys(alloc: Global, minors: &[u8]) -> Result<Vec<Row<usize>>, NoMemory>
     ensures { IfOk result (λ v. v.items ≡ map (λ n. replicate n None) minors.now) }
 {
     let mut drivers = Vec::with_capacity(alloc, minors.len())?;
     for count in minors {
-        drivers.push(Keys::new(alloc, *count)?)?;
+        drivers.push(Row::new(alloc, *count)?)?;
     }
     Ok(drivers)
-}
-
-// Copies the rows of keys.
-fn copy_keys(alloc: Global, drivers: &[Keys]) -> Result<Vec<Keys>, NoMemory>
-    ensures { IfOk result (λ v. v.items ≡ drivers.now) }
-{
-    let mut made = Vec::with_capacity(alloc, drivers.len())?;
-    for keys in drivers {
-        made.push(keys.copy(alloc)?)?;
-    }
-    Ok(made)
 }
 
 // Returns whether the record has at least one descriptor or hold.
@@ -115,7 +77,7 @@ fn is_used(counted: Record) -> bool
 
 // Replaces the record at `key` by `changed`. If `changed` has no descriptor and no hold, removes the record and the key
 // instead.
-fn put_back(drivers: &mut Vec<Keys>, records: &mut Slab<Record>, key: usize, changed: Record)
+fn put_back(drivers: &mut Vec<Row<usize>>, records: &mut Slab<Record>, key: usize, changed: Record)
     requires whole { AreRecords drivers.old.items records.old }
     requires there { key_at drivers.old.items changed.stream ≡ Some key }
     ensures { IsSet drivers.old.items records.old changed drivers.new.items records.new }
@@ -124,12 +86,17 @@ fn put_back(drivers: &mut Vec<Keys>, records: &mut Slab<Record>, key: usize, cha
         set_record(records, key, changed);
     } else {
         let _gone = records.try_remove(key);
-        set_key(drivers, changed.stream, None);
+        let StreamId { driver, minor } = changed.stream;
+        set_cell(drivers, driver as usize, minor as usize, None);
     }
 }
 
 // Adds a new record and its key.
-fn put(drivers: &mut Vec<Keys>, records: &mut Slab<Record>, added: Record) -> Result<(), NoMemory>
+fn put(
+    drivers: &mut Vec<Row<usize>>,
+    records: &mut Slab<Record>,
+    added: Record,
+) -> Result<(), NoMemory>
     requires whole { AreRecords drivers.old.items records.old }
     requires none { key_at drivers.old.items added.stream ≡ None }
     requires driver { added.stream.driver < length drivers.old.items }
@@ -141,7 +108,12 @@ fn put(drivers: &mut Vec<Keys>, records: &mut Slab<Record>, added: Record) -> Re
 {
     let stream = added.stream;
     let key = records.insert(added)?;
-    set_key(drivers, stream, Some(key));
+    set_cell(
+        drivers,
+        stream.driver as usize,
+        stream.minor as usize,
+        Some(key),
+    );
     Ok(())
 }
 
@@ -171,7 +143,7 @@ impl Records {
     fn record_of(&self, stream: StreamId) -> Option<Record>
         ensures { IsRecordOf self.now stream result }
     {
-        let key = key_of(&self.drivers, stream)?;
+        let key = cell_at(&self.drivers, stream.driver as usize, stream.minor as usize)?;
         record_at(&self.records, key)
     }
 
@@ -235,7 +207,7 @@ impl Records {
     pub fn has(&self, stream: StreamId) -> bool
         ensures { result ≡ nat_lt 0 (number_at self.now.opens stream + number_at self.now.holds stream) }
     {
-        key_of(&self.drivers, stream).is_some()
+        cell_at(&self.drivers, stream.driver as usize, stream.minor as usize).is_some()
     }
 
     /// Returns whether each of these streams has a record.
@@ -362,7 +334,8 @@ impl Records {
         ensures set { AreSet self.old changed.stream changed.opens changed.holds (is_used_and_hung changed) self.new }
         ensures sound { AreSound self.new }
     {
-        if let Some(key) = key_of(&self.drivers, changed.stream) {
+        let StreamId { driver, minor } = changed.stream;
+        if let Some(key) = cell_at(&self.drivers, driver as usize, minor as usize) {
             put_back(&mut self.drivers, &mut self.records, key, changed);
         }
     }
@@ -372,7 +345,7 @@ impl Records {
         ensures { IfOk result (λ r. r ≡ self.now) }
     {
         Ok(Records {
-            drivers: copy_keys(alloc, &self.drivers)?,
+            drivers: Row::copies(alloc, &self.drivers)?,
             records: self.records.clone()?,
         })
     }

@@ -11,10 +11,10 @@ returns-then-is_used c = put_back_some c.args.drivers.now.items c.args.records.n
 pub returns-else-is_used : goal.returns-else-is_used
 returns-else-is_used c =
     let none = counts_none c.args.changed.opens c.args.changed.holds (sym c.is_used.ensures ∙ c.if-is_used.false) in
-    put_back_none c.args.drivers.now.items c.args.records.now c.args.key c.args.changed c.set_key.new.drivers.items
+    put_back_none c.args.drivers.now.items c.args.records.now c.args.key c.args.changed c.set_cell.new.rows.items
     c.try_remove-gone.new.self c.requires.whole c.requires.there none.0 none.1 c.try_remove-gone.ensures.updates
-    (λ x. rw c.set_key.ensures
+    (λ x. rw c.set_cell.ensures
     (key_set c.args.drivers.now.items c.args.changed.stream None x
     (has_driver c.args.drivers.now.items c.args.changed.stream c.args.key c.requires.there)
     (has_minor c.args.drivers.now.items c.args.changed.stream c.args.key c.requires.there)))
-    (rw c.set_key.ensures (lengths_set c.args.drivers.now.items c.args.changed.stream None))
+    (rw c.set_cell.ensures (lengths_set c.args.drivers.now.items c.args.changed.stream None))
