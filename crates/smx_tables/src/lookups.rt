@@ -10,7 +10,7 @@ ghost use Rattle.smx_model.specs.KnownStreams.{IsKnown};
 ghost use Rattle.smx_model.specs.Standing.{exists};
 ghost use Rattle.smx_tables.specs.MessageStreams.{message_stream};
 
-use crate::properties::{driver_of, is_mux, minors_of};
+use crate::properties::{driver_of, is_mux};
 use crate::step_error::refuse;
 use crate::tables::Tables;
 use smx_types::{Command, Fault, Name, Process, StreamId};
@@ -28,7 +28,10 @@ impl Tables {
     pub fn minors_of(&self, driver: u8) -> u8
         ensures { result ≡ minors_of self.now.drivers driver }
     {
-        minors_of(&self.drivers, driver as usize) as u8
+        match self.drivers.get(driver as usize) {
+            Some(d) => d.minors as u8,
+            None => 0,
+        }
     }
 
     /// Returns the stream of a descriptor of the process. Fails if there is no such descriptor. Does not allocate.

@@ -3,7 +3,7 @@
 ghost use Rattle.std.specs.Prelude.{◌≡◌, ◌<◌, length, IfOk, position};
 ghost use Rattle.std.specs.Str.{bytes_eq};
 ghost use Rattle.smx_model.specs.Configuration.{same_side, same_stream};
-ghost use Rattle.smx_model.specs.DriverList.{is_mux, minors_of, max_of};
+ghost use Rattle.smx_model.specs.DriverList.{is_mux, max_of};
 ghost use Rattle.smx_model.specs.Lookups.{driver_of};
 ghost use Rattle.smx_model.specs.Standing.{is_persistent};
 
@@ -33,16 +33,6 @@ pub fn is_mux(drivers: &[DriverSpec], driver: usize) -> bool
     match drivers.get(driver) {
         Some(d) => d.kind == DriverKind::Mux,
         None => false,
-    }
-}
-
-// Returns the number of minors of the driver, or 0 if there is no such driver.
-pub fn minors_of(drivers: &[DriverSpec], driver: usize) -> u32
-    ensures { result ≡ minors_of drivers.now driver }
-{
-    match drivers.get(driver) {
-        Some(d) => d.minors,
-        None => 0,
     }
 }
 

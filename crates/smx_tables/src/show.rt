@@ -13,9 +13,9 @@ use smx_links::LinkTable;
 use smx_queues::FlowTable;
 use smx_streams::Streams;
 use smx_types::{
-    BindingLine, BindingLines, ConfigView, Descriptor, DescriptorLine, DescriptorLines, DriverSpec,
-    FullLine, FullLines, HungLine, HungLines, LinkLine, LinkLines, MessageLine, MessageLines, Name,
-    NoMemory, RouteLine, RouteLines,
+    BindingLine, BindingLines, ConfigView, DescriptorLine, DescriptorLines, DriverSpec, FullLine,
+    FullLines, HungLine, HungLines, LinkLine, LinkLines, MessageLine, MessageLines, Name, NoMemory,
+    RouteLine, RouteLines,
 };
 use std::alloc::Global;
 
@@ -36,16 +36,13 @@ fn descriptor_lines(
     ensures { IfOk result (λ v. v.items ≡ map (view_of_fd drivers.now) streams.now.fds) }
 {
     let list = streams.fds(alloc)?;
-    let mut lines = Vec::with_capacity(alloc, list.len())?;
-    for d in &list {
-        lines.push(DescriptorLine {
-            process: d.process,
-            fd: d.fd,
-            driver: name_of(drivers, d.stream.driver),
-            minor: u32::from(d.stream.minor),
-        })?;
-    }
-    Ok(lines)
+    let lines = list.iter().map(|d| DescriptorLine {
+        process: d.process,
+        fd: d.fd,
+        driver: name_of(drivers, d.stream.driver),
+        minor: u32::from(d.stream.minor),
+    });
+    Ok(lines.collect(alloc)?)
 }
 
 // Returns the lines of all links, by rising id.
@@ -58,19 +55,16 @@ fn link_lines(
     requires lower { All (λ l. l.lower.driver < length drivers.now) links.now.links }
     ensures { IfOk result (λ v. v.items ≡ map (view_of_link drivers.now) links.now.links) }
 {
-    let listed = links.links();
-    let mut lines = Vec::with_capacity(alloc, listed.len())?;
-    for l in listed {
-        lines.push(LinkLine {
-            id: l.id,
-            ctl_driver: name_of(drivers, l.ctl.driver),
-            ctl_minor: u32::from(l.ctl.minor),
-            lower_driver: name_of(drivers, l.lower.driver),
-            lower_minor: u32::from(l.lower.minor),
-            kind: l.kind,
-        })?;
-    }
-    Ok(lines)
+    let list = links.links();
+    let lines = list.iter().map(|l| LinkLine {
+        id: l.id,
+        ctl_driver: name_of(drivers, l.ctl.driver),
+        ctl_minor: u32::from(l.ctl.minor),
+        lower_driver: name_of(drivers, l.lower.driver),
+        lower_minor: u32::from(l.lower.minor),
+        kind: l.kind,
+    });
+    Ok(lines.collect(alloc)?)
 }
 
 // Returns the lines of all bindings, by rising driver, and by rising address within a driver.
@@ -83,15 +77,12 @@ fn binding_lines(
     ensures { IfOk result (λ v. v.items ≡ map (view_of_bind drivers.now) binds.now) }
 {
     let list = binds.list(alloc)?;
-    let mut lines = Vec::with_capacity(alloc, list.len())?;
-    for b in &list {
-        lines.push(BindingLine {
-            driver: name_of(drivers, b.driver),
-            addr: b.addr,
-            minor: u32::from(b.minor),
-        })?;
-    }
-    Ok(lines)
+    let lines = list.iter().map(|b| BindingLine {
+        driver: name_of(drivers, b.driver),
+        addr: b.addr,
+        minor: u32::from(b.minor),
+    });
+    Ok(lines.collect(alloc)?)
 }
 
 // Returns the lines of all routes, by rising driver, and by rising address within a driver.
@@ -104,15 +95,12 @@ fn route_lines(
     ensures { IfOk result (λ v. v.items ≡ map (view_of_route drivers.now) routes.now) }
 {
     let list = routes.list(alloc)?;
-    let mut lines = Vec::with_capacity(alloc, list.len())?;
-    for r in &list {
-        lines.push(RouteLine {
-            driver: name_of(drivers, r.driver),
-            addr: r.addr,
-            id: r.id,
-        })?;
-    }
-    Ok(lines)
+    let lines = list.iter().map(|r| RouteLine {
+        driver: name_of(drivers, r.driver),
+        addr: r.addr,
+        id: r.id,
+    });
+    Ok(lines.collect(alloc)?)
 }
 
 // Returns the lines of all queued messages, by rising place, and in order of arrival within a place. Moves the messages
@@ -147,16 +135,13 @@ fn full_lines(
     requires { All (λ p. p.stream.driver < length drivers.now) queues.now.fulls }
     ensures { IfOk result (λ v. v.items ≡ map (view_of_full drivers.now) queues.now.fulls) }
 {
-    let fulls = queues.fulls(alloc)?;
-    let mut lines = Vec::with_capacity(alloc, fulls.len())?;
-    for place in &fulls {
-        lines.push(FullLine {
-            driver: name_of(drivers, place.stream.driver),
-            minor: u32::from(place.stream.minor),
-            side: place.side,
-        })?;
-    }
-    Ok(lines)
+    let list = queues.fulls(alloc)?;
+    let lines = list.iter().map(|p| FullLine {
+        driver: name_of(drivers, p.stream.driver),
+        minor: u32::from(p.stream.minor),
+        side: p.side,
+    });
+    Ok(lines.collect(alloc)?)
 }
 
 // Returns the lines of all hung-up streams, by rising stream.
@@ -169,14 +154,11 @@ fn hung_lines(
     ensures { IfOk result (λ v. v.items ≡ map (view_of_hung drivers.now) streams.now.hungs) }
 {
     let list = streams.hungs(alloc)?;
-    let mut lines = Vec::with_capacity(alloc, list.len())?;
-    for stream in &list {
-        lines.push(HungLine {
-            driver: name_of(drivers, stream.driver),
-            minor: u32::from(stream.minor),
-        })?;
-    }
-    Ok(lines)
+    let lines = list.iter().map(|s| HungLine {
+        driver: name_of(drivers, s.driver),
+        minor: u32::from(s.minor),
+    });
+    Ok(lines.collect(alloc)?)
 }
 
 impl Tables {
