@@ -3,11 +3,14 @@ use Rattle.smx_config.proofs.Common.{◌≡◌, ℕ, ◌<◌, Bool, true, false,
 use Rattle.smx_config.proofs.Common.{◌∙◌, subst, arith, inl, inr, list_any, cases_Bool, false≢true, Link, Place}
 use Rattle.smx_config.proofs.Common.{DriverSpec, StreamId, Configuration, same_place, same_stream, first_message}
 use Rattle.smx_config.proofs.Common.{BitTable, has_bit, IsAt, IsMarkedWhere}
-use Rattle.std.specs.Prelude.{nat_lt}
+use Rattle.std.specs.Prelude.{◌+◌, nat_lt}
 use Rattle.std.specs.List.{All, AllByRecursion}
+use Rattle.std.proofs.Common.{rules}
 use Rattle.std.proofs.lemmas.Bool.{and_parts, eqb-true, lt-ltb}
+use Rattle.std.proofs.lemmas.Bool.Decides.{nat_tests}
 use Rattle.std.proofs.lemmas.List.Elements.{recursion_from_All}
 use Rattle.smx_types.specs.declared.stream.Side.{Side}
+use Rattle.smx_types.specs.declared.stream.Side.TheVariants as side
 use Rattle.smx_model.specs.Configuration.{QueuedMessage, same_side}
 use Rattle.smx_model.specs.DriverList.{minors_of}
 use Rattle.smx_model.specs.Paths.{reaches}
@@ -82,6 +85,28 @@ none_between drivers c driver addr lower m none = none_marked drivers c.flow (as
 -- the read sides that are asked for, at streams below the driver whose own driver has a number below this one
 abbrev pub asks_before : Configuration → ℕ → ℕ → ℕ → Place → Bool
 asks_before c driver addr n p = asks_up c driver addr p && nat_lt p.stream.driver n
+
+-- after the marks at one more lower driver, the marks at all lower drivers so far are set
+pub next_lower : (drivers : List DriverSpec) (c : Configuration) (driver addr lower : ℕ) (old mid new : BitTable)
+    → IsMarkedWhere drivers c.flow (asks_before c driver addr lower) old mid
+    → IsMarkedWhere drivers c.flow (asks_between c driver addr lower) mid new
+    → IsMarkedWhere drivers c.flow (asks_before c driver addr (lower + 1)) old new
+next_lower drivers c driver addr lower old mid new a b = record {
+  kept = λ i h. b.kept i (a.kept i h);
+  marked = λ i p there some t.
+      let both = and_parts (asks_up c driver addr p) (nat_lt p.stream.driver (lower + 1)) t in
+      elim (cases_Bool (nat_lt p.stream.driver lower)) [
+        | inl before ↦ b.kept i (a.marked i p there some (rw (both.0, before) refl))
+        | inr last ↦ b.marked i p there some (grind (arith, nat_tests))
+      ];
+  count = b.count ∙ a.count;
+}
+
+-- the marks on the read sides of a driver's streams are enough for those that are below the upper driver
+pub side_marked : (drivers : List DriverSpec) (c : Configuration) (driver addr lower : ℕ) (old new : BitTable)
+    → IsMarkedWhere drivers c.flow (asks_at c lower side.Read addr) old new
+    → IsMarkedWhere drivers c.flow (asks_between c driver addr lower) old new
+side_marked drivers c driver addr lower old new m = search rules
 
 -- if the drivers of all links are below `n`, so is the driver of each stream below a link
 lower_within : (n : ℕ) (links : List Link) (s : StreamId) (driver : ℕ) → All (IsWithin n) links

@@ -9,7 +9,7 @@ use Rattle.std.proofs.lemmas.Bool.{and_from, cases_eq, ne_eqb}
 use Rattle.std.proofs.lemmas.List.{get_or-set_other, get_or-set_same, length-set}
 use Rattle.std.proofs.lemmas.Option.{none-some}
 use Rattle.smx_model.specs.FreedPlaces.{FreesOnly}
-use Rattle.smx_model.specs.RunMarks.{TurnsOnly, either}
+use Rattle.smx_model.specs.RunMarks.{TurnsOnly, either, nowhere}
 use Rattle.smx_queues.specs.Bits.{has_bit_but}
 use Rattle.smx_queues.specs.Rings.{RingTable}
 use Rattle.smx_config.specs.Marking.{AreWaitersMarked, IsListed, IsNotedFor, IsReleased}
@@ -155,6 +155,27 @@ woken drivers c turned freed old mid run a b = record {
   };
   turned_ones = λ i p there some t. b.marked i p there some t;
 }
+
+-- if no place is freed, all places that get run marks are woken
+pub woken_turned : (drivers : List DriverSpec) (c : Configuration) (turned : Place → Bool) (m : Marks) (run : BitTable)
+    → IsListed m → IsMarkedWhere drivers c.flow turned m.run run → IsWoken drivers c turned nowhere m (with_run m run)
+woken_turned drivers c turned m run listed marked = woken drivers c turned nowhere m m run
+    (record { kept = all_kept m listed; gone = λ i j q there noted f. absurd (false≢true f) }) marked
+
+-- if no place is turned, all places that are released are woken
+pub woken_freed : (drivers : List DriverSpec) (c : Configuration) (freed : Place → Bool) (old new : Marks)
+    → IsReleased drivers c freed old new → IsWoken drivers c nowhere freed old new
+woken_freed drivers c freed old new released =
+    record { released = released; turned_ones = λ i p there some t. absurd (false≢true t) }
+
+-- if no place is turned and none is freed, the marks stay
+pub woken_none : (drivers : List DriverSpec) (c : Configuration) (m : Marks) → IsListed m
+    → IsWoken drivers c nowhere nowhere m m
+woken_none drivers c m listed = woken_freed drivers c nowhere m m
+    (record { kept = all_kept m listed; gone = λ i j q there noted f. absurd (false≢true f) })
+
+-- the three cases
+pub ruleset cases_of_waking = (woken_turned, woken_freed, woken_none)
 
 -- ---- what a change keeps
 

@@ -18,10 +18,10 @@ ghost use Rattle.smx_config.specs.DriverFaults.{RefusesDrivers};
 ghost use Rattle.smx_tables.specs.Machine.{takes_no_memory};
 
 use crate::config_fault::{ConfigFault, check_drivers};
-use crate::hops::{Hops, copy_hops, forget_changed, no_hops};
+use crate::hops::{Hops, forget_changed, no_hops};
 use crate::marks::{Marks, copy_marks, no_marks};
 use crate::settling::settle;
-use crate::wakes::wakes_of;
+use crate::wakes::{Wakes, wakes_of};
 use crate::waking::wake;
 use smx_tables::{StepError, Tables};
 use smx_types::{
@@ -123,7 +123,7 @@ impl Config {
         ensures refused { IsErr (outcome self.old.drivers self.old.configuration process command.now) → IsOk result }
     {
         let named = self.tables.message_stream(process, command);
-        let wakes = wakes_of(&self.tables, process, command, named);
+        let wakes = wakes_of(&self.tables, process, command, named).unwrap_or(Wakes::Nothing);
         let answer = self.tables.perform(process, command, named, reply);
         if answer.is_ok() {
             forget_changed(&mut self.hops, command);
@@ -257,7 +257,7 @@ impl Config {
         Ok(Config {
             tables: self.tables.copy(alloc)?,
             marks: copy_marks(alloc, &self.marks)?,
-            hops: copy_hops(alloc, &self.hops)?,
+            hops: self.hops.clone()?,
         })
     }
 }

@@ -29,7 +29,7 @@ pub struct Hop {
 
 /// The hop that was found last for each place, by the number of the place. `age` rises when next places may change, and
 /// a hop of an earlier age is out of date. `age` can't rise above its largest value, and at that value no hop is used.
-#[derive(Debug, Drop)]
+#[derive(Clone, Debug, Drop)]
 pub struct Hops {
     pub hops: Vec<Hop>,
     pub age: u64,
@@ -47,16 +47,6 @@ pub fn no_hops(alloc: Global, count: usize) -> Result<Hops, NoMemory>
     Ok(Hops {
         hops: vec![in alloc; none; count]?,
         age: 1,
-    })
-}
-
-pub fn copy_hops(alloc: Global, hops: &Hops) -> Result<Hops, NoMemory>
-    ensures hops { IfOk result (λ h. h.hops.items ≡ hops.now.hops.items) }
-    ensures age { IfOk result (λ h. h.age ≡ hops.now.age) }
-{
-    Ok(Hops {
-        hops: Vec::from_slice(alloc, &hops.hops)?,
-        age: hops.age,
     })
 }
 

@@ -47,25 +47,14 @@ pub fn copy_marks(alloc: Global, marks: &Marks) -> Result<Marks, NoMemory>
     })
 }
 
-// Returns whether the first message at the place with this number has this address.
-fn asks_for(tables: &Tables, n: usize, addr: u32) -> bool
-    requires { IsNumber tables.now.drivers n }
-    ensures { (p : PlaceValue) → IsAt tables.now.drivers n p
-        → result ≡ has_addr addr (first_message tables.now.configuration.flow p) }
-{
-    match tables.queues().front_at(n) {
-        Some(message) => message.addr == addr,
-        None => false,
-    }
-}
-
 // Sets the run mark of the place, if its first message has this address.
 fn mark_if_asked(tables: &Tables, run: &mut Bits, place: Place, addr: u32)
     requires { run.old.count ≡ length (places_of tables.now.drivers) }
     ensures { IsMarkedIf tables.now.drivers tables.now.configuration addr place run.old run.new }
 {
     if let Some(n) = tables.queues().number(place) {
-        if asks_for(tables, n, addr) {
+        let first = tables.queues().front_at(n);
+        if first.is_some_and(|message| message.addr == addr) {
             run.set(n);
         }
     }
@@ -96,20 +85,9 @@ pub fn mark_writes(tables: &Tables, run: &mut Bits, driver: u8, addr: u32)
     }
 }
 
-// Does nothing unless a path of links leads from the driver `driver` down to the driver `lower`. (Without such a path,
-// no stream of `lower` is below `driver`.) Otherwise looks at the read sides of the streams of `lower`. Sets the run
-// marks of those read sides whose first message has this address.
-fn mark_reads_of(tables: &Tables, run: &mut Bits, driver: u8, addr: u32, lower: u8)
-    requires { run.old.count ≡ length (places_of tables.now.drivers) }
-    ensures { IsMarkedWhere tables.now.drivers tables.now.configuration.flow
-        (asks_between tables.now.configuration driver addr lower) run.old run.new }
-{
-    if tables.links().reaches(driver, lower) {
-        mark_side(tables, run, lower, Side::Read, addr);
-    }
-}
-
-// Calls `mark_reads_of` with each driver as `lower`. Does nothing if no message is queued.
+// Looks at the read sides of the streams of each driver to which a path of links leads from this driver. (No stream of
+// another driver is below this driver.) Sets the run marks of those read sides whose first message has this address.
+// Does nothing if no message is queued.
 pub fn mark_reads(tables: &Tables, run: &mut Bits, driver: u8, addr: u32)
     requires { run.old.count ≡ length (places_of tables.now.drivers) }
     ensures { IsMarkedWhere tables.now.drivers tables.now.configuration.flow
@@ -119,6 +97,8 @@ pub fn mark_reads(tables: &Tables, run: &mut Bits, driver: u8, addr: u32)
         return;
     }
     for lower in 0..tables.links().driver_count() {
-        mark_reads_of(tables, run, driver, addr, lower);
+        if tables.links().reaches(driver, lower) {
+            mark_side(tables, run, lower, Side::Read, addr);
+        }
     }
 }

@@ -1,8 +1,9 @@
 //! The places that a command may wake, as far as this is known before the command is performed.
 
 ghost use Rattle.std.specs.Prelude.{◌≡◌};
+ghost use Rattle.std.specs.Result.{result_unwrap_or};
 ghost use Rattle.smx_tables.specs.MessageStreams.{message_stream};
-ghost use Rattle.smx_config.specs.Wakes.{arrives, on_stream, wakes_of};
+ghost use Rattle.smx_config.specs.Wakes.{arrives, wakes_of};
 ghost use Rattle.smx_config.specs.declared.wakes.Wakes.TheVariants as wakes;
 
 use smx_tables::Tables;
@@ -28,55 +29,11 @@ pub enum Wakes {
     Frees,
 }
 
-fn turns(stream: Result<StreamId, Fault>, side: Side) -> Wakes
-    ensures { result ≡ on_stream stream (λ s. wakes.Turns (record { stream = s; side = side })) }
+// Returns the place that a message wakes when it arrives at this place. If the place already has messages, the first of
+// them stays the first, and the arrival wakes no place.
+fn arrives(tables: &Tables, place: Place) -> Wakes
+    ensures { result ≡ arrives tables.now.configuration place }
 {
-    stream.map_or(Wakes::Nothing, |stream| {
-        Wakes::Turns(Place { stream, side })
-    })
-}
-
-fn leaves(stream: Result<StreamId, Fault>, side: Side) -> Wakes
-    ensures { result ≡ on_stream stream (λ s. wakes.Leaves (record { stream = s; side = side })) }
-{
-    stream.map_or(Wakes::Nothing, |stream| {
-        Wakes::Leaves(Place { stream, side })
-    })
-}
-
-fn empties(stream: Result<StreamId, Fault>) -> Wakes
-    ensures { result ≡ on_stream stream wakes.Empties }
-{
-    stream.map_or(Wakes::Nothing, Wakes::Empties)
-}
-
-fn turns_writes(stream: Result<StreamId, Fault>, addr: u32) -> Wakes
-    ensures { result ≡ on_stream stream (λ s. wakes.TurnsWrites s.driver addr) }
-{
-    stream.map_or(Wakes::Nothing, |stream| {
-        let driver = stream.driver;
-        Wakes::TurnsWrites { driver, addr }
-    })
-}
-
-fn turns_reads(stream: Result<StreamId, Fault>, addr: u32) -> Wakes
-    ensures { result ≡ on_stream stream (λ s. wakes.TurnsReads s.driver addr) }
-{
-    stream.map_or(Wakes::Nothing, |stream| {
-        let driver = stream.driver;
-        Wakes::TurnsReads { driver, addr }
-    })
-}
-
-// Returns the place that a message wakes when it arrives at a side of the stream. If the place already has messages,
-// the first of them stays the first, and the arrival wakes no place.
-fn arrives(tables: &Tables, stream: Result<StreamId, Fault>, side: Side) -> Wakes
-    ensures { result ≡ on_stream stream (λ s. arrives tables.now.configuration (record { stream = s; side = side })) }
-{
-    let Ok(stream) = stream else {
-        return Wakes::Nothing;
-    };
-    let place = Place { stream, side };
     if tables.queues().front(place).is_some() {
         Wakes::Nothing
     } else {
@@ -84,17 +41,19 @@ fn arrives(tables: &Tables, stream: Result<StreamId, Fault>, side: Side) -> Wake
     }
 }
 
-// Returns the change by which the command may wake places, if it is accepted. Takes no memory.
+// Returns the change by which the command may wake places, if it is accepted. Fails only if the command is refused for
+// one of the streams that it names. Takes no memory.
 pub fn wakes_of(
     tables: &Tables,
     process: Process,
     command: &Command,
     named: Result<StreamId, Fault>,
-) -> Wakes
+) -> Result<Wakes, Fault>
     requires { named ≡ message_stream tables.now.drivers tables.now.configuration process command.now }
-    ensures { result ≡ wakes_of tables.now.drivers tables.now.configuration process command.now }
+    ensures { result_unwrap_or result wakes.Nothing
+        ≡ wakes_of tables.now.drivers tables.now.configuration process command.now }
 {
-    match command {
+    Ok(match command {
         Command::OpenClone { .. }
         | Command::OpenMinor { .. }
         | Command::Dup { .. }
@@ -105,15 +64,40 @@ pub fn wakes_of(
         | Command::CloseAll
         | Command::Unlink { .. }
         | Command::Punlink { .. } => Wakes::Frees,
-        Command::Link { arg, .. } | Command::Plink { arg, .. } => {
-            turns(tables.stream_of(process, *arg), Side::Read)
-        }
-        Command::Bind { fd, addr } => turns_reads(tables.mux_stream(process, *fd), *addr),
-        Command::Route { fd, addr, .. } => turns_writes(tables.mux_stream(process, *fd), *addr),
-        Command::Write { .. } => arrives(tables, named, Side::Write),
-        Command::Read { .. } => leaves(named, Side::Read),
-        Command::Flush { fd, .. } => empties(tables.live_stream(process, *fd)),
-        Command::Inject { .. } => arrives(tables, named, Side::Read),
-        Command::Transmit { .. } => leaves(named, Side::Write),
-    }
+        Command::Link { arg, .. } | Command::Plink { arg, .. } => Wakes::Turns(Place {
+            stream: tables.stream_of(process, *arg)?,
+            side: Side::Read,
+        }),
+        Command::Bind { fd, addr } => Wakes::TurnsReads {
+            driver: tables.mux_stream(process, *fd)?.driver,
+            addr: *addr,
+        },
+        Command::Route { fd, addr, .. } => Wakes::TurnsWrites {
+            driver: tables.mux_stream(process, *fd)?.driver,
+            addr: *addr,
+        },
+        Command::Write { .. } => arrives(
+            tables,
+            Place {
+                stream: named?,
+                side: Side::Write,
+            },
+        ),
+        Command::Read { .. } => Wakes::Leaves(Place {
+            stream: named?,
+            side: Side::Read,
+        }),
+        Command::Flush { fd, .. } => Wakes::Empties(tables.live_stream(process, *fd)?),
+        Command::Inject { .. } => arrives(
+            tables,
+            Place {
+                stream: named?,
+                side: Side::Read,
+            },
+        ),
+        Command::Transmit { .. } => Wakes::Leaves(Place {
+            stream: named?,
+            side: Side::Write,
+        }),
+    })
 }

@@ -126,14 +126,31 @@ fn drops_none(reply: &Reply) -> bool
     }
 }
 
-// Releases the places that a command with this reply freed. If the reply names no dropped message, a place that was full
-// has lost no message to a flush or a sweep, so it is still full.
-fn release_freed(tables: &Tables, marks: &mut Marks, wakes: Wakes, reply: &Reply)
+// Sets the run mark of the place, if the drivers have the place.
+fn mark_place(tables: &Tables, run: &mut Bits, place: Place)
+    requires { run.old.count ≡ length (places_of tables.now.drivers) }
+    ensures { IsMarkedWhere tables.now.drivers tables.now.configuration.flow (same_place place) run.old run.new }
+{
+    if let Some(n) = tables.queues().number(place) {
+        run.set(n);
+    }
+}
+
+// Sets the run marks of the places that a command with this reply woke. Clears the wanted marks of the places that the
+// command freed. If the reply names no dropped message, a place that was full has lost no message to a flush or a sweep,
+// so it is still full.
+#[tactic(auto, using(crate::proofs::WakeLemmas::cases_of_waking))]
+pub fn wake(tables: &Tables, marks: &mut Marks, wakes: Wakes, reply: &Reply)
     requires over { AreOver tables.now.drivers marks.old }
     requires listed { IsListed marks.old }
-    ensures { IsReleased tables.now.drivers tables.now.configuration (freed_under reply.now wakes) marks.old marks.new }
+    ensures { IsWoken tables.now.drivers tables.now.configuration (turned_under tables.now.configuration wakes)
+        (freed_under reply.now wakes) marks.old marks.new }
 {
     match wakes {
+        Wakes::Nothing => {}
+        Wakes::Turns(place) => mark_place(tables, &mut marks.run, place),
+        Wakes::TurnsWrites { driver, addr } => mark_writes(tables, &mut marks.run, driver, addr),
+        Wakes::TurnsReads { driver, addr } => mark_reads(tables, &mut marks.run, driver, addr),
         Wakes::Leaves(place) => release_place(tables, marks, place),
         Wakes::Empties(stream) => {
             if !drops_none(reply) {
@@ -145,42 +162,5 @@ fn release_freed(tables: &Tables, marks: &mut Marks, wakes: Wakes, reply: &Reply
                 release_all(tables, marks);
             }
         }
-        Wakes::Nothing | Wakes::Turns(_) | Wakes::TurnsWrites { .. } | Wakes::TurnsReads { .. } =>
-            {}
     }
-}
-
-// Sets the run mark of the place, if the drivers have the place.
-fn mark_place(tables: &Tables, run: &mut Bits, place: Place)
-    requires { run.old.count ≡ length (places_of tables.now.drivers) }
-    ensures { IsMarkedWhere tables.now.drivers tables.now.configuration.flow (same_place place) run.old run.new }
-{
-    if let Some(n) = tables.queues().number(place) {
-        run.set(n);
-    }
-}
-
-fn mark_turned(tables: &Tables, run: &mut Bits, wakes: Wakes)
-    requires { run.old.count ≡ length (places_of tables.now.drivers) }
-    ensures { IsMarkedWhere tables.now.drivers tables.now.configuration.flow
-        (turned_under tables.now.configuration wakes) run.old run.new }
-{
-    match wakes {
-        Wakes::Turns(place) => mark_place(tables, run, place),
-        Wakes::TurnsWrites { driver, addr } => mark_writes(tables, run, driver, addr),
-        Wakes::TurnsReads { driver, addr } => mark_reads(tables, run, driver, addr),
-        Wakes::Nothing | Wakes::Leaves(_) | Wakes::Empties(_) | Wakes::Frees => {}
-    }
-}
-
-// Sets the run marks of the places that a command with this reply woke. Clears the wanted marks of the places that the
-// command freed.
-pub fn wake(tables: &Tables, marks: &mut Marks, wakes: Wakes, reply: &Reply)
-    requires over { AreOver tables.now.drivers marks.old }
-    requires listed { IsListed marks.old }
-    ensures { IsWoken tables.now.drivers tables.now.configuration (turned_under tables.now.configuration wakes)
-        (freed_under reply.now wakes) marks.old marks.new }
-{
-    release_freed(tables, marks, wakes, reply);
-    mark_turned(tables, &mut marks.run, wakes);
 }

@@ -3,8 +3,8 @@ use Rattle.smx_queues.proofs.PlacesOfLemmas.{same_number}
 use Rattle.smx_config.proofs.PlaceNumberLemmas.{none_found}
 use Rattle.smx_config.proofs.marks.mark_if_asked.Goals as goal
 
-pub returns-then-asks_for : goal.returns-then-asks_for
-returns-then-asks_for c = record {
+pub returns-then-is_some_and : goal.returns-then-is_some_and
+returns-then-is_some_and c = record {
   here = λ i at has. subst (λ (x : ℕ). has_bit c.set.new.self x ≡ true)
       (same_number c.args.tables.now.drivers c.in-Some.n i c.args.place
       (rw c.queues.ensures.drivers at c.in-Some.ensures.found) at) c.set.ensures.here;

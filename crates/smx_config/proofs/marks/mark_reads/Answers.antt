@@ -1,6 +1,19 @@
-use Rattle.smx_config.proofs.Common.{ℕ, subst, arith, IsMarkedWhere}
-use Rattle.smx_config.proofs.RunMarkLemmas.{all_before, asks_before}
+use Rattle.smx_config.proofs.Common.{ℕ, subst, sym, ◌∙◌, arith, IsMarkedWhere}
+use Rattle.smx_config.proofs.RunMarkLemmas.{all_before, asks_before, next_lower, none_between, side_marked}
 use Rattle.smx_config.proofs.marks.mark_reads.Goals as goal
+use Rattle.smx_config.proofs.marks.mark_reads.Goals.{then-reaches, else-reaches}
+
+pub loop-lower-preserved : goal.loop-lower-preserved
+loop-lower-preserved c =
+    let drivers = c.args.tables.now.drivers in
+    let now = c.args.tables.now.configuration in
+    let lower = c.loop-lower.lower in
+    next_lower drivers now c.args.driver c.args.addr lower _ _ _ c.loop-lower.invariant (elim c.if-reaches.branch [
+      | then-reaches w ↦
+          rw w.run-is (side_marked drivers now c.args.driver c.args.addr lower _ _ w.mark_side.ensures)
+      | else-reaches w ↦ rw w.run-is (none_between drivers now c.args.driver c.args.addr lower _
+          (rw c.links-in-loop-lower.ensures at (sym c.reaches.ensures ∙ w.if-reaches.false)))
+    ])
 
 pub returns : goal.returns
 returns c =

@@ -17,8 +17,8 @@ settle-requires-clause-sound c =
 pub settle-requires-clause-marks : goal.settle-requires-clause-marks
 settle-requires-clause-marks c =
     woken_if c.self.inside.tables c.perform-answer.new.self c.args.process c.args.command.now c.perform-answer.result
-    c.perform-answer.new.reply c.wakes_of-wakes.result c.self.inside.marks c.wake.new.marks
-    (sym c.is_ok.ensures.value ∙ c.if-is_ok.true) c.perform-answer.ensures.refines c.wakes_of-wakes.ensures
+    c.perform-answer.new.reply c.unwrap_or-wakes.result c.self.inside.marks c.wake.new.marks
+    (sym c.is_ok.ensures.value ∙ c.if-is_ok.true) c.perform-answer.ensures.refines (c.unwrap_or-wakes.ensures ∙ c.wakes_of.ensures)
     c.self.invariant.kept.sound c.self.invariant.filled c.self.invariant.marks c.wake.ensures
 
 pub invariant_of-self : goal.invariant_of-self
