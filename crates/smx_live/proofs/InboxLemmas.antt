@@ -2,14 +2,13 @@
 use Rattle.smx_live.proofs.Common.{◌≡◌, ◌≢◌, ℕ, ◌+◌, ◌<◌, ◌≤◌, Bool, List, [], ◌∷◌, ◌++◌, length, take, drop, sym, ap}
 use Rattle.smx_live.proofs.Common.{subst, ◌∙◌, append_assoc, arith, length-append, length-take-le, LINE_FEED}
 use Rattle.smx_live.proofs.Common.{IsOneLine, MainFault, Refused, Text, TooLong, ReadFailed, WriteFailed, FailsToRead}
-use Rattle.smx_live.proofs.Common.{HasLine, IsTooLong, MAX_INPUT}
+use Rattle.smx_live.proofs.Common.{HasLine, IsTooLong, MAX_INPUT, inl, inr, true, false}
 use Rattle.std.proofs.Common.{take-append-drop}
 use Rattle.std.proofs.Math.Seq.{drop-append-add, take-append-add, take-append_seam}
 use Rattle.std.proofs.lemmas.List.{take_all}
-use Rattle.std.specs.Prelude.{Option, Result, Ok, Err}
+use Rattle.std.specs.Prelude.{◌⊎◌, Option, Some, None, MatchOption, is_some, unwrap_or}
 use Rattle.smx_text.proofs.EachLemmas.{all_append}
-use Rattle.smx_live.specs.Inboxes.{LineComes, MayBeTaken}
-use Rattle.smx_live.specs.declared.inbox.Inbox.{Inbox}
+use Rattle.smx_live.specs.Inboxes.{IsFound, IsShort}
 
 -- ---- lines
 
@@ -84,19 +83,31 @@ fails_as failures long unfinished (Refused f) why = why
 fails_as failures long unfinished (Text f) why = why
 fails_as failures long unfinished WriteFailed why = why
 
--- reads end with a line that is accepted or too long
-pub line_found : (new : Inbox) {n : ℕ} {all : List ℕ} {ended : Bool} {failures : ℕ} → new.held.items ≡ all
-    → ended ≡ new.ended → failures ≡ 0 → HasLine n new.held.items → (r : Result (Option ℕ) MainFault) → MayBeTaken n r
-    → LineComes ended failures new all r
-line_found new is end fine line (Ok o) told =
-    record { held = is; end = end; fine = fine; found = rw told.0 (line, told.1) }
-line_found new {n} is end fine line (Err e) told =
-    rw (told.0, ← is) (fine, (n, told.1, omega (arith, line.within), line.one))
+-- a first line of more bytes than the limit is too long, whole or not
+pub too_long : (held : List ℕ) (line : Option ℕ) (len : ℕ) → len ≡ length held
+    → MatchOption line (IsOneLine held) (λ n. HasLine n held) → MAX_INPUT < unwrap_or line len → IsTooLong held
+too_long held None len is one many = (
+  length held,
+  omega (arith, is, many),
+  omega arith,
+  subst IsOneLine (sym (take_all (length held) held (omega arith))) one,
+)
+too_long held (Some n) len is line many = (n, many, omega (arith, line.within), line.one)
 
--- bytes without a line feed that are more than the limit are too long
-pub held_too_long : (held : List ℕ) → IsOneLine held → MAX_INPUT < length held → IsTooLong held
-held_too_long held one many =
-    (length held, many, omega arith, subst IsOneLine (sym (take_all (length held) held (omega arith))) one)
+-- any other is accepted, if it is whole or no more bytes come
+pub found_line : (ended : Bool) (held : List ℕ) (line : Option ℕ) (len : ℕ) → len ≡ length held
+    → MatchOption line (IsOneLine held) (λ n. HasLine n held) → unwrap_or line len ≤ MAX_INPUT
+    → (is_some line ≡ true) ⊎ (ended ≡ true) → IsFound ended held line
+found_line ended held None len is one few (inl some) = absurd (cc some)
+found_line ended held None len is one few (inr end) = (end, (one, omega (arith, is, few)))
+found_line ended held (Some n) len is line few why = (line, few)
+
+-- bytes in which no whole line was found have none
+pub none_found : (held : List ℕ) (line : Option ℕ) (len : ℕ) → len ≡ length held
+    → MatchOption line (IsOneLine held) (λ n. HasLine n held) → unwrap_or line len ≤ MAX_INPUT
+    → is_some line ≡ false → IsShort held
+none_found held None len is one few none = (one, omega (arith, is, few))
+none_found held (Some n) len is line few none = absurd (cc none)
 
 -- ---- where bytes move
 

@@ -10,7 +10,7 @@ use Rattle.std.proofs.KnownBytes.{Appends-kept, Appends-nil, Appends-trans, Cons
 use Rattle.std.proofs.Math.Seq.{take-append-add}
 use Rattle.std.proofs.lemmas.List.{append-nil, length-drop}
 use Rattle.std.specs.Io.KnownBytes.{Appends}
-use Rattle.smx_live.specs.LiveStages.{Converses, Finishes, GoesOn, IsPossible, TurnsOn}
+use Rattle.smx_live.specs.LiveStages.{Converses, Finishes, IsPossible}
 use Rattle.smx_live.specs.LiveTurns.{FailsToSay, IsTurnText, Says, TakesTurn, Writes}
 use Rattle.smx_live.specs.Turns.{IsTaken, answer_text}
 use Rattle.smx_live.specs.declared.talk.TurnFault.{TurnFault}
@@ -66,10 +66,15 @@ module _ (explain : Bool) (s next : State) (far more : Progress) (line text : Li
 module _ {explain : Bool} {read : List ℕ} {ended : Bool} {output : List ℕ} {s : State}
     {far : Progress} {n : ℕ} {held : List ℕ} (l : IsLive explain read ended output s far held) (line : HasLine n held)
     (small : n ≤ MAX_INPUT) where
+  -- with this text, the session has ended; or it goes on with this state
+  abbrev pub GoesOn : State → Progress → Bool → List ℕ → Type 0
+  GoesOn later many true text = IsOver explain read ended (output ++ text)
+  GoesOn later many false text = IsLive explain read ended (output ++ text) later many (drop (n + 1) held)
+
   -- after any text for the first line, the session goes on or has ended
   goes_on : (over : Bool) (text : List ℕ) (later : State) (many : Progress)
       → IsTurnText explain s far (take n held) later many over text
-      → GoesOn explain read output ended later many (drop (n + 1) held) over text
+      → GoesOn later many over text
   goes_on true text later many closing = ended_by_line l line small text later many closing
   goes_on false text later many (a, below, taken, belongs, is) =
       rw is (turned l line small a below later many taken belongs)
@@ -77,7 +82,7 @@ module _ {explain : Bool} {read : List ℕ} {ended : Bool} {output : List ℕ} {
   -- what holds of a turn over the held bytes holds over everything that was read
   pub turned_on : (next : State) (more : Progress) (before after : Option (List ℕ)) (flushed : Bool) (failures : ℕ)
       (r : Result Bool MainFault) → TakesTurn explain s far (take n held) next more before after flushed failures r
-      → TurnsOn explain read output ended next more (drop (n + 1) held) before after flushed failures r
+      → Says (GoesOn next more) (IsPossible explain read output ended) ⊤ before after flushed failures r
   turned_on next more before after flushed failures (Ok over) h =
       (h.0, h.1, h.2, h.3, goes_on over h.2 next more h.4)
   turned_on next more before after flushed failures (Err WriteFailed) (failed, text, cut, inl (later, many, may)) =

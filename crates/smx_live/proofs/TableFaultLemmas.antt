@@ -2,7 +2,7 @@
 use Rattle.smx_live.proofs.Common.{◌≡◌, ◌≢◌, ℕ, ◌≤◌, Bool, List, [], ◌∷◌, ◌++◌, length, refl, sym, ap, subst, ◌∙◌}
 use Rattle.smx_live.proofs.Common.{inl, inr, AllByRecursion, ProgramLists, Entry, DriverSpec, Version, ReadsAny}
 use Rattle.smx_live.proofs.Common.{Spells, programs_grammar, State, MAX_INPUT, Refused, Text, HasOneReading}
-use Rattle.smx_live.proofs.Common.{one_value, HasComeSoFar, IsLive, IsOutcome, IsEndlessTable, table_text}
+use Rattle.smx_live.proofs.Common.{one_value, HasComeSoFar, IsLive, IsEndlessTable, table_text}
 use Rattle.smx_live.proofs.Common.{AreAnswered, Turn, entries_in, Progress}
 use Rattle.std.proofs.Common.{Err}
 use Rattle.smx_config.specs.DriverFaults.{RefusesDrivers}
@@ -15,7 +15,7 @@ use Rattle.smx_text.specs.declared.text_fault.TextFault.{TextFault}
 use Rattle.smx_session.specs.Sessions.{HasDrivers}
 use Rattle.smx_run.proofs.RefusalLemmas.{HaveOneFault, only_memory_refuses}
 use Rattle.smx_run.proofs.ReadingLemmas as texts
-use Rattle.smx_live.specs.LiveText.{RefusesDriversOf}
+use Rattle.smx_live.specs.LiveText.{RefusesDriversOf, Returned}
 use Rattle.smx_live.specs.Tables.{HasShortTableOf, HasTableOf}
 use Rattle.smx_live.proofs.OverTableLemmas.{not_endless, table_once}
 
@@ -100,39 +100,48 @@ fault_of_drivers drivers run.Held never other = absurd never
 fault_of_drivers drivers (run.FewEntries count) never other = absurd never
 fault_of_drivers drivers (run.LongPage count) never other = absurd never
 
-module _ (reading : HasOneReading programs_grammar) (explain : Bool) (read output : List ℕ) (ended flushed : Bool)
-    (reads writes : ℕ) where
+-- if the drivers of a table are refused, but not for lack of memory, nothing was written, and the table is not too long
+pub refused_alone : (read : List ℕ) (ended : Bool) (fault : RunFault) (o : Returned read ended (Err (Refused fault)))
+    → fault ≢ run.NoMemory → (o.output ≡ []) × HasShortTableOf read ended (RefusesDriversOf fault)
+refused_alone read ended fault o known = elim o.outcome.1 [
+  | inl (is, broken) ↦ absurd (known is)
+  | inr refused ↦ refused
+]
+
+module _ (reading : HasOneReading programs_grammar) (read : List ℕ) (ended : Bool) where
   -- only one fault is reported for a table
-  pub one_fault : (one other : TextFault) → IsOutcome explain read output ended flushed reads writes (Err (Text one))
-      → IsOutcome explain read output ended flushed reads writes (Err (Text other)) → one ≡ other
-  one_fault one other (fine, none, known, bad) (fine_too, none_too, known_too, bad_too) =
+  pub one_fault : (one other : TextFault) → Returned read ended (Err (Text one))
+      → Returned read ended (Err (Text other)) → one ≡ other
+  one_fault one other o p =
+      let (fine, none, known, bad) = o.outcome in
+      let (fine_too, none_too, known_too, bad_too) = p.outcome in
       let IsBad : TextFault → List ℕ → Type 0 = λ f t. ReadsAny programs_grammar t (Err f) in
       let (text, first, last) = both (IsBad one) (IsBad other) (of_short (IsBad one) bad)
       (of_short (IsBad other) bad_too) in
       texts.one_fault programs_grammar reading text one other first last known known_too
 
   -- if the text of a table has a fault, its drivers are not refused
-  pub text_or_drivers : (fault : TextFault) (other : RunFault)
-      → IsOutcome explain read output ended flushed reads writes (Err (Text fault))
-      → IsOutcome explain read output ended flushed reads writes (Err (Refused other)) → other ≡ run.NoMemory
-  text_or_drivers fault other h (fine, inl (is, broken)) = is
-  text_or_drivers fault other (fine, none, known, bad) (fine_too, inr (none_too, refused)) =
-      let IsBad : List ℕ → Type 0 = λ t. ReadsAny programs_grammar t (Err fault) in
-      let (text, first, (w, q, spelled, last)) = both IsBad (RefusesDriversOf other) (of_short IsBad bad)
-      (of_short (RefusesDriversOf other) refused) in
-      absurd (texts.no_fault programs_grammar reading text w q fault spelled first known)
+  pub text_or_drivers : (fault : TextFault) (other : RunFault) → Returned read ended (Err (Text fault))
+      → Returned read ended (Err (Refused other)) → other ≡ run.NoMemory
+  text_or_drivers fault other o p = elim p.outcome.1 [
+    | inl (is, broken) ↦ is
+    | inr (none_too, refused) ↦
+        let (fine, none, known, bad) = o.outcome in
+        let IsBad : List ℕ → Type 0 = λ t. ReadsAny programs_grammar t (Err fault) in
+        let (text, first, (w, q, spelled, last)) = both IsBad (RefusesDriversOf other) (of_short IsBad bad)
+        (of_short (RefusesDriversOf other) refused) in
+        absurd (texts.no_fault programs_grammar reading text w q fault spelled first known)
+  ]
 
   -- the drivers of a table are refused for one fault, if it is not out-of-memory
-  pub one_refusal : HaveOneFault → (one other : RunFault)
-      → IsOutcome explain read output ended flushed reads writes (Err (Refused one))
-      → IsOutcome explain read output ended flushed reads writes (Err (Refused other)) → one ≢ run.NoMemory
-      → other ≢ run.NoMemory → one ≡ other
-  one_refusal determined one other (fine, inl (is, broken)) h known known_too = absurd (known is)
-  one_refusal determined one other h (fine, inl (is, broken)) known known_too = absurd (known_too is)
-  one_refusal determined one other (fine, inr (none, bad)) (fine_too, inr (none_too, bad_too)) known known_too =
-      let (text, (v, p, spelled, refused), also) = both (RefusesDriversOf one) (RefusesDriversOf other)
+  pub one_refusal : HaveOneFault → (one other : RunFault) → Returned read ended (Err (Refused one))
+      → Returned read ended (Err (Refused other)) → one ≢ run.NoMemory → other ≢ run.NoMemory → one ≡ other
+  one_refusal determined one other o p known known_too =
+      let bad = (refused_alone read ended one o known).1 in
+      let bad_too = (refused_alone read ended other p known_too).1 in
+      let (text, (v, q, spelled, refused), also) = both (RefusesDriversOf one) (RefusesDriversOf other)
       (of_short (RefusesDriversOf one) bad) (of_short (RefusesDriversOf other) bad_too) in
-      let first = fault_of_drivers p.drivers one refused known in
-      let last = fault_of_drivers p.drivers other
-      (drivers_of reading text (λ ds. RefusesAlone ds other) also v p spelled) known_too in
-      first.1 ∙ ap run.ConfigFault (determined p.drivers first.0 last.0 first.2 last.2) ∙ sym last.1
+      let first = fault_of_drivers q.drivers one refused known in
+      let last = fault_of_drivers q.drivers other
+      (drivers_of reading text (λ ds. RefusesAlone ds other) also v q spelled) known_too in
+      first.1 ∙ ap run.ConfigFault (determined q.drivers first.0 last.0 first.2 last.2) ∙ sym last.1

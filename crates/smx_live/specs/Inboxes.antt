@@ -33,11 +33,6 @@ FailsToRead Long Unfinished failures (Refused fault) = (failures ≡ 0) × (faul
 FailsToRead Long Unfinished failures (Text fault) = ⊥
 FailsToRead Long Unfinished failures WriteFailed = ⊥
 
--- a line of `n` bytes is accepted, or is over the limit
-abbrev pub MayBeTaken : ℕ → Result (Option ℕ) MainFault → Type 0
-MayBeTaken n (Ok line) = (line ≡ Some n) × (n ≤ MAX_INPUT)
-MayBeTaken n (Err fault) = (fault ≡ TooLong) × (MAX_INPUT < n)
-
 -- One read of a feed that had `had` and has `left`, has ended or not, and has failed this number of times. It
 -- read exactly these bytes, and they follow those that were held.
 pub record IsPiece (had left : Option (List ℕ)) (ended : Bool) (failures : ℕ) (held now read : List ℕ)

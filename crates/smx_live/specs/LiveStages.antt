@@ -12,13 +12,12 @@ use Rattle.smx_text.specs.declared.text_fault.Cause.TheVariants as cause
 use Rattle.smx_session.specs.Sessions.{IsStartOf, State, WantsMemory}
 use Rattle.smx_run.specs.declared.input.TheConstants.{MAX_INPUT}
 use Rattle.smx_live.specs.Inboxes.{FailsToRead}
-use Rattle.smx_live.specs.LiveText.{HasComeSoFar, IsLive, IsOutcome, IsOver, RefusesDriversOf}
+use Rattle.smx_live.specs.LiveText.{HasComeSoFar, IsOutcome, IsOver, RefusesDriversOf}
 use Rattle.smx_live.specs.LiveTurns.{Says}
 use Rattle.smx_live.specs.Tables.{IsEndlessTable, IsTable, IsUnfinished, begins_driver, table_text}
 use Rattle.smx_run.specs.declared.main_fault.MainFault.{MainFault}
 use Rattle.smx_run.specs.declared.main_fault.MainFault.TheVariants.{Refused, Text, TooLong, ReadFailed, WriteFailed}
 use Rattle.smx_live.specs.declared.inbox.Inbox.{Inbox}
-use Rattle.smx_live.specs.declared.talk.Progress.{Progress}
 use Rattle.smx_live.specs.declared.talk.Talk.{Talk}
 
 -- A table of what was read, `all`, was taken, and what was read after it is held; or no table ends in what was read.
@@ -77,16 +76,6 @@ module _ (explain : Bool) (read output : List ℕ) (ended : Bool) where
   -- with this text, some session is `IsLive` so far, or it has ended
   abbrev pub IsPossible : List ℕ → Type 0
   IsPossible text = HasComeSoFar explain read ended (output ++ text) ⊎ IsOver explain read ended (output ++ text)
-
-  -- with this text, the session has ended; or it is `IsLive` with this state
-  abbrev pub GoesOn : State → Progress → List ℕ → Bool → List ℕ → Type 0
-  GoesOn s far held true text = IsOver explain read ended (output ++ text)
-  GoesOn s far held false text = IsLive explain read ended (output ++ text) s far held
-
-  -- the session `IsLive` up to here takes a turn
-  abbrev pub TurnsOn : State → Progress → List ℕ → Option (List ℕ) → Option (List ℕ) → Bool → ℕ
-      → Result Bool MainFault → Type 0
-  TurnsOn s far held = Says (GoesOn s far held) IsPossible ⊤
 
   -- the session `IsLive` up to here ends, because its input has ended
   abbrev pub Finishes : Option (List ℕ) → Option (List ℕ) → Bool → ℕ → Result (Unit {0}) MainFault → Type 0

@@ -165,6 +165,16 @@ module _ (explain : Bool) (read output : List ℕ) (ended flushed : Bool) (read_
   IsOutcome (Err WriteFailed) = (read_failures ≡ 0) × (write_failures ≡ 1) × (n : ℕ) × (whole : List ℕ)
       × (output ≡ take n whole) × (HasComeSoFar explain read ended whole ⊎ IsOver explain read ended whole)
 
+-- A session that has returned this result, after it read these bytes. Its input has ended or not. It explains lines, or
+-- doesn't; its output is flushed, or not; and its reader and its writer have failed this number of times.
+pub record Returned (read : List ℕ) (ended : Bool) (result : Result (Unit {0}) MainFault) : Type 0 where
+  pub explain : Bool
+  pub output : List ℕ
+  pub flushed : Bool
+  pub reads : ℕ
+  pub writes : ℕ
+  pub outcome : IsOutcome explain read output ended flushed reads writes result
+
 -- A session from bytes to bytes, which explains lines that are not commands, or doesn't. The reader had `had` and has
 -- `left`, and has ended or not. The writer held `before` and holds `after`, flushed or not. In this call each has
 -- failed this number of times.

@@ -7,19 +7,11 @@ use Rattle.smx_text.specs.TranscriptText.{IsSpellableView}
 use Rattle.smx_session.specs.Sessions.{Performs, State}
 use Rattle.smx_live.specs.LiveText.{closing_text}
 use Rattle.smx_run.specs.Devices.{AppendsBeginning}
-use Rattle.smx_live.specs.Turns.{Answer, AsksForNeither, AsksToShow, IsBelow, IsTaken, NotDone, answer_text}
+use Rattle.smx_live.specs.Turns.{Answer, IsBelow, IsTaken, NotDone, answer_text}
 use Rattle.smx_run.specs.declared.main_fault.MainFault.{MainFault}
 use Rattle.smx_run.specs.declared.main_fault.MainFault.TheVariants.{Refused, Text, TooLong, ReadFailed, WriteFailed}
-use Rattle.smx_live.specs.declared.talk.Asked.{Asked}
 use Rattle.smx_live.specs.declared.talk.Progress.{Progress}
-use Rattle.smx_live.specs.declared.talk.Asked.TheVariants.{Show, End, Call}
 use Rattle.smx_live.specs.declared.talk.TurnFault.TheVariants.{NoCommand}
-
--- what a line asks for
-abbrev pub IsAsked : List ℕ → Asked → Type 0
-IsAsked line Show = AsksToShow line
-IsAsked line End = line ≡ codes "end"
-IsAsked line Call = AsksForNeither line
 
 -- why no text was written: the writer failed within a text that `Possible` allows; or memory ran out before anything
 -- was written, as `Wanting` says

@@ -1,14 +1,14 @@
 //! The answers of a live session.
 
-ghost use Rattle.std.specs.Prelude.{◌≡◌, ◌++◌, ℕ, Bool, true, List, IfOk, MatchBool, codes};
+ghost use Rattle.std.specs.Prelude.{◌≡◌, ◌++◌, ℕ, Bool, List, IfOk, codes};
 ghost use Rattle.smx_explain.specs.ColumnWords.{IsExplanationOf};
 ghost use Rattle.smx_live.specs.LiveTurns.{TakesTurn, Writes};
 ghost use Rattle.smx_live.specs.Turns.{AsksForNeither, AsksToShow, IsRefusedFor, fault_line};
 ghost use Rattle.smx_live.specs.declared.talk.TurnFault.TheVariants.{NoCommand};
 
-use crate::talk::{Asked, Talk, TurnFault, asked_by, shown_with, switched};
+use crate::talk::{Talk, TurnFault, asks_to_show, shown_with, switched};
 use smx_explain::explain_line;
-use smx_run::{MainFault, RunFault, Sink, write_all};
+use smx_run::{MainFault, Sink, write_all};
 use smx_types::{NoMemory, Version};
 use std::alloc::Global;
 
@@ -25,11 +25,13 @@ pub fn answer<S: Sink>(
     ensures { TakesTurn explain talk.old.session talk.old.progress line.now talk.new.session talk.new.progress
         (S.contents sink.old) (S.contents sink.new) (S.flushed sink.new) (S.failures sink.new) result }
 {
-    match asked_by(line) {
-        Asked::Show => show(alloc, sink, talk, line),
-        Asked::End => end(alloc, sink, talk, line),
-        Asked::Call => call(alloc, sink, talk, line, explain),
+    if asks_to_show(line) {
+        return show(alloc, sink, talk, line);
     }
+    if line == "end".as_bytes() {
+        return end(alloc, sink, talk, line);
+    }
+    call(alloc, sink, talk, line, explain)
 }
 
 /// Writes a text and flushes it. If this succeeds, returns `value`.
@@ -93,10 +95,9 @@ fn call<S: Sink>(
     ensures { TakesTurn explain talk.old.session talk.old.progress line.now talk.new.session talk.new.progress
         (S.contents sink.old) (S.contents sink.new) (S.flushed sink.new) (S.failures sink.new) result }
 {
-    match talk.perform(alloc, line) {
-        Ok(None) => say(sink, talk.text.as_slice(), false),
-        Ok(Some(fault)) => refuse(alloc, sink, talk, line, fault, explain),
-        Err(_) => Err(MainFault::Refused(RunFault::NoMemory)),
+    match talk.perform(alloc, line)? {
+        None => say(sink, talk.text.as_slice(), false),
+        Some(fault) => refuse(alloc, sink, talk, line, fault, explain),
     }
 }
 
@@ -114,20 +115,11 @@ fn refuse<S: Sink>(
     ensures { TakesTurn explain talk.now.session talk.now.progress line.now talk.now.session talk.now.progress
         (S.contents sink.old) (S.contents sink.new) (S.flushed sink.new) (S.failures sink.new) result }
 {
-    if is_explained(fault, explain) {
-        return match explained(alloc, talk.session.version(), line) {
-            Ok(text) => say(sink, text.as_slice(), false),
-            Err(_) => Err(MainFault::Refused(RunFault::NoMemory)),
-        };
+    if explain && fault == TurnFault::NoCommand {
+        let text = explained(alloc, talk.session.version(), line)?;
+        return say(sink, text.as_slice(), false);
     }
     say(sink, line_of_fault(fault), false)
-}
-
-// Returns whether the line that reports this fault is followed by an explanation.
-fn is_explained(fault: TurnFault, explain: bool) -> bool
-    ensures { MatchBool result ((fault ≡ NoCommand) × (explain ≡ true)) ((fault ≡ NoCommand) × (explain ≡ true) → ⊥) }
-{
-    explain && fault == TurnFault::NoCommand
 }
 
 // Returns the answer to a line that is not a command, with its explanation. Fails only if it is out of memory.

@@ -1,13 +1,11 @@
 //! Splits a feed into lines.
 
-ghost use Rattle.std.specs.Prelude.{◌≡◌, ℕ, ◌+◌, ◌<◌, ◌≤◌, ◌∷◌, ◌++◌, [], List, false, length, take, drop};
-ghost use Rattle.std.specs.Prelude.{MatchOption};
-ghost use Rattle.smx_live.specs.Inboxes.{HasLine, IsNextLine, IsPiece, MayBeTaken};
+ghost use Rattle.std.specs.Prelude.{◌≡◌, ℕ, ◌+◌, ◌<◌, ◌≤◌, [], List, MatchOption, false, length, take, drop};
+ghost use Rattle.smx_live.specs.Inboxes.{HasLine, IsNextLine, IsPiece};
 ghost use Rattle.smx_text.specs.Grammar.{IsOneLine};
-ghost use Rattle.smx_words.specs.Words.{LINE_FEED};
 
 use memchr::memchr;
-use smx_run::{Feed, MAX_INPUT, MainFault, RunFault};
+use smx_run::{Feed, MAX_INPUT, MainFault};
 use std::alloc::Global;
 
 // The number of bytes for which one read asks.
@@ -46,23 +44,17 @@ impl Inbox {
     {
         let mut seen = 0usize;
         'reads: loop {
-            if let Some(n) = line_from(&self.held, seen) {
-                return line_of(n);
-            }
+            let line = line_from(&self.held, seen);
             seen = self.held.len();
-            if seen > MAX_INPUT {
+            if line.unwrap_or(seen) > MAX_INPUT {
                 return Err(MainFault::TooLong);
             }
-            if self.ended {
-                return Ok(None);
+            if line.is_some() || self.ended {
+                return Ok(line);
             }
-            match read_piece(feed, &mut self.held) {
-                Ok(true) => {}
-                Ok(false) => {
-                    self.ended = true;
-                    return Ok(None);
-                }
-                Err(fault) => return Err(fault),
+            if !read_piece(feed, &mut self.held)? {
+                self.ended = true;
+                return Ok(None);
             }
         }
     }
@@ -79,8 +71,7 @@ impl Inbox {
 
 // Returns the number of bytes before the first line feed, if there is one.
 fn line_in(bytes: &[u8]) -> Option<usize>
-    ensures { MatchOption result (IsOneLine bytes.now) (λ n. (n < length bytes.now) × IsOneLine (take n bytes.now)
-        × (bytes.now ≡ take n bytes.now ++ LINE_FEED ∷ drop (n + 1) bytes.now)) }
+    ensures { MatchOption result (IsOneLine bytes.now) (λ n. HasLine n bytes.now) }
 {
     memchr(b'\n', bytes)
 }
@@ -92,20 +83,8 @@ fn line_from(held: &[u8], seen: usize) -> Option<usize>
     requires none { IsOneLine (take seen held.now) }
     ensures { MatchOption result (IsOneLine held.now) (λ n. HasLine n held.now) }
 {
-    if let Some(n) = line_in(&held[seen..]) {
-        return Some(seen + n);
-    }
-    None
-}
-
-// Returns the length `n` of a line, or fails if `n` is over the limit.
-fn line_of(n: usize) -> Result<Option<usize>, MainFault>
-    ensures { MayBeTaken n result }
-{
-    if n > MAX_INPUT {
-        return Err(MainFault::TooLong);
-    }
-    Ok(Some(n))
+    let n = line_in(&held[seen..])?;
+    Some(seen + n)
 }
 
 // Reads once and appends the bytes to `held`. Returns `false` if there were none, because the feed has ended.
@@ -119,9 +98,7 @@ fn read_piece<F: Feed>(feed: &mut F, held: &mut Vec<u8>) -> Result<bool, MainFau
     match feed.read(&mut piece) {
         Ok(0) => Ok(false),
         Ok(n) => {
-            if held.extend_from_slice(&piece[..n]).is_err() {
-                return Err(MainFault::Refused(RunFault::NoMemory));
-            }
+            held.extend_from_slice(&piece[..n])?;
             Ok(true)
         }
         Err(_) => Err(MainFault::ReadFailed),

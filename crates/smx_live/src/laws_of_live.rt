@@ -5,7 +5,6 @@ ghost use Rattle.std.specs.Prelude.{◌≡◌, ◌≢◌, ℕ, ◌<◌, ◌≤�
 ghost use Rattle.std.specs.Prelude.{codes};
 ghost use Rattle.smx_types.specs.declared.command.Entry.{Entry};
 ghost use Rattle.smx_types.specs.declared.driver.SpecFault.TheVariants.{BadMinors};
-ghost use Rattle.smx_types.specs.declared.limits.TheConstants.{MAX_COMMANDS};
 ghost use Rattle.smx_types.specs.declared.version.Version.{Version as AnyVersion};
 ghost use Rattle.smx_types.specs.declared.version.Version.TheVariants.{V1, V2};
 ghost use Rattle.smx_types.specs.declared.view.ConfigView.{ConfigView};
@@ -24,8 +23,8 @@ ghost use Rattle.smx_run.specs.declared.main_fault.MainFault.TheVariants.{ReadFa
 ghost use Rattle.smx_run.specs.declared.main_fault.MainFault.TheVariants.{WriteFailed};
 ghost use Rattle.smx_explain.specs.ColumnWords.{IsExplanationOf};
 ghost use Rattle.smx_live.specs.Inboxes.{HasLine, IsTooLong};
-ghost use Rattle.smx_live.specs.LiveText.{HasComeSoFar, IsBroken, IsLegalTranscript, IsLive, IsOutcome, IsOver};
-ghost use Rattle.smx_live.specs.LiveText.{RefusesDriversOf};
+ghost use Rattle.smx_live.specs.LiveText.{HasComeSoFar, IsBroken, IsLegalTranscript, IsLive, IsOver, RefusesDriversOf};
+ghost use Rattle.smx_live.specs.LiveText.{Returned};
 ghost use Rattle.smx_live.specs.Tables.{HasTableOf, IsEndlessTable, IsTable, IsUnfinished, table_text};
 ghost use Rattle.smx_live.specs.Turns.{Entered, HasEnoughMemory, IsAnswer, IsBelow, IsExplained, IsRefusedFor};
 ghost use Rattle.smx_live.specs.Turns.{NotDone, Shown, traces_after};
@@ -89,36 +88,16 @@ pub fn a_session_has_its_drivers()
 /// long, and nothing was written. For the same bytes only one fault can be reported: one of the text, or one of the
 /// drivers. Memory can also run out instead; this is never reported as a fault of the text.
 pub fn a_table_has_one_fault()
-    ensures one { (explain : Bool) (read output : List ℕ) (ended flushed : Bool) (reads writes : ℕ)
-        (one other : TextFault)
-        → IsOutcome explain read output ended flushed reads writes (Err (Text one))
-        → IsOutcome explain read output ended flushed reads writes (Err (Text other)) → one ≡ other }
-    ensures known { (explain : Bool) (read output : List ℕ) (ended flushed : Bool) (reads writes : ℕ)
-        (fault : TextFault)
-        → IsOutcome explain read output ended flushed reads writes (Err (Text fault)) → fault.cause ≢ cause.NoMemory }
-    ensures short { (explain : Bool) (read output : List ℕ) (ended flushed : Bool) (reads writes : ℕ)
-        (fault : TextFault)
-        → IsOutcome explain read output ended flushed reads writes (Err (Text fault)) → IsEndlessTable read → ⊥ }
-    ensures drivers { (explain : Bool) (read output : List ℕ) (ended flushed : Bool) (reads writes : ℕ)
-        (fault : AnyFault)
-        → IsOutcome explain read output ended flushed reads writes (Err (Refused fault)) → fault ≢ run.NoMemory
-        → IsEndlessTable read → ⊥ }
-    ensures silent { (explain : Bool) (read output : List ℕ) (ended flushed : Bool) (reads writes : ℕ)
-        (fault : TextFault)
-        → IsOutcome explain read output ended flushed reads writes (Err (Text fault)) → output ≡ [] }
-    ensures drivers_silent { (explain : Bool) (read output : List ℕ) (ended flushed : Bool)
-        (reads writes : ℕ) (fault : AnyFault)
-        → IsOutcome explain read output ended flushed reads writes (Err (Refused fault)) → fault ≢ run.NoMemory
-        → output ≡ [] }
-    ensures one_refusal { (explain : Bool) (read output : List ℕ) (ended flushed : Bool)
-        (reads writes : ℕ) (one other : AnyFault)
-        → IsOutcome explain read output ended flushed reads writes (Err (Refused one))
-        → IsOutcome explain read output ended flushed reads writes (Err (Refused other)) → one ≢ run.NoMemory
-        → other ≢ run.NoMemory → one ≡ other }
-    ensures text_first { (explain : Bool) (read output : List ℕ) (ended flushed : Bool) (reads writes : ℕ)
-        (fault : TextFault)
-        (other : AnyFault) → IsOutcome explain read output ended flushed reads writes (Err (Text fault))
-        → IsOutcome explain read output ended flushed reads writes (Err (Refused other)) → other ≡ run.NoMemory }
+    ensures text { (read : List ℕ) (ended : Bool) (fault : TextFault) (o : Returned read ended (Err (Text fault)))
+        → (fault.cause ≢ cause.NoMemory) × (o.output ≡ []) × (IsEndlessTable read → ⊥) }
+    ensures drivers { (read : List ℕ) (ended : Bool) (fault : AnyFault) (o : Returned read ended (Err (Refused fault)))
+        → fault ≢ run.NoMemory → (o.output ≡ []) × (IsEndlessTable read → ⊥) }
+    ensures one { (read : List ℕ) (ended : Bool) (one other : TextFault) → Returned read ended (Err (Text one))
+        → Returned read ended (Err (Text other)) → one ≡ other }
+    ensures one_refusal { (read : List ℕ) (ended : Bool) (one other : AnyFault) → Returned read ended (Err (Refused one))
+        → Returned read ended (Err (Refused other)) → one ≢ run.NoMemory → other ≢ run.NoMemory → one ≡ other }
+    ensures text_first { (read : List ℕ) (ended : Bool) (fault : TextFault) (other : AnyFault)
+        → Returned read ended (Err (Text fault)) → Returned read ended (Err (Refused other)) → other ≡ run.NoMemory }
 {
     one_text_has_one_reading();
     drivers_have_one_fault();
@@ -173,9 +152,6 @@ pub fn a_worked_live_session()
     ensures trace_on_is_asked { IsAnswer V2 drivers [] (codes "trace on") (NotDone NoCommand) → ⊥ }
     ensures trace_off_is_asked { IsAnswer V2 drivers [] (codes "trace off") (NotDone NoCommand) → ⊥ }
     ensures in_its_version { (line below : List ℕ) → IsExplained true V1 line below → IsExplanationOf V1 line below }
-    ensures not_full { IsAnswer V2 drivers [] (codes "x") (NotDone Full) → ⊥ }
-    ensures full_is_reported { IsRefusedFor V2 MAX_COMMANDS (codes "3 clone eth") NoMemory → ⊥ }
-    ensures no_memory_for_no_command { IsRefusedFor V2 0 (codes "x") NoMemory → ⊥ }
     ensures not_performed { (e : Entry) → IsAnswer V2 drivers [] (codes "x") (Entered e) → ⊥ }
 {
     a_worked_session();
@@ -270,24 +246,18 @@ pub fn whose_drivers_are_refused()
 /// if more than 16,777,216 bytes were read. In the examples, a session has read the line `3 clone eth` and has not
 /// answered it. It then fails neither for its reader, nor because a later line is too long.
 pub fn no_line_waits_when_a_session_fails()
-    ensures done { (explain : Bool) (read output : List ℕ) (ended flushed : Bool) (reads writes : ℕ)
-        → IsOutcome explain read output ended flushed reads writes (Ok tt)
-        → (reads ≡ 0) × (writes ≡ 0) × (flushed ≡ true) × IsOver explain read ended output }
-    ensures unread { (explain : Bool) (read output : List ℕ) (ended flushed : Bool) (reads writes : ℕ)
-        → IsOutcome explain read output ended flushed reads writes (Err ReadFailed) → (reads ≡ 1) × (writes ≡ 0) }
-    ensures flushed { (explain : Bool) (read output : List ℕ) (ended flushed : Bool) (reads writes : ℕ)
-        → IsOutcome explain read output ended flushed reads writes (Err ReadFailed) → output ≢ [] → flushed ≡ true }
-    ensures unwritten { (explain : Bool) (read output : List ℕ) (ended flushed : Bool) (reads writes : ℕ)
-        → IsOutcome explain read output ended flushed reads writes (Err WriteFailed) → (reads ≡ 0) × (writes ≡ 1) }
-    ensures long { (explain : Bool) (read output : List ℕ) (ended flushed : Bool) (reads writes : ℕ)
-        → IsOutcome explain read output ended flushed reads writes (Err TooLong)
-        → (reads ≡ 0) × (writes ≡ 0) × (MAX_INPUT < length read) }
-    ensures none_unread { (explain flushed : Bool) (more : List ℕ) (reads writes : ℕ)
-        → IsOutcome explain (worked_table ++ (worked_line ++ more)) worked_opening false flushed reads writes
-        (Err ReadFailed) → ⊥ }
-    ensures none_too_long { (explain flushed : Bool) (more : List ℕ) (reads writes : ℕ) → length more < 2 ^ 63
-        → IsOutcome explain (worked_table ++ (worked_line ++ more)) worked_opening false flushed reads writes
-        (Err TooLong) → ⊥ }
+    ensures done { (read : List ℕ) (ended : Bool) (o : Returned read ended (Ok tt))
+        → (o.reads ≡ 0) × (o.writes ≡ 0) × (o.flushed ≡ true) × IsOver o.explain read ended o.output }
+    ensures unread { (read : List ℕ) (ended : Bool) (o : Returned read ended (Err ReadFailed))
+        → (o.reads ≡ 1) × (o.writes ≡ 0) × (o.output ≢ [] → o.flushed ≡ true) }
+    ensures unwritten { (read : List ℕ) (ended : Bool) (o : Returned read ended (Err WriteFailed))
+        → (o.reads ≡ 0) × (o.writes ≡ 1) }
+    ensures long { (read : List ℕ) (ended : Bool) (o : Returned read ended (Err TooLong))
+        → (o.reads ≡ 0) × (o.writes ≡ 0) × (MAX_INPUT < length read) }
+    ensures none_unread { (more : List ℕ) (o : Returned (worked_table ++ (worked_line ++ more)) false (Err ReadFailed))
+        → o.output ≡ worked_opening → ⊥ }
+    ensures none_too_long { (more : List ℕ) (o : Returned (worked_table ++ (worked_line ++ more)) false (Err TooLong))
+        → o.output ≡ worked_opening → length more < 2 ^ 63 → ⊥ }
 {
     a_worked_session();
     one_text_has_one_reading();

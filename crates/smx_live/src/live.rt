@@ -1,24 +1,22 @@
 //! A live session from bytes to bytes: each line is answered at once.
 
-ghost use Rattle.std.specs.Prelude.{◌≡◌, ◌≢◌, ◌+◌, ◌≤◌, ◌⊎◌, ◌++◌, List, ℕ, Bool, true, false, drop, IfOk};
 ghost use Rattle.std.specs.List.{ends_with};
-ghost use Rattle.std.specs.Prelude.{MatchBool, OnErr, OnOk, codes, nat_eq};
+ghost use Rattle.std.specs.Prelude.{◌≡◌, ◌≢◌, ◌⊎◌, List, ℕ, Bool, true, false, IfErr, IfOk, MatchBool, codes, nat_eq};
 ghost use Rattle.smx_run.specs.Devices.{AreReady};
 ghost use Rattle.smx_run.specs.Refusals.{answer_of};
-ghost use Rattle.smx_live.specs.Inboxes.{HasLine, IsShort};
-ghost use Rattle.smx_live.specs.LiveStages.{Begins, Converses, Finishes, HasTable, Opens, TakesCutLine, TurnsOn};
-ghost use Rattle.smx_live.specs.LiveText.{IsLive, LivesText, closing_text, cut_words};
+ghost use Rattle.smx_run.specs.declared.main_fault.MainFault.TheVariants.{Refused};
+ghost use Rattle.smx_run.specs.declared.run_fault.RunFault.TheVariants.{NoMemory};
+ghost use Rattle.smx_live.specs.Inboxes.{IsShort};
+ghost use Rattle.smx_live.specs.LiveStages.{Begins, Converses, Finishes, HasTable, Opens, TakesCutLine};
+ghost use Rattle.smx_live.specs.LiveText.{IsLive, LivesText, cut_words};
 ghost use Rattle.smx_live.specs.Tables.{begins_driver, table_text};
-ghost use Rattle.smx_model.specs.Views.{view};
-ghost use Rattle.smx_text.specs.TranscriptText.{IsSpellableView};
 
 use crate::answers::{answer, say};
 use crate::inbox::Inbox;
 use crate::talk::{Progress, Talk, shown_with};
 use smx_run::{Feed, MAX_INPUT, MainFault, Refusal, RunFault, Sink};
 use smx_session::{Session, StartFault};
-use smx_types::NoMemory;
-use std::alloc::{AllocError, Global};
+use std::alloc::Global;
 
 /// Reads a driver table and then lines, and answers each line at once:
 ///
@@ -67,17 +65,13 @@ fn read_table<F: Feed>(alloc: Global, feed: &mut F, inbox: &mut Inbox) -> Result
 {
     let mut table = Vec::new(alloc);
     'lines: while table.len() <= MAX_INPUT {
-        let n = match inbox.next_line(feed) {
-            Ok(Some(n)) => n,
-            Ok(None) => return with_cut_line(table, &mut inbox.held),
-            Err(fault) => return Err(fault),
+        let Some(n) = inbox.next_line(feed)? else {
+            return with_cut_line(table, &mut inbox.held);
         };
         if !is_of_table(table.len(), &inbox.held[..n]) {
             return Ok(table);
         }
-        if table.extend_from_slice(&inbox.held[..n + 1]).is_err() {
-            return Err(MainFault::Refused(RunFault::NoMemory));
-        }
+        table.extend_from_slice(&inbox.held[..n + 1])?;
         inbox.drop_line(n);
     }
     Err(MainFault::TooLong)
@@ -92,9 +86,7 @@ fn with_cut_line(table: Vec<u8>, held: &mut Vec<u8>) -> Result<Vec<u8>, MainFaul
     if whole.is_empty() || !held.starts_with(b"driver") {
         return Ok(whole);
     }
-    if whole.extend_from_slice(held).is_err() {
-        return Err(MainFault::Refused(RunFault::NoMemory));
-    }
+    whole.extend_from_slice(held)?;
     if whole.len() > MAX_INPUT {
         return Err(MainFault::TooLong);
     }
@@ -111,9 +103,10 @@ fn is_of_table(before: usize, line: &[u8]) -> bool
 }
 
 // Returns the table as a programs text: adds the line `end`, if the table has a line and its last line is whole.
-fn text_of_table(table: Vec<u8>) -> Result<Vec<u8>, AllocError>
+fn text_of_table(table: Vec<u8>) -> Result<Vec<u8>, MainFault>
     ensures text { IfOk result (λ v. v.items ≡ table_text table.items) }
-    ensures memory { OnErr result (ends_with nat_eq table.items (codes "\n") ≡ true) }
+    ensures memory { IfErr result (λ fault. (fault ≡ Refused NoMemory)
+        × (ends_with nat_eq table.items (codes "\n") ≡ true)) }
 {
     let mut text = table;
     if text.ends_with(b"\n") {
@@ -127,9 +120,7 @@ fn text_of_table(table: Vec<u8>) -> Result<Vec<u8>, AllocError>
 fn begin(alloc: Global, table: Vec<u8>) -> Result<Talk, Refusal>
     ensures { Begins table.items (answer_of result) }
 {
-    let Ok(text) = text_of_table(table) else {
-        return Err(Refusal::from(MainFault::Refused(RunFault::NoMemory)));
-    };
+    let text = text_of_table(table)?;
     match Session::new(alloc, text.as_slice()) {
         Ok(session) => Ok(Talk {
             session,
@@ -157,10 +148,8 @@ fn open<S: Sink>(alloc: Global, sink: &mut S, session: &Session) -> Result<(), M
     ensures { Opens session.now (S.contents sink.old) (S.contents sink.new) (S.flushed sink.new)
         (S.failures sink.new) result }
 {
-    match session.opening(alloc) {
-        Ok(text) => say(sink, text.as_slice(), ()),
-        Err(_) => Err(MainFault::Refused(RunFault::NoMemory)),
-    }
+    let text = session.opening(alloc)?;
+    say(sink, text.as_slice(), ())
 }
 
 // Answers line after line, up to `end` or the end of the input.
@@ -183,48 +172,15 @@ fn converse<F: Feed, S: Sink>(
         (S.failures sink.new) result }
 {
     for _turn in 0..u64::MAX {
-        match inbox.next_line(feed) {
-            Ok(Some(n)) => match take_turn(alloc, sink, inbox, talk, n, explain) {
-                Ok(false) => {}
-                Ok(true) => return Ok(()),
-                Err(fault) => return Err(fault),
-            },
-            Ok(None) => return finish(alloc, sink, talk, inbox.held.as_slice()),
-            Err(fault) => return Err(fault),
+        let Some(n) = inbox.next_line(feed)? else {
+            return finish(alloc, sink, talk, inbox.held.as_slice());
+        };
+        if answer(alloc, sink, talk, &inbox.held[..n], explain)? {
+            return Ok(());
         }
+        inbox.drop_line(n);
     }
     Err(MainFault::TooLong)
-}
-
-// Answers the first line in the inbox, which has `n` bytes. Returns whether the session has ended.
-fn take_turn<S: Sink>(
-    alloc: Global,
-    sink: &mut S,
-    inbox: &mut Inbox,
-    talk: &mut Talk,
-    n: usize,
-    explain: bool,
-) -> Result<bool, MainFault>
-    requires line { HasLine n inbox.old.held.items }
-    requires fits { n ≤ MAX_INPUT }
-    requires sunk { S.failures sink.old ≡ 0 }
-    ensures end { inbox.new.ended ≡ inbox.old.ended }
-    ensures fine { OnOk result (S.failures sink.new ≡ 0) }
-    ensures flushed { OnOk result (S.flushed sink.new ≡ true) }
-    ensures taken { IfOk result (λ over. over ≡ false → inbox.new.held.items ≡ drop (n + 1) inbox.old.held.items) }
-    ensures turn { (read output : List ℕ) (ended : Bool)
-        → IsLive explain read ended output talk.old.session talk.old.progress inbox.old.held.items
-        → TurnsOn explain read output ended talk.new.session talk.new.progress inbox.new.held.items
-        (S.contents sink.old) (S.contents sink.new) (S.flushed sink.new) (S.failures sink.new) result }
-{
-    match answer(alloc, sink, talk, &inbox.held[..n], explain) {
-        Ok(false) => {
-            inbox.drop_line(n);
-            Ok(false)
-        }
-        Ok(true) => Ok(true),
-        Err(fault) => Err(fault),
-    }
 }
 
 // Returns the answer to `held`, the rest of the input: `? cut` and a line feed, or nothing if `held` is empty.
@@ -232,17 +188,6 @@ fn cut_words(held: &[u8]) -> &'static [u8]
     ensures { result.now ≡ cut_words held.now }
 {
     if held.is_empty() { b"" } else { b"? cut\n" }
-}
-
-// Returns the last lines of the output when the input has ended. `held` is the rest of the input.
-fn closing(alloc: Global, session: &Session, held: &[u8]) -> Result<Vec<u8>, NoMemory>
-    ensures written { IfOk result (λ v. v.items ≡ cut_words held.now ++ closing_text session.now) }
-    ensures spellable { OnOk result (IsSpellableView (view session.now.drivers session.now.configuration)) }
-{
-    let shown = shown_with(alloc, session, b"end\n")?;
-    let mut text = Vec::from_slice(alloc, cut_words(held))?;
-    text.extend_from_slice(shown.as_slice())?;
-    Ok(text)
 }
 
 // Ends the session when the input has ended. `held` is the rest of the input.
@@ -253,8 +198,8 @@ fn finish<S: Sink>(alloc: Global, sink: &mut S, talk: &Talk, held: &[u8]) -> Res
         → IsShort held.now → Finishes explain read output ended (S.contents sink.old) (S.contents sink.new)
         (S.flushed sink.new) (S.failures sink.new) result }
 {
-    match closing(alloc, &talk.session, held) {
-        Ok(text) => say(sink, text.as_slice(), ()),
-        Err(_) => Err(MainFault::Refused(RunFault::NoMemory)),
-    }
+    let shown = shown_with(alloc, &talk.session, b"end\n")?;
+    let mut text = Vec::from_slice(alloc, cut_words(held))?;
+    text.extend_from_slice(shown.as_slice())?;
+    say(sink, text.as_slice(), ())
 }

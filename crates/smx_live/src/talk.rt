@@ -1,9 +1,8 @@
 //! A live session: its configuration, its progress, and the texts of its answers.
 
 ghost use Rattle.std.specs.Prelude.{◌≡◌, ◌+◌, ◌++◌, ◌<◌, ◌⊎◌, [], Some, None, IfOk, IfSome, MatchBool, OnErr, OnOk};
-ghost use Rattle.std.specs.Prelude.{codes};
-ghost use Rattle.smx_live.specs.LiveTurns.{IsAsked};
-ghost use Rattle.smx_live.specs.Turns.{AsksForNeither, IsPerformed, IsTracedView, IsViewOfKept, changes_since, switched};
+ghost use Rattle.smx_live.specs.Turns.{AsksForNeither, AsksToShow, IsPerformed, IsTracedView, IsViewOfKept};
+ghost use Rattle.smx_live.specs.Turns.{changes_since, switched};
 ghost use Rattle.smx_live.specs.declared.talk.TurnFault.TheVariants as fault;
 ghost use Rattle.smx_model.specs.Views.{view};
 ghost use Rattle.smx_session.specs.Sessions.{Performs};
@@ -54,35 +53,14 @@ pub struct Talk {
     pub text: Vec<u8>,
 }
 
-/// The kinds of requests that a line can make.
-#[derive(Clone, Copy, Debug, PartialEq, Eq)]
-pub enum Asked {
-    /// Show the configuration; the line may also switch tracing on or off.
-    Show,
-    /// Write the rest of the transcript.
-    End,
-    /// Perform a command of a process.
-    Call,
-}
-
-/// Returns what a line asks for.
-pub fn asked_by(line: &[u8]) -> Asked
-    ensures { IsAsked line.now result }
+/// Returns whether a line asks for the configuration. The line may also switch tracing on or off.
+pub fn asks_to_show(line: &[u8]) -> bool
+    ensures { MatchBool result (AsksToShow line.now) (AsksToShow line.now → ⊥) }
 {
     match line {
-        b"" | b"show" => Asked::Show,
-        b"end" => Asked::End,
-        _ if is_switch(line) => Asked::Show,
-        _ => Asked::Call,
+        b"" | b"show" => true,
+        _ => line == "trace on".as_bytes() || line == "trace off".as_bytes(),
     }
-}
-
-// Returns whether a line switches tracing on or off.
-fn is_switch(line: &[u8]) -> bool
-    ensures { MatchBool result ((line.now ≡ codes "trace on") ⊎ (line.now ≡ codes "trace off"))
-        ((line.now ≡ codes "trace on") ⊎ (line.now ≡ codes "trace off") → ⊥) }
-{
-    line == "trace on".as_bytes() || line == "trace off".as_bytes()
 }
 
 /// Returns whether entries are traced after a line that is answered by the configuration. `tracing` says whether they
@@ -91,17 +69,6 @@ pub fn switched(tracing: bool, line: &[u8]) -> bool
     ensures { result ≡ switched tracing line.now }
 {
     line == "trace on".as_bytes() || (tracing && line != "trace off".as_bytes())
-}
-
-// Empties `text`, and reserves room for the line of the next entry. The session has `count` entries, and the line with
-// the command has `len` bytes.
-fn make_room(text: &mut Vec<u8>, len: usize, count: usize) -> Result<(), NoMemory>
-    requires { count < MAX_COMMANDS }
-    ensures { text.new.items ≡ [] }
-{
-    text.clear();
-    text.reserve(len.saturating_add(REPLY + SERIAL * count))?;
-    Ok(())
 }
 
 // Returns why a line is refused if memory ran out before its command was performed. Only a command
@@ -133,16 +100,12 @@ impl Talk {
             return Ok(Some(TurnFault::Full));
         }
         let version = self.session.version();
-        if make_room(&mut self.text, line.len(), self.progress.entries).is_err() {
-            return Ok(Some(fault_without_room(alloc, version, line)));
-        }
-        let Ok(before) = self.traced_view() else {
+        let Ok(before) = self.make_room(line.len()) else {
             return Ok(Some(fault_without_room(alloc, version, line)));
         };
         match self.session.perform(alloc, line) {
             Ok(()) => {
-                self.tell()?;
-                self.tell_changes(alloc, before)?;
+                self.tell(alloc, before)?;
                 Ok(None)
             }
             Err(LineFault::NoCommand) => Ok(Some(TurnFault::NoCommand)),
@@ -150,41 +113,41 @@ impl Talk {
         }
     }
 
-    // Puts the line of the last entry into `text` and counts the entry.
-    fn tell(&mut self) -> Result<(), NoMemory>
-        requires empty { self.old.text.items ≡ [] }
-        requires room { self.old.progress.entries < MAX_COMMANDS }
+    // Empties the text, and reserves room for the line of the next entry. The line with the command has `len` bytes. If
+    // entries are traced, returns the configuration as it is shown.
+    fn make_room(&mut self, len: usize) -> Result<Option<ConfigView>, NoMemory>
+        requires { self.old.progress.entries < MAX_COMMANDS }
         ensures session { self.new.session ≡ self.old.session }
-        ensures tracing { self.new.progress.tracing ≡ self.old.progress.tracing }
-        ensures count { OnOk result (self.new.progress.entries ≡ self.old.progress.entries + 1) }
-        ensures text { OnOk result (IfSome self.old.session.last (λ e. self.new.text.items ≡ entry_line e)) }
-        ensures fits { OnOk result (IfSome self.old.session.last FitsEntry) }
+        ensures progress { self.new.progress ≡ self.old.progress }
+        ensures empty { self.new.text.items ≡ [] }
+        ensures view { IfOk result (IsTracedView self.old.progress.tracing self.old.session) }
     {
-        if self.session.write_entry(&mut self.text).is_err() {
-            return Err(NoMemory);
-        }
-        self.progress.entries += 1;
-        Ok(())
-    }
-
-    // Returns the configuration as it is shown, if entries are traced.
-    fn traced_view(&self) -> Result<Option<ConfigView>, NoMemory>
-        ensures { IfOk result (IsTracedView self.now.progress.tracing self.now.session) }
-    {
+        self.text.clear();
+        self.text
+            .reserve(len.saturating_add(REPLY + SERIAL * self.progress.entries))?;
         if self.progress.tracing {
             return Ok(Some(self.session.show()?));
         }
         Ok(None)
     }
 
-    // If entries are traced, appends the changes since `before`, the configuration before the entry, to the text.
-    fn tell_changes(&mut self, alloc: Global, before: Option<ConfigView>) -> Result<(), NoMemory>
-        requires { IfSome before (IsViewOfKept self.old.session.drivers) }
+    // Puts the line of the last entry into the text and counts the entry. If entries are traced, appends the changes
+    // since `before`, the configuration before the entry.
+    fn tell(&mut self, alloc: Global, before: Option<ConfigView>) -> Result<(), NoMemory>
+        requires empty { self.old.text.items ≡ [] }
+        requires room { self.old.progress.entries < MAX_COMMANDS }
+        requires before { IfSome before (IsViewOfKept self.old.session.drivers) }
         ensures session { self.new.session ≡ self.old.session }
-        ensures progress { self.new.progress ≡ self.old.progress }
-        ensures text { OnOk result (self.new.text.items ≡ self.old.text.items
-            ++ changes_since before self.old.session) }
+        ensures tracing { self.new.progress.tracing ≡ self.old.progress.tracing }
+        ensures count { OnOk result (self.new.progress.entries ≡ self.old.progress.entries + 1) }
+        ensures text { OnOk result (IfSome self.old.session.last (λ e. self.new.text.items
+            ≡ entry_line e ++ changes_since before self.old.session)) }
+        ensures fits { OnOk result (IfSome self.old.session.last FitsEntry) }
     {
+        if self.session.write_entry(&mut self.text).is_err() {
+            return Err(NoMemory);
+        }
+        self.progress.entries += 1;
         let Some(before) = before else {
             return Ok(());
         };

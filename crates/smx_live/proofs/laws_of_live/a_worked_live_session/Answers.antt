@@ -1,6 +1,6 @@
 use Rattle.smx_live.proofs.Common.{[], ◌+◌, arith, drop, false, inl, inr, refl, rules, subst, take, true, codes}
 use Rattle.smx_live.proofs.Common.{call_of, not_one, IsOneLine, V2, worked_table}
-use Rattle.smx_live.proofs.AskedLineLemmas.{neither, no_call_line}
+use Rattle.smx_live.proofs.AskedLineLemmas.{no_call_line}
 use Rattle.smx_live.proofs.OverTableLemmas.{table_once}
 use Rattle.smx_live.proofs.TableLemmas.{over_at_the_end, over_within}
 use Rattle.smx_live.proofs.WorkedLiveLemmas as worked
@@ -49,13 +49,6 @@ pub returns-clause-over_within_another : goal.returns-clause-over_within_another
 returns-clause-over_within_another c =
     over_at_the_end (codes "programs 2\n") _ (codes "3 clone") refl worked.header_lines true refl
     (search (rules, arith), search arith) (inr refl)
-
-pub returns-clause-full_is_reported : goal.returns-clause-full_is_reported
-returns-clause-full_is_reported c = λ is. omega (arith, (is (neither (codes "3 clone eth") refl refl)).1)
-
-pub returns-clause-no_memory_for_no_command : goal.returns-clause-no_memory_for_no_command
-returns-clause-no_memory_for_no_command c = λ is.
-    let call = (is (neither (codes "x") refl refl)).0 in no_call_line V2 (codes "x") refl call.0 call.1 call.2
 
 pub returns-clause-not_performed : goal.returns-clause-not_performed
 returns-clause-not_performed c = λ e is. no_call_line V2 (codes "x") refl (call_of e) is.in_version is.is_read

@@ -3,6 +3,7 @@ use Rattle.smx_live.proofs.Common.{sym, take, Consumes-trans, lines_text, begins
 use Rattle.std.proofs.Common.{◌⊎◌}
 use Rattle.std.proofs.KnownBytes.{Consumes-nil}
 use Rattle.std.proofs.lemmas.List.{append-nil}
+use Rattle.std.proofs.lemmas.Result.{err_from_is_err_and}
 use Rattle.smx_live.proofs.InboxLemmas.{moved, unmoved}
 use Rattle.smx_live.proofs.TableLemmas.{fails_with, has_table, one_line_more, over_at_a_line, text_more}
 use Rattle.smx_live.proofs.live.read_table.Goals as goal
@@ -21,13 +22,13 @@ lines-init g c =
       fine = c.requires.fine_so_far;
     }
 
-pub returns-in-Ok-None : goal.returns-in-Ok-None
-returns-in-Ok-None g c =
+pub returns-in_default : goal.returns-in_default
+returns-in_default g c =
     let (read, consumed, parts) = c.lines.invariant.so_far in
     let (lines, text, were) = c.lines.invariant.lines in
-    let (piece, p) = c.in-Ok-None.ensures in
+    let (piece, p) = c.in_ok-n.ensures in
     let held = c.next_line.new.self.held.items in
-    let came = rw c.in-Ok-None.field-0-is at p.came in (
+    let came = rw c.in_default.is at p.came in (
       read ++ piece,
       record {
         consumed = Consumes-trans _ _ _ read piece consumed p.consumed;
@@ -40,17 +41,19 @@ returns-in-Ok-None g c =
       },
     )
 
-pub returns-in-Err : goal.returns-in-Err
-returns-in-Err g c =
+pub returns-in_err-n : goal.returns-in_err-n
+returns-in_err-n g c =
     let (read, consumed, parts) = c.lines.invariant.so_far in
     let (lines, text, were) = c.lines.invariant.lines in
-    let (piece, p) = c.in-Err.ensures in (
+    let (piece, p) = c.in_err-n.ensures in
+    let (fault, is, of) = err_from_is_err_and c.from_residual.result c.from_residual.ensures.1 in
+    rw (is, of) (
       read ++ piece,
       record {
         consumed = Consumes-trans _ _ _ read piece consumed p.consumed;
         came = fails_with c.lines.table.items lines (c.lines.inbox.held.items ++ piece) text were _
             (unmoved c.args.inbox.now.held.items read piece c.lines.table.items c.lines.inbox.held.items _ parts refl)
-            c.in-Err.fault p.came;
+            c.in_err-n.field-0.0 p.came;
       },
     )
 
@@ -58,8 +61,8 @@ pub returns-then-not-is_of_table : goal.returns-then-not-is_of_table
 returns-then-not-is_of_table g c =
     let (read, consumed, parts) = c.lines.invariant.so_far in
     let (lines, text, were) = c.lines.invariant.lines in
-    let (piece, p) = c.in-Ok-Some.ensures in
-    let came = rw c.in-Ok-Some.field-0-is at p.came in
+    let (piece, p) = c.in_ok-n.ensures in
+    let came = rw c.in-Some.is at p.came in
     let held = c.next_line.new.self.held.items in
     let (some, other) = c.if-not-is_of_table.ensures in (
       read ++ piece,
@@ -68,7 +71,7 @@ returns-then-not-is_of_table g c =
         came = record {
           parts = unmoved c.args.inbox.now.held.items read piece c.lines.table.items c.lines.inbox.held.items held parts
               came.held;
-          over = over_at_a_line c.lines.table.items lines held text were _ c.in-Ok-Some.n came.found.0 came.found.1
+          over = over_at_a_line c.lines.table.items lines held text were _ c.in-Some.n came.found.0 came.found.1
               (λ none. some (omega (arith, c.len-in-lines.ensures, c.lines.table.ok.0, none)))
               (rw c.deref.ensures.value at other);
           end = came.end;
@@ -78,11 +81,14 @@ returns-then-not-is_of_table g c =
       },
     )
 
-pub returns-then-is_err : goal.returns-then-is_err
-returns-then-is_err g c =
+pub returns-in_err-extend_from_slice : goal.returns-in_err-extend_from_slice
+returns-in_err-extend_from_slice g c =
     let (read, consumed, parts) = c.lines.invariant.so_far in
-    let (piece, p) = c.in-Ok-Some.ensures in
-    let came = rw c.in-Ok-Some.field-0-is at p.came in (
+    let (piece, p) = c.in_ok-n.ensures in
+    let came = rw c.in-Some.is at p.came in
+    let (fault, is, of) = err_from_is_err_and c.from_residual-in_err-extend_from_slice.result
+    c.from_residual-in_err-extend_from_slice.ensures.1 in
+    rw (is, of) (
       read ++ piece,
       record { consumed = Consumes-trans _ _ _ read piece consumed p.consumed; came = (came.fine, refl) },
     )
@@ -91,13 +97,13 @@ pub lines-preserved : goal.lines-preserved
 lines-preserved g c =
     let (read, consumed, parts) = c.lines.invariant.so_far in
     let (lines, text, were) = c.lines.invariant.lines in
-    let (piece, p) = c.in-Ok-Some.ensures in
-    let came = rw c.in-Ok-Some.field-0-is at p.came in
-    let n = c.in-Ok-Some.n in
+    let (piece, p) = c.in_ok-n.ensures in
+    let came = rw c.in-Some.is at p.came in
+    let n = c.in-Some.n in
     let held = c.next_line.new.self.held.items in
     let table = c.lines.table.items in
     let grew : c.extend_from_slice.new.self.items ≡ table ++ take (n + 1) held =
-    rw c.deref-in-lines.ensures.value at (rw c.if-is_err.ensures.negation at c.extend_from_slice.ensures.items) in
+    rw c.deref-in-lines.ensures.value at c.in_ok-extend_from_slice.ensures.items in
     let why : (length (lines_text lines) ≡ 0) ⊎ (begins_driver (take n held) ≡ true) =
     elim c.if-not-is_of_table.ensures [
       | inl none ↦ inl (omega (
