@@ -162,3 +162,18 @@ reply_too_many =
 pub no_switch : IsColumn Session V1 (codes "trace") (choice_at 7 choice.Switch)
 no_switch = ends_here (one_more (session V1 (codes "trace")) refl (codes "trace") None (search (rules, arith)) refl []
     choice.Switch (inl (search rules)) 7 refl) refl (λ ends. ends)
+
+pub ruleset worked_columns = (
+  empty,
+  missing_word,
+  word_too_many,
+  two_spaces,
+  of_version_2,
+  in_version_2,
+  no_equals,
+  other_cause,
+  serials,
+  misspelt,
+  reply_too_many,
+  no_switch,
+)

@@ -46,3 +46,5 @@ whole_line = (search (rules, arith), inr (codes "c\n", refl))
 -- a line without a line feed ends where the text does
 pub last_line : IsFirstLine (codes "b c") (codes "b c")
 last_line = (search (rules, arith), inl refl)
+
+pub ruleset worked_differences = (second, ends_early, not_whole, whole_line, last_line)

@@ -1,5 +1,6 @@
 -- Worked words that differ little from a verb, typed in by hand.
-use Rattle.std.specs.Prelude.{◌≡◌, true, false, [], Some, None, ◌++◌, codes, refl}
+use Rattle.std.specs.Prelude.{◌≡◌, true, false, [], ◌∷◌, Some, None, ◌++◌, codes, refl}
+use Rattle.std.specs.List.{list_all, list_any}
 use Rattle.smx_types.specs.declared.version.Version.TheVariants.{V1, V2}
 use Rattle.smx_explain.specs.Hints.{is_capital_hex, is_near, meant}
 use Rattle.smx_explain.specs.ColumnWords.{explanation_text}
@@ -10,41 +11,15 @@ use Rattle.smx_explain.specs.declared.kinds.Choice.TheVariants.{Switch, End}
 use Rattle.smx_explain.specs.declared.kinds.Value.TheVariants.{Bytes}
 use Rattle.std.specs.Fmt.{digits}
 
--- two neighbours are exchanged
-pub exchanged : is_near (codes "wirte") (codes "write") ≡ true
-exchanged = refl
+-- one edit turns each of these words into `write`: two neighbours are exchanged, or a letter is replaced, added or left
+-- out, also at the end
+pub near_write : list_all (λ word. is_near word (codes "write")) (codes "wirte" ∷ codes "wriet" ∷ codes "wride"
+    ∷ codes "writte" ∷ codes "writes" ∷ codes "rite" ∷ codes "writ" ∷ []) ≡ true
+near_write = refl
 
--- the last two are
-pub exchanged_at_the_end : is_near (codes "wriet") (codes "write") ≡ true
-exchanged_at_the_end = refl
-
--- a letter is replaced
-pub replaced : is_near (codes "wride") (codes "write") ≡ true
-replaced = refl
-
--- a letter is added
-pub added : is_near (codes "writte") (codes "write") ≡ true
-added = refl
-
--- a letter is added at the end
-pub added_at_the_end : is_near (codes "writes") (codes "write") ≡ true
-added_at_the_end = refl
-
--- a letter is left out
-pub left_out : is_near (codes "rite") (codes "write") ≡ true
-left_out = refl
-
--- the last letter is left out
-pub left_out_at_the_end : is_near (codes "writ") (codes "write") ≡ true
-left_out_at_the_end = refl
-
--- two edits are too many
-pub two_edits : is_near (codes "rites") (codes "write") ≡ false
-two_edits = refl
-
--- so is the exchange of letters that are not neighbours
-pub not_neighbours : is_near (codes "eritw") (codes "write") ≡ false
-not_neighbours = refl
+-- two edits are too many, and so is the exchange of letters that are not neighbours
+pub not_near_write : list_any (λ word. is_near word (codes "write")) (codes "rites" ∷ codes "eritw" ∷ []) ≡ false
+not_near_write = refl
 
 -- a word of one letter is near one of two
 pub of_one_letter : is_near (codes "i") (codes "id") ≡ true
@@ -82,25 +57,13 @@ hangup_meant = refl
 pub reply_meant : meant V1 Reply (codes "EINVL") ≡ Some (codes "EINVAL")
 reply_meant = refl
 
--- hex digits with capital letters
-pub capitals : is_capital_hex (codes "C0FFEE") ≡ true
+-- hex digits, some of them with capital letters
+pub capitals : list_all is_capital_hex (codes "C0FFEE" ∷ codes "AF09af" ∷ []) ≡ true
 capitals = refl
 
--- small letters are right
-pub small : is_capital_hex (codes "c0ffee") ≡ false
-small = refl
-
--- no hex digits
-pub no_digits : is_capital_hex (codes "COFFEE") ≡ false
-no_digits = refl
-
--- every hex digit, with capital letters at both ends
-pub all_digits : is_capital_hex (codes "AF09af") ≡ true
-all_digits = refl
-
--- the letter after the last digit
-pub no_digit : is_capital_hex (codes "AG") ≡ false
-no_digit = refl
+-- small letters are right, and other letters are no hex digits
+pub no_capitals : list_any is_capital_hex (codes "c0ffee" ∷ codes "COFFEE" ∷ codes "AG" ∷ []) ≡ false
+no_capitals = refl
 
 -- a request of a session
 pub request_meant : meant V2 SessionLine (codes "shwo") ≡ Some (codes "show")

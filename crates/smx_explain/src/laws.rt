@@ -42,6 +42,7 @@ pub fn a_line_has_one_column()
 {}
 
 /// Examples, typed in by hand: lines with the column in which they become invalid, and lines that are valid.
+#[tactic(auto, using(crate::proofs::WorkedColumnLemmas::worked_columns))]
 pub fn worked_columns()
     ensures empty { IsColumn Programs V1 (codes "") (choice_at 1 choice.ProgramsLine) }
     ensures missing_word { IsColumn Programs V1 (codes "dup") (value_at 5 value.Number) }
@@ -96,6 +97,7 @@ pub fn texts_have_one_first_difference()
 
 /// Examples, typed in by hand: two pairs of texts with the first line in which they differ; a pair that is alike, since
 /// only their last lines differ, and these lack a line feed; and two texts with their first line.
+#[tactic(auto, using(crate::proofs::WorkedDifferenceLemmas::worked_differences))]
 pub fn worked_differences()
     ensures second { IsFirstDifference (codes "a\nb\nc\n") (codes "a\nx\nd\n") 2 (codes "b") (codes "x") }
     ensures ends_early { IsFirstDifference (codes "a\nend\n") (codes "a\n\nend\n") 2 (codes "end") [] }
