@@ -131,6 +131,12 @@ pub take_from : {H : Type 0} (f : H → List Calls) (assignments : List H) (at :
     → get_or (map f assignments) at [] ≡ one ∷ get_or (map f (set assignments at new)) at []
 take_from f assignments at d new one within is first = grind (arith, map-set, get_or-set_same, length-map, get_or-map)
 
+-- an assignment with calls
+pub some_left : {H : Type 0} (f : H → List Calls) (assignments : List H) (at : ℕ) (d : H) (one : Calls)
+    (others : List Calls) → at < length assignments → d ≡ get_or assignments at d
+    → get_or (map f assignments) at [] ≡ one ∷ others → f d ≡ one ∷ others
+some_left f assignments at d one others within is here = grind (arith, get_or-map)
+
 -- a fact of all items of a list holds of its first item, and of the others
 pub take_off : {A : Type 0} (P : A → Type 0) (all rest : List A) (x : A) → all ≡ x ∷ rest → All P all → P x × All P rest
 take_off P all rest x is holds = let each : All P (x ∷ rest) = subst (All P) is holds in

@@ -11,8 +11,8 @@ use Rattle.smx_run.specs.Gathering.{entries_of}
 use Rattle.smx_shared.proofs.OwnEntryLemmas.{entries_append, entries_mine, entries_other}
 
 -- the entries of a process after an entry of its own
-pub met_more : (transcript es more : List Entry) (e : Entry) (p : ℕ) (r : Option ℕ) → more ≡ es ++ e ∷ [] → e.process ≡ p
-    → IsMet transcript (entries_of p es ++ e ∷ []) r → IsMet transcript (entries_of p more) r
+pub met_more : (transcript es more : List Entry) (e : Entry) (p : ℕ) (r : Option ℕ) → more ≡ es ++ e ∷ []
+    → e.process ≡ p → IsMet transcript (entries_of p es ++ e ∷ []) r → IsMet transcript (entries_of p more) r
 met_more transcript es more e p r added its h =
     subst (λ (own : List Entry). IsMet transcript own r) (sym (ap (entries_of p) added ∙ entries_append p es (e ∷ [])
     ∙ ap (λ (one : List Entry). entries_of p es ++ one) (entries_mine p e its))) h

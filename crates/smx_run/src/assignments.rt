@@ -11,8 +11,8 @@ ghost use Rattle.smx_run.specs.ProgramOrder.{calls_of, numbered};
 
 use crate::worker::{EndedProgram, SeatedProgram};
 use smx_shared::{Door, EntrySink, Seat, Shared};
-use smx_types::{Commands, NoMemory, ProgramList};
-use std::alloc::Global;
+use smx_types::ProgramList;
+use std::alloc::{AllocError, Global};
 use std::snapshot::Snapshot;
 
 /// Assigns each process, with its seat and its program, to its worker. Returns the assignment of each worker.
@@ -21,7 +21,7 @@ pub fn assign<K: EntrySink>(
     seats: Vec<Seat<K>>,
     programs: ProgramList,
     workers: usize,
-) -> Result<Vec<Vec<SeatedProgram<Seat<K>>>>, NoMemory>
+) -> Result<Vec<Vec<SeatedProgram<Seat<K>>>>, AllocError>
     requires workers { 1 ≤ workers }
     requires seats { map (λ s. s.known.process) seats.items ≡ range_with_len 0 (length programs) }
     ensures fresh { IfOk result (λ v. (name : SharedId)
@@ -34,7 +34,8 @@ pub fn assign<K: EntrySink>(
         let Some(program) = programs.next() else {
             unreachable!()
         };
-        add_to(&mut assignments, seat, program)?;
+        let worker = Shared::<K>::process(&seat).get() as usize % assignments.len();
+        assignments[worker].push(SeatedProgram { seat, program })?;
     }
     Ok(assignments)
 }
@@ -43,7 +44,7 @@ pub fn assign<K: EntrySink>(
 fn empty_assignments<K: EntrySink>(
     alloc: Global,
     workers: usize,
-) -> Result<Vec<Vec<SeatedProgram<Seat<K>>>>, NoMemory>
+) -> Result<Vec<Vec<SeatedProgram<Seat<K>>>>, AllocError>
     ensures workers { IfOk result (λ v. vec_len v ≡ workers) }
     ensures none { IfOk result (λ v. map assigned_calls v.items ≡ assignments_of workers []) }
     ensures fresh { IfOk result (λ v. (name : SharedId) → All (AreFresh name) v.items) }
@@ -55,34 +56,13 @@ fn empty_assignments<K: EntrySink>(
     Ok(assignments)
 }
 
-// Adds a process to the assignment of its worker.
-fn add_to<K: EntrySink>(
-    assignments: &mut Vec<Vec<SeatedProgram<Seat<K>>>>,
-    seat: Seat<K>,
-    program: Commands,
-) -> Result<(), NoMemory>
-    requires workers { 1 ≤ vec_len assignments.old }
-    ensures workers { vec_len assignments.new ≡ vec_len assignments.old }
-    ensures fresh { OnOk result ((name : SharedId) → All (AreFresh name) assignments.old.items
-        → IsFresh name seat → All (AreFresh name) assignments.new.items) }
-    ensures given { OnOk result ((k : ℕ) → k < vec_len assignments.old
-        → slice_index_or (map assigned_calls assignments.new.items) k []
-        ≡ slice_index_or (map assigned_calls assignments.old.items) k []
-        ++ assignment_of (vec_len assignments.old)
-        ((seat.known.process, calls_of seat.known.process program) ∷ []) k) }
-{
-    let worker = Shared::<K>::process(&seat).get() as usize % assignments.len();
-    assignments[worker].push(SeatedProgram { seat, program })?;
-    Ok(())
-}
-
 /// Puts the ended processes of all workers back into the order of their programs.
 pub fn collect<K: EntrySink>(
     alloc: Global,
     mut assignments: Vec<Vec<EndedProgram<Seat<K>>>>,
     processes: usize,
     programs: Snapshot<ProgramList>,
-) -> Result<Vec<EndedProgram<Seat<K>>>, NoMemory>
+) -> Result<Vec<EndedProgram<Seat<K>>>, AllocError>
     requires workers { 1 ≤ vec_len assignments }
     requires assigned { map made_calls assignments.items
         ≡ assignments_of (vec_len assignments) (numbered 0 programs.value) }
@@ -94,25 +74,7 @@ pub fn collect<K: EntrySink>(
     let mut ended = Vec::with_capacity(alloc, processes)?;
     for process in 0..processes {
         let worker = process % assignments.len();
-        ended.push_reserved(take_first(&mut assignments, worker));
+        ended.push_reserved(assignments[worker].remove(0));
     }
     Ok(ended)
-}
-
-// Removes the first remaining process of a worker, and returns it.
-fn take_first<K: EntrySink>(
-    assignments: &mut Vec<Vec<EndedProgram<Seat<K>>>>,
-    worker: usize,
-) -> EndedProgram<Seat<K>>
-    requires worker { worker < vec_len assignments.old }
-    requires some { slice_index_or (map made_calls assignments.old.items) worker [] ≢ [] }
-    ensures workers { vec_len assignments.new ≡ vec_len assignments.old }
-    ensures first { slice_index_or (map made_calls assignments.old.items) worker []
-        ≡ called known_at result ∷ slice_index_or (map made_calls assignments.new.items) worker [] }
-    ensures ended { (name : SharedId) → All (HaveEnded name) assignments.old.items
-        → EndsAt name result × All (HaveEnded name) assignments.new.items }
-    ensures others { (k : ℕ) → k ≢ worker → slice_index_or (map made_calls assignments.new.items) k []
-        ≡ slice_index_or (map made_calls assignments.old.items) k [] }
-{
-    assignments[worker].remove(0)
 }

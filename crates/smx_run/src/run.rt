@@ -5,7 +5,6 @@ ghost use Rattle.std.specs.List.{sum_by};
 ghost use Rattle.smx_model.specs.Headline.{IsReportOf};
 ghost use Rattle.smx_model.specs.Histories.{call_of};
 ghost use Rattle.smx_types.specs.declared.limits.TheConstants.{MAX_COMMANDS, MAX_PROCESSES};
-ghost use Rattle.smx_shared.specs.Fronts.{IsFrontOf};
 ghost use Rattle.smx_shared.specs.Recorded.{IsSoundSystem};
 ghost use Rattle.smx_shared.specs.declared.shared_fault.ApplyFault.TheVariants as apply;
 ghost use Rattle.smx_run.specs.Alone.{PerformedAlone, StopsAmong};
@@ -90,17 +89,6 @@ pub fn run_system<R: Threads + Wait + Sync, K: EntrySink + Send, G: Gate + Sync>
     Ok(run_together(rt, alloc, system, programs, workers, gate)?)
 }
 
-// Returns the front of a system that is not shared.
-fn front_of<K: EntrySink>(system: &System<K>) -> Front
-    ensures { IsFrontOf result system.now.drivers system.now.history }
-{
-    Front {
-        entries: system.count() as u32,
-        links: system.config().link_count(),
-        held: false,
-    }
-}
-
 // Runs one program after the other on this thread, and takes the front after each program. The limit allows all
 // commands, so the only fault is out of memory. After a fault, performs no more commands.
 fn run_alone<K: EntrySink, G: Gate>(
@@ -124,7 +112,11 @@ fn run_alone<K: EntrySink, G: Gate>(
     let mut number = 0;
     for commands in programs.into_vec() {
         perform_all(system, Process::new(number).unwrap(), commands, gate)?;
-        fronts.push_reserved(front_of(system));
+        fronts.push_reserved(Front {
+            entries: system.count() as u32,
+            links: system.config().link_count(),
+            held: false,
+        });
         number += 1;
     }
     Ok(Fronts::from_vec(fronts))

@@ -1,7 +1,7 @@
 //! The reasons why a run is refused, and the words that they print.
 
 ghost use Rattle.std.specs.Prelude.{◌≡◌, Some};
-ghost use Rattle.smx_run.specs.FaultWords.{gather_fault_words, run_fault_words};
+ghost use Rattle.smx_run.specs.FaultWords.{run_fault_words};
 ghost use Rattle.smx_run.specs.RunFaults.{fault_of_call, fault_of_worker, run_fault_of, worker_fault_of};
 ghost use Rattle.smx_run.specs.declared.run_fault.RunFault.TheVariants as run;
 ghost use Rattle.smx_run.specs.declared.run_fault.WorkerFault.TheVariants as worker;
@@ -101,14 +101,6 @@ impl From<WorkerFault> for RunFault {
     }
 }
 
-impl From<NoMemory> for WorkerFault {
-    ghost from_gives = { λ _ e. e ≡ worker.NoMemory };
-
-    fn from(_error: NoMemory) -> WorkerFault {
-        WorkerFault::NoMemory
-    }
-}
-
 impl From<AllocError> for WorkerFault {
     ghost from_gives = { λ _ e. e ≡ worker.NoMemory };
 
@@ -146,16 +138,3 @@ impl fmt::Display for RunFault {
         }
     }
 }
-
-impl fmt::Display for GatherFault {
-    ghost output = { λ fault. Some (gather_fault_words fault) };
-
-    fn fmt<W: fmt::Write>(&self, f: &mut fmt::Formatter<W>) -> fmt::Result {
-        match self {
-            GatherFault::Strange(process) => write!(f, "strange {}", process.get()),
-            GatherFault::NoMemory => f.write_str("no memory"),
-        }
-    }
-}
-
-impl std::error::Error for GatherFault {}

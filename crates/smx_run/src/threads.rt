@@ -75,7 +75,16 @@ fn run_seats<R: Threads + Wait + Sync, K: EntrySink + Send, G: Gate + Sync>(
     let processes = programs.as_slice().len();
     let asked = Snapshot::of(&programs);
     let assignments = assign(alloc, seats, programs, workers)?;
-    let assignments = run_assignments(rt, alloc, shared, assignments, gate)?;
+    let assignments = thread::scope(
+        thread::scope_env(),
+        rt,
+        |scope| -> Result<Vec<Vec<EndedProgram<Seat<K>>>>, WorkerFault>
+            requires { All (AreFresh shared.now.name) assignments.items }
+            ensures called { IfOk result (HaveCalled assignments) }
+            ensures ended { IfOk result (AllHaveEnded shared.entry.now.name) }
+            ensures full { IsErrOf result worker.HistoryFull → IsSeenFull shared.entry.now.name }
+        { run_from(scope, rt, alloc, shared, assignments, gate) },
+    )?;
     Ok(collect(alloc, assignments, processes, asked)?)
 }
 
@@ -104,31 +113,6 @@ impl<K: EntrySink> Promise<Result<Vec<EndedProgram<Seat<K>>>, WorkerFault>> for 
     ghost kept_by = { λ runs result.
         IfOk result (λ v. (made_calls v ≡ assigned_calls runs.0.value) × HaveEnded runs.1.value.name v)
         × (IsErrOf result worker.HistoryFull → IsSeenFull runs.1.value.name) };
-}
-
-// Runs the first assignment on this thread, and each of the others on a thread of its own.
-fn run_assignments<R: Threads + Wait + Sync, K: EntrySink + Send, G: Gate + Sync>(
-    rt: &R,
-    alloc: Global,
-    shared: &Shared<K>,
-    assignments: Vec<Vec<SeatedProgram<Seat<K>>>>,
-    gate: &G,
-) -> Result<Vec<Vec<EndedProgram<Seat<K>>>>, WorkerFault>
-    requires { All (AreFresh shared.now.name) assignments.items }
-    ensures called { IfOk result (HaveCalled assignments) }
-    ensures ended { IfOk result (AllHaveEnded shared.now.name) }
-    ensures full { IsErrOf result worker.HistoryFull → IsSeenFull shared.now.name }
-{
-    thread::scope(
-        thread::scope_env(),
-        rt,
-        |scope| -> Result<Vec<Vec<EndedProgram<Seat<K>>>>, WorkerFault>
-            requires { All (AreFresh shared.now.name) assignments.items }
-            ensures called { IfOk result (HaveCalled assignments) }
-            ensures ended { IfOk result (AllHaveEnded shared.entry.now.name) }
-            ensures full { IsErrOf result worker.HistoryFull → IsSeenFull shared.entry.now.name }
-        { run_from(scope, rt, alloc, shared, assignments, gate) },
-    )
 }
 
 // If there is only one assignment, runs it on this thread. Otherwise starts a thread for the last assignment, calls

@@ -64,30 +64,12 @@ where
 {
     let mut done = Vec::with_capacity(alloc, assignment.len())?;
     for job in assignment {
-        done.push_reserved(run_process(rt, alloc, door, job, gate)?);
+        let SeatedProgram { mut seat, program } = job;
+        run_program(rt, alloc, door, &mut seat, program, gate)?;
+        let front = door.glance(&mut seat);
+        done.push_reserved(EndedProgram { seat, front });
     }
     Ok(done)
-}
-
-// Runs the program of one process to its end, and then looks at the front.
-fn run_process<D: Door, G: Gate, R: Wait>(
-    rt: &R,
-    alloc: Global,
-    door: &D,
-    job: SeatedProgram<D::Seat>,
-    gate: &G,
-) -> Result<EndedProgram<D::Seat>, ApplyFault>
-where
-    D::Seat: Drop,
-    requires { IsToRunWith (D.is_seat door.now) D.known job }
-    ensures called { IfOk result (λ d. called D.known d ≡ given D.known job) }
-    ensures ended { IfOk result (HasEndedWith (D.is_seat door.now) D.known) }
-    ensures full { IsErrOf result apply.HistoryFull → SomeKnowsItFull (D.is_seat door.now) D.known }
-{
-    let SeatedProgram { mut seat, program } = job;
-    run_program(rt, alloc, door, &mut seat, program, gate)?;
-    let front = door.glance(&mut seat);
-    Ok(EndedProgram { seat, front })
 }
 
 // Performs the commands of a program with its seat, in order, up to the first fault. Calls the gate before and after

@@ -17,8 +17,8 @@ loop-entry-preserved c =
     record {
       processes = all_more (λ (x : Entry). x.process < MAX_PROCESSES) _ _ e before.processes c.get.ensures.range more;
       met = elim c.if-get-number.branch [
-        | then-get-number w ↦ rw w.met-is (met_more _ _ _ e _ _ more (omega (arith, w.if-get-number, c.get.ensures.value))
-            (w.meet-met.ensures _ before.met))
+        | then-get-number w ↦ rw w.met-is (met_more _ _ _ e _ _ more
+            (omega (arith, w.if-get-number, c.get.ensures.value)) (w.meet-met.ensures _ before.met))
         | else-get-number w ↦ rw w.met-is (met_still _ _ _ e _ _ more
             (λ is. omega (arith, w.if-get-number, c.get.ensures.value, is)) before.met)
       ];

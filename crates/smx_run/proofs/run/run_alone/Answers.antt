@@ -38,7 +38,7 @@ loop-commands-preserved g c =
       );
       calls = calls;
       fronts = rw c.push_reserved.ensures.items
-          (front_next _ _ _ _ _ commands _ did.begins calls c.front_of.ensures was);
+          (front_next _ _ _ _ _ commands _ did.begins calls (search rules) was);
     }
 
 pub returns-in_err-fronts-clause-stops : goal.returns-in_err-fronts-clause-stops
