@@ -1,5 +1,5 @@
 -- Consequences of an accepted result.
-use Rattle.smx_tables.proofs.Common.{◌≡◌, ℕ, Bool, true, false, not, List, Option, Some, None, Result, refl, ap}
+use Rattle.smx_tables.proofs.Common.{◌≡◌, ℕ, Bool, true, false, List, Option, Some, None, Result, refl, ap}
 use Rattle.smx_tables.proofs.Common.{arith, DriverSpec, Fault, StreamId, Configuration, is_mux, leaf_stream, refuse}
 use Rattle.smx_tables.proofs.Common.{exists, is_below}
 use Rattle.std.proofs.Common.{Ok}

@@ -3,7 +3,7 @@ use Rattle.std.proofs.Common.{◌≡◌, ℕ, ◌≤◌, ltb, List, [], ◌∷�
 use Rattle.std.proofs.lemmas.List.{length-map}
 use Rattle.smx_model.specs.Configuration.{QueuedMessage}
 use Rattle.smx_model.specs.Ordered.{in_rising_order}
-use Rattle.smx_model.specs.Removal.{serials, serials_that_left}
+use Rattle.smx_model.specs.Removal.{serials_that_left}
 use Rattle.smx_tables.proofs.LengthLemmas.{longer_by_one, not_more}
 
 -- a list in rising order is as long as before

@@ -23,7 +23,6 @@ use Rattle.smx_model.proofs.SettlingLemmas.{count, up_less}
 use Rattle.smx_streams.specs.StreamTables.{stream_at, exists as is_there}
 use Rattle.smx_tables.specs.ExistingStreams.{holds_of}
 use Rattle.smx_links.specs.LinkLists.{LinkList, IsLinked, refusal, with_link}
-use Rattle.smx_links.specs.declared.table.LinkFault.TheVariants as link_fault
 use Rattle.smx_tables.proofs.AboveLemmas.{stream_is, stream_self, stream_turned}
 use Rattle.smx_tables.proofs.ClimbLemmas.{named_stands, stands_by, stands_is}
 -- all items, or any, that pass a test pass each weaker one; and if all items pass, all items of a filtered list do

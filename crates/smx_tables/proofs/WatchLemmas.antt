@@ -1,9 +1,9 @@
 -- Loose links, and the streams that may have ceased to exist.
 use Rattle.smx_tables.proofs.Common.{◌≡◌, ℕ, ◌+◌, ◌-◌, ◌≤◌, Bool, true, false, ◌&&◌, ◌||◌, not, eqb, List, [], ◌∷◌}
-use Rattle.smx_tables.proofs.Common.{◌++◌, take, Some, refl, sym, ap, subst, ◌∙◌, arith, inl, inr, or-false, nat_lt}
+use Rattle.smx_tables.proofs.Common.{◌++◌, take, Some, refl, sym, ap, subst, ◌∙◌, arith, inl, inr, or-false}
 use Rattle.smx_tables.proofs.Common.{slice_get, list_any, list_all, and_parts, or_cases, or_left, eq-eqb, false≢true}
-use Rattle.smx_tables.proofs.Common.{list_any-append, nat_tests, slice_get_within, Link, Descriptor, StreamId}
-use Rattle.smx_tables.proofs.Common.{same_stream, is_named, StreamTable, HasHolds, number_at, is_held, is_loose}
+use Rattle.smx_tables.proofs.Common.{list_any-append, nat_tests, slice_get_within, Link, StreamId}
+use Rattle.smx_tables.proofs.Common.{same_stream, StreamTable, HasHolds, number_at, is_held, is_loose}
 use Rattle.smx_tables.proofs.Common.{is_watched}
 use Rattle.std.proofs.lemmas.Bool.{cases_Bool, and_from, or_right}
 use Rattle.std.proofs.lemmas.List.Folds.{list_all_at, list_all_more}
