@@ -1,17 +1,12 @@
 //! A check from bytes to bytes, with an explanation or without one.
 
-ghost use Rattle.std.specs.Prelude.{◌≡◌, ◌++◌, string_bytes, IfErr, IfOk};
-ghost use Rattle.smx_text.specs.TranscriptText.{SpellsTranscript};
-ghost use Rattle.smx_model.specs.DriverList.{IsDriverList};
-ghost use Rattle.smx_config.specs.DriverFaults.{RefusesDrivers};
-ghost use Rattle.smx_config.specs.Verdicts.{IsVerdict};
-ghost use Rattle.smx_explain.specs.Explanations.{IsExplanation};
+ghost use Rattle.std.specs.Prelude.{◌≡◌, string_bytes, IfErr, IfOk};
 ghost use Rattle.smx_run.specs.Devices.{AreReady};
 ghost use Rattle.smx_filters.specs.CheckText.{ChecksText, IsJudged, IsRefusedCheck, checking, judged_of, verdict_line};
 ghost use Rattle.smx_filters.specs.ExplainText.{KeepsText, explained_of, explaining};
 ghost use Rattle.smx_filters.specs.Filters.{Answers};
 
-use smx_config::{ConfigFault, Verdict, check_history};
+use smx_config::{Verdict, check_history};
 use smx_explain::explain;
 use smx_run::{Feed, MainFault, Refusal, Sink, read_all, write_all};
 use smx_text::read_transcript;
@@ -71,36 +66,20 @@ fn judge(alloc: Global, input: Vec<u8>) -> Result<(Verdict, String), MainFault>
     judged(alloc, &transcript)
 }
 
-// Judges the transcript that the input spells. Returns the verdict, and its line with the explanation below it.
+// Judges the transcript that the input spells. Returns the verdict, and its line with the explanation below it. If the
+// verdict is `legal`, there is no explanation, and no replay is made.
 fn explained(alloc: Global, input: &[u8]) -> Result<(Verdict, Vec<u8>), MainFault>
     ensures { Answers explaining input.now (explained_of result) }
 {
     let transcript = read_transcript(alloc, input)?;
     let (verdict, line) = judged(alloc, &transcript)?;
-    let told = told_of(alloc, input, transcript, verdict)?;
-    let output = joined(alloc, line.as_bytes(), told.as_slice())?;
-    Ok((verdict, output))
-}
-
-// Returns the explanation of a transcript. `input` is the text that spells it, and `verdict` the verdict on it. If the
-// verdict is `legal`, no replay is made.
-#[tactic(auto, using(smx_explain::proofs::ExplanationLemmas::legal_unexplained))]
-fn told_of(
-    alloc: Global,
-    input: &[u8],
-    transcript: Transcript,
-    verdict: Verdict,
-) -> Result<Vec<u8>, ConfigFault>
-    requires spelled { SpellsTranscript input.now transcript }
-    requires drivers { IsDriverList transcript.drivers }
-    requires judged { IsVerdict transcript.drivers transcript.entries transcript.view verdict }
-    ensures told { IfOk result (λ told. IsExplanation transcript told.items) }
-    ensures refused { IfErr result (RefusesDrivers transcript.drivers) }
-{
-    match verdict {
-        Verdict::Legal => Ok(Vec::new(alloc)),
-        Verdict::Illegal { .. } | Verdict::ConfigDiffers => explain(alloc, input, transcript),
+    let mut output = line.into_bytes();
+    if verdict == Verdict::Legal {
+        return Ok((verdict, output));
     }
+    let explanation = explain(alloc, input, transcript)?;
+    output.extend_from_slice(explanation.as_slice())?;
+    Ok((verdict, output))
 }
 
 // Judges a transcript. Returns the verdict and its line.
@@ -124,13 +103,4 @@ fn verdict_line(alloc: Global, entries: usize, verdict: Verdict) -> Result<Strin
         Verdict::Illegal { entry } => format!(in alloc; "illegal {entry}\n"),
         Verdict::ConfigDiffers => format!(in alloc; "config differs\n"),
     }
-}
-
-// Joins two slices of bytes.
-fn joined(alloc: Global, front: &[u8], back: &[u8]) -> Result<Vec<u8>, AllocError>
-    ensures { IfOk result (λ v. v.items ≡ front.now ++ back.now) }
-{
-    let mut all = Vec::from_slice(alloc, front)?;
-    all.extend_from_slice(back)?;
-    Ok(all)
 }

@@ -146,26 +146,10 @@ fn text_of_run<R: Threads + Wait + Sync, G: Gate + Sync>(
     ensures { Answers (running fronts workers) input.now (items_of result) }
 {
     let programs = read_programs(alloc, input)?;
-    Ok(text_of_programs(rt, alloc, programs, workers, fronts, gate)?)
-}
-
-// Runs the programs. Returns the transcript, or the text of the fronts if `fronts` is set.
-fn text_of_programs<R: Threads + Wait + Sync, G: Gate + Sync>(
-    rt: &R,
-    alloc: Global,
-    programs: Programs,
-    workers: usize,
-    fronts: bool,
-    gate: &G,
-) -> Result<Vec<u8>, RunFault>
-    requires { (1 ≤ workers) × (workers ≤ MAX_WORKERS) }
-    ensures written { IfOk result (λ text. IsWrittenFor fronts workers programs text.items) }
-    ensures refused { IfErr result (IsRefusedFor workers programs) }
-{
     if fronts {
-        return fronts_of_run(rt, alloc, programs, workers, gate);
+        return Ok(fronts_of_run(rt, alloc, programs, workers, gate)?);
     }
-    transcript_of_run(rt, alloc, programs, workers, gate)
+    Ok(transcript_of_run(rt, alloc, programs, workers, gate)?)
 }
 
 // Runs the programs. Returns the transcript in their version. The line of each entry is written when the entry is made,
@@ -230,9 +214,7 @@ fn add_front(
 ) -> Result<(), NoMemory>
     ensures { OnOk result (text.new.items ≡ text.old.items ++ front_line process front) }
 {
-    let entries = front.entries;
-    let links = front.links;
-    let line = format!(in alloc; "front {process} {entries} {links}\n")?;
+    let line = format!(in alloc; "front {process} {} {}\n", front.entries, front.links)?;
     text.extend_from_slice(line.as_bytes())?;
     Ok(())
 }
