@@ -9,24 +9,19 @@ use Rattle.smx_config.specs.declared.verdict.Verdict.{Verdict}
 use Rattle.smx_config.specs.declared.verdict.Verdict.TheVariants.{Legal, Illegal, ConfigDiffers}
 use Rattle.smx_text.specs.declared.text_fault.Cause.{Cause}
 use Rattle.smx_text.specs.declared.text_fault.Cause.TheVariants as cause
-use Rattle.smx_draw.specs.declared.form.Form.{Form}
-use Rattle.smx_filters.specs.DrawText.{drawing}
 use Rattle.smx_filters.specs.ExplainText.{judging}
 use Rattle.smx_filters.specs.Filters.{Filter, FiltersText, GivesFor}
-use Rattle.smx_filters.specs.ReplayText.{replaying}
+use Rattle.smx_filters.specs.Products.{making}
 use Rattle.smx_filters.specs.RunText.{running}
-use Rattle.smx_filters.specs.StepsText.{stepping}
-use Rattle.smx_run.specs.Statuses.{status_of, status_of_cause, status_of_outcome, status_of_verdict}
-use Rattle.smx_filters.specs.TraceText.{tracing}
+use Rattle.smx_run.specs.Statuses.{status_of, status_of_cause, status_of_done, status_of_outcome, status_of_verdict}
+use Rattle.smx_run.specs.declared.main_fault.Done.{Done}
+use Rattle.smx_run.specs.declared.main_fault.Done.TheVariants.{Finished, Judged}
 use Rattle.smx_run.specs.declared.main_fault.MainFault.{MainFault}
 use Rattle.smx_run.specs.declared.main_fault.MainFault.TheVariants.{Refused, Text, TooLong, ReadFailed, WriteFailed}
 use Rattle.smx_live.specs.LiveText.{AreFine, IsOutcome, IsOver, LivesText}
-use Rattle.muxsim.specs.Ends.{Devices, EndsCheck, EndsDraw, EndsJob, EndsLive, EndsReplay, EndsRun, EndsSteps}
-use Rattle.muxsim.specs.Ends.{EndsTrace}
-use Rattle.muxsim.specs.Ends.{Writes}
-use Rattle.muxsim.specs.Ends.{outcome_of_check, outcome_of_writing}
+use Rattle.muxsim.specs.Ends.{Devices, EndsJob, Writes, finished, outcome_of}
 use Rattle.smx_command_line.specs.declared.jobs.Job.{Job}
-use Rattle.smx_command_line.specs.declared.jobs.Job.TheVariants.{Run, Check, Replay, Trace, Draw, Steps, Live}
+use Rattle.smx_command_line.specs.declared.jobs.Job.TheVariants.{Run, Check, Make, Live}
 
 -- ---- numbers
 
@@ -44,6 +39,13 @@ verdict_is : (v : Verdict) → ((v ≡ Legal) × (status_of_verdict v ≡ 0)) �
 verdict_is Legal = inl (refl, refl)
 verdict_is (Illegal entry) = inr (λ is. cc, refl)
 verdict_is ConfigDiffers = inr (λ is. cc, refl)
+
+-- what was done has the status 0 or 4
+done_is : (done : Done) → (status_of_done done ≡ 0) ⊎ (status_of_done done ≡ 4)
+done_is Finished = inl refl
+done_is (Judged Legal) = inl refl
+done_is (Judged (Illegal entry)) = inr refl
+done_is (Judged ConfigDiffers) = inr refl
 
 -- a fault has the status 5 if the reader or the writer failed, and else 1 or 3
 fault_is : (e : MainFault) → ((e ≢ ReadFailed) × (e ≢ WriteFailed) × ((status_of e ≡ 1) ⊎ (status_of e ≡ 3)))
@@ -118,16 +120,16 @@ module _ {V K T : Type 0} (f : Filter V K T) (d : Devices) where
 -- ---- what was done
 
 module _ (d : Devices) (code : ExitCode) (input output : List ℕ) (w : Writes d input output) where
-  -- a run, a replay or a drawing with the status 0 wrote what was asked for
-  done_for : {V K : Type 0} (f : Filter V K (Unit {0})) (answer : Result (Unit {0}) MainFault) → Filtered f d answer
-      → exit_status code ≡ status_of_outcome (outcome_of_writing answer) → exit_status code ≡ 0
+  -- a filter that judges nothing, with the status 0, wrote what was asked for
+  pub done_for : {V K : Type 0} (f : Filter V K (Unit {0})) (answer : Result (Unit {0}) MainFault) → Filtered f d answer
+      → exit_status code ≡ status_of_outcome (outcome_of finished answer) → exit_status code ≡ 0
       → (d.flushed ≡ true) × GivesFor f input tt output
   done_for f (Ok done) h is zero = gave f d tt h input output w
   done_for f (Err e) h is zero = absurd (not_even e _ 0 is zero)
 
   -- a check with the status 0 judged the transcript legal
-  judged : (explain : Bool) (answer : Result Verdict MainFault) → Filtered (judging explain) d answer
-      → exit_status code ≡ status_of_outcome (outcome_of_check answer) → exit_status code ≡ 0
+  pub judged : (explain : Bool) (answer : Result Verdict MainFault) → Filtered (judging explain) d answer
+      → exit_status code ≡ status_of_outcome (outcome_of Judged answer) → exit_status code ≡ 0
       → (d.flushed ≡ true) × GivesFor (judging explain) input Legal output
   judged explain (Ok v) h is zero = elim (verdict_is v) [
     | inl (legal, same) ↦ subst (λ (x : Verdict). (d.flushed ≡ true) × GivesFor (judging explain) input x output) legal
@@ -137,8 +139,8 @@ module _ (d : Devices) (code : ExitCode) (input output : List ℕ) (w : Writes d
   judged explain (Err e) h is zero = absurd (not_even e _ 0 is zero)
 
   -- a check with the status 4 judged the transcript other than legal
-  otherwise : (explain : Bool) (answer : Result Verdict MainFault) → Filtered (judging explain) d answer
-      → exit_status code ≡ status_of_outcome (outcome_of_check answer) → exit_status code ≡ 4
+  pub otherwise : (explain : Bool) (answer : Result Verdict MainFault) → Filtered (judging explain) d answer
+      → exit_status code ≡ status_of_outcome (outcome_of Judged answer) → exit_status code ≡ 4
       → (d.flushed ≡ true) × (v : Verdict) × (v ≢ Legal) × GivesFor (judging explain) input v output
   otherwise explain (Ok v) h is four = elim (verdict_is v) [
     | inl (legal, same) ↦ absurd (omega (arith, is, four, same))
@@ -167,59 +169,17 @@ lived explain d input output w h =
     let front : (rest : List ℕ) × (input ≡ h.read ++ rest) = beginning d.left input h.read consumed in
     (flushed, h.read, front.0, front.1, subst (λ (o : List ℕ). IsOver explain h.read d.ended o) (sym out) over)
 
--- a run with the status 0 wrote what was asked for
-pub run_done : (fronts : Bool) (workers : ℕ) (d : Devices) (code : ExitCode) (input output : List ℕ)
-    → EndsRun fronts workers d code
-    → Writes d input output → exit_status code ≡ 0
-    → (d.flushed ≡ true) × GivesFor (running fronts workers) input tt output
-run_done fronts workers d code input output h w =
-    done_for d code input output w (running fronts workers) h.answer h.ran h.status
-
--- a replay with the status 0 wrote what was asked for
-pub replay_done : (at : Option ℕ) (d : Devices) (code : ExitCode) (input output : List ℕ) → EndsReplay at d code
-    → Writes d input output → exit_status code ≡ 0 → (d.flushed ≡ true) × GivesFor (replaying at) input tt output
-replay_done at d code input output h w = done_for d code input output w (replaying at) h.answer h.replayed h.status
-
--- a trace with the status 0 wrote what was asked for
-pub trace_done : (each : Bool) (d : Devices) (code : ExitCode) (input output : List ℕ) → EndsTrace each d code
-    → Writes d input output → exit_status code ≡ 0 → (d.flushed ≡ true) × GivesFor (tracing each) input tt output
-trace_done each d code input output h w = done_for d code input output w (tracing each) h.answer h.traced h.status
-
--- a drawing with the status 0 wrote what was asked for
-pub draw_done : (form : Form) (d : Devices) (code : ExitCode) (input output : List ℕ) → EndsDraw form d code
-    → Writes d input output → exit_status code ≡ 0
-    → (d.flushed ≡ true) × GivesFor (drawing form) input tt output
-draw_done form d code input output h w =
-    done_for d code input output w (drawing form) h.answer h.drawn h.status
-
--- a page with the status 0 is what was asked for
-pub steps_done : (d : Devices) (code : ExitCode) (input output : List ℕ) → EndsSteps d code
-    → Writes d input output → exit_status code ≡ 0 → (d.flushed ≡ true) × GivesFor stepping input tt output
-steps_done d code input output h w = done_for d code input output w stepping h.answer h.stepped h.status
-
 -- a live session with the status 0 has ended, and wrote its answers
-pub live_done : (explain : Bool) (d : Devices) (code : ExitCode) (input output : List ℕ) → EndsLive explain d code
-    → Writes d input output → exit_status code ≡ 0
+pub live_done : (explain : Bool) (d : Devices) (code : ExitCode) (input output : List ℕ)
+    → EndsJob (Live explain) d code → Writes d input output → exit_status code ≡ 0
     → (d.flushed ≡ true) × (read rest : List ℕ) × (input ≡ read ++ rest) × IsOver explain read d.ended output
 live_done explain d code input output h w zero = by_answer h.answer h.lived h.status where
   by_answer : (answer : Result (Unit {0}) MainFault)
       → LivesText explain d.had d.left d.ended d.read_failures d.before d.after d.flushed d.write_failures answer
-      → exit_status code ≡ status_of_outcome (outcome_of_writing answer)
+      → exit_status code ≡ status_of_outcome (outcome_of finished answer)
       → (d.flushed ≡ true) × (read rest : List ℕ) × (input ≡ read ++ rest) × IsOver explain read d.ended output
   by_answer (Ok done) l is = lived explain d input output w l
   by_answer (Err e) l is = absurd (not_even e _ 0 is zero)
-
--- a check with the status 0 judged the transcript legal
-pub judged_legal : (explain : Bool) (d : Devices) (code : ExitCode) (input output : List ℕ)
-    → EndsCheck explain d code → Writes d input output → exit_status code ≡ 0
-    → (d.flushed ≡ true) × GivesFor (judging explain) input Legal output
-judged_legal explain d code input output h w = judged d code input output w explain h.answer h.judged h.status
-
--- a check with the status 4 judged the transcript other than legal
-pub judged_otherwise : (explain : Bool) (d : Devices) (code : ExitCode) (input output : List ℕ)
-    → EndsCheck explain d code → Writes d input output → exit_status code ≡ 4
-    → (d.flushed ≡ true) × (v : Verdict) × (v ≢ Legal) × GivesFor (judging explain) input v output
-judged_otherwise explain d code input output h w = otherwise d code input output w explain h.answer h.judged h.status
 
 -- ---- what failed
 
@@ -250,22 +210,14 @@ of_fault f d e h n is = record {
   no_words = not_even e n 1 is;
 }
 
--- what a status says of a filter that writes
-of_writing : {V K : Type 0} (f : Filter V K (Unit {0})) (d : Devices) (n : ℕ) (answer : Result (Unit {0}) MainFault)
-    → Filtered f d answer
-    → n ≡ status_of_outcome (outcome_of_writing answer) → Tells (Keeps d.before d.after) d n
-of_writing f d n (Ok done) h is = of_answer f d done h n 0 is
-of_writing f d n (Err e) h is = of_fault f d e h n is
-
--- what a status says of a filter that judges
-of_judging : {V K : Type 0} (f : Filter V K Verdict) (d : Devices) (n : ℕ) (answer : Result Verdict MainFault)
-    → Filtered f d answer
-    → n ≡ status_of_outcome (outcome_of_check answer) → Tells (Keeps d.before d.after) d n
-of_judging f d n (Ok v) h is = elim (verdict_is v) [
-  | inl (legal, same) ↦ of_answer f d v h n 0 (is ∙ same)
-  | inr (other, same) ↦ of_answer f d v h n 1 (is ∙ same)
+-- what a status says of a filter
+of_filter : {V K T : Type 0} (f : Filter V K T) (done : T → Done) (d : Devices) (n : ℕ) (answer : Result T MainFault)
+    → Filtered f d answer → n ≡ status_of_outcome (outcome_of done answer) → Tells (Keeps d.before d.after) d n
+of_filter f done d n (Ok a) h is = elim (done_is (done a)) [
+  | inl zero ↦ of_answer f d a h n 0 (is ∙ zero)
+  | inr four ↦ of_answer f d a h n 1 (is ∙ four)
 ]
-of_judging f d n (Err e) h is = of_fault f d e h n is
+of_filter f done d n (Err e) h is = of_fault f d e h n is
 
 -- if neither of the two has failed, there is no failure
 none_failed : (a b : ℕ) → AreFine a b → (a ≡ 1) ⊎ (b ≡ 1) → ⊥
@@ -293,7 +245,7 @@ live_broken explain d read output (Text f) h n is =
 -- what a status says of a live session, which may have written something before a fault
 of_living : (explain : Bool) (d : Devices) (n : ℕ) (answer : Result (Unit {0}) MainFault)
     → LivesText explain d.had d.left d.ended d.read_failures d.before d.after d.flushed d.write_failures answer
-    → n ≡ status_of_outcome (outcome_of_writing answer) → Tells (Unit {0}) d n
+    → n ≡ status_of_outcome (outcome_of finished answer) → Tells (Unit {0}) d n
 of_living explain d n (Ok done) h is = record {
   failed = (λ five. absurd (omega (arith, is, five)), λ broke. absurd (none_failed _ _ h.outcome.0 broke));
   unwritten = λ low. tt;
@@ -309,21 +261,15 @@ of_living explain d n (Err e) h is = record {
 abbrev Low : Job → Devices → Type 0
 Low (Run workers fronts explain) d = Keeps d.before d.after
 Low (Check explain) d = Keeps d.before d.after
-Low (Replay at explain) d = Keeps d.before d.after
-Low (Trace waits explain) d = Keeps d.before d.after
-Low (Draw form explain) d = Keeps d.before d.after
-Low (Steps explain) d = Keeps d.before d.after
+Low (Make product explain) d = Keeps d.before d.after
 Low (Live explain) d = Unit {0}
 
 -- what a status says of any job
 tells : (job : Job) (d : Devices) (code : ExitCode) → EndsJob job d code → Tells (Low job d) d (exit_status code)
+tells (Run workers fronts explain) d code h = of_filter (running fronts workers) finished d _ h.answer h.filtered h.status
+tells (Check explain) d code h = of_filter (judging explain) Judged d _ h.answer h.filtered h.status
+tells (Make product explain) d code h = of_filter (making product) finished d _ h.answer h.filtered h.status
 tells (Live explain) d code h = of_living explain d _ h.answer h.lived h.status
-tells (Run workers fronts explain) d code h = of_writing (running fronts workers) d _ h.answer h.ran h.status
-tells (Check explain) d code h = of_judging (judging explain) d _ h.answer h.judged h.status
-tells (Replay at explain) d code h = of_writing (replaying at) d _ h.answer h.replayed h.status
-tells (Trace waits explain) d code h = of_writing (tracing waits) d _ h.answer h.traced h.status
-tells (Draw form explain) d code h = of_writing (drawing form) d _ h.answer h.drawn h.status
-tells (Steps explain) d code h = of_writing stepping d _ h.answer h.stepped h.status
 
 -- the status is 5 exactly if the reader or the writer failed
 pub failed : (job : Job) (d : Devices) (code : ExitCode) → EndsJob job d code
@@ -336,42 +282,22 @@ pub unwritten : (job : Job) (d : Devices) (code : ExitCode) → ((explain : Bool
     → (exit_status code ≡ 1) ⊎ (exit_status code ≡ 3) → Keeps d.before d.after
 unwritten (Run workers fronts explain) d code other h = (tells (Run workers fronts explain) d code h).unwritten
 unwritten (Check explain) d code other h = (tells (Check explain) d code h).unwritten
-unwritten (Replay at explain) d code other h = (tells (Replay at explain) d code h).unwritten
-unwritten (Trace waits explain) d code other h = (tells (Trace waits explain) d code h).unwritten
-unwritten (Draw form explain) d code other h = (tells (Draw form explain) d code h).unwritten
-unwritten (Steps explain) d code other h = (tells (Steps explain) d code h).unwritten
+unwritten (Make product explain) d code other h = (tells (Make product explain) d code h).unwritten
 unwritten (Live explain) d code other h = absurd (other explain refl)
 
 -- no job that started has the status 2
 pub no_words : (job : Job) (d : Devices) (code : ExitCode) → EndsJob job d code → exit_status code ≡ 2 → ⊥
 no_words job d code h = (tells job d code h).no_words
 
--- no job that judges nothing has the status 4
-not_4 : (n : ℕ) (answer : Result (Unit {0}) MainFault) → n ≡ status_of_outcome (outcome_of_writing answer) → n ≡ 4 → ⊥
+-- a result that is no verdict doesn't have the status 4
+not_4 : (n : ℕ) (answer : Result (Unit {0}) MainFault) → n ≡ status_of_outcome (outcome_of finished answer) → n ≡ 4 → ⊥
 not_4 n (Ok done) is four = absurd (omega (arith, is, four))
 not_4 n (Err e) is four = not_even e n 2 is four
 
--- no run has the status 4
-pub run_not_4 : (fronts : Bool) (workers : ℕ) (d : Devices) (code : ExitCode) → EndsRun fronts workers d code
-    → exit_status code ≡ 4 → ⊥
-run_not_4 fronts workers d code h = not_4 _ h.answer h.status
-
--- no replay has the status 4
-pub replay_not_4 : (at : Option ℕ) (d : Devices) (code : ExitCode) → EndsReplay at d code → exit_status code ≡ 4 → ⊥
-replay_not_4 at d code h = not_4 _ h.answer h.status
-
--- no trace has the status 4
-pub trace_not_4 : (each : Bool) (d : Devices) (code : ExitCode) → EndsTrace each d code → exit_status code ≡ 4 → ⊥
-trace_not_4 each d code h = not_4 _ h.answer h.status
-
--- no drawing has the status 4
-pub draw_not_4 : (form : Form) (d : Devices) (code : ExitCode) → EndsDraw form d code → exit_status code ≡ 4 → ⊥
-draw_not_4 form d code h = not_4 _ h.answer h.status
-
--- no page has the status 4
-pub steps_not_4 : (d : Devices) (code : ExitCode) → EndsSteps d code → exit_status code ≡ 4 → ⊥
-steps_not_4 d code h = not_4 _ h.answer h.status
-
--- no live session has the status 4
-pub live_not_4 : (explain : Bool) (d : Devices) (code : ExitCode) → EndsLive explain d code → exit_status code ≡ 4 → ⊥
-live_not_4 explain d code h = not_4 _ h.answer h.status
+-- no job but a check has the status 4
+pub no_verdict : (job : Job) (d : Devices) (code : ExitCode) → ((explain : Bool) → job ≢ Check explain)
+    → EndsJob job d code → exit_status code ≡ 4 → ⊥
+no_verdict (Run workers fronts explain) d code other h = not_4 _ h.answer h.status
+no_verdict (Check explain) d code other h = absurd (other explain refl)
+no_verdict (Make product explain) d code other h = not_4 _ h.answer h.status
+no_verdict (Live explain) d code other h = not_4 _ h.answer h.status

@@ -2,32 +2,26 @@
 use Rattle.std.specs.Prelude.{◌≡◌, ℕ, Bool, List, [], Option, Some, Result, Ok, Err}
 use Rattle.std.specs.Process.{exit_status}
 use Rattle.std.specs.declared.process.ExitCode.{ExitCode}
-use Rattle.smx_config.specs.declared.verdict.Verdict.{Verdict}
-use Rattle.smx_draw.specs.declared.form.Form.{Form}
-use Rattle.smx_filters.specs.DrawText.{DrawsText}
 use Rattle.smx_filters.specs.ExplainText.{judging}
-use Rattle.smx_filters.specs.Filters.{FiltersText}
+use Rattle.smx_filters.specs.Filters.{Filter, FiltersText}
+use Rattle.smx_filters.specs.Products.{making}
+use Rattle.smx_filters.specs.RunText.{running}
 use Rattle.smx_live.specs.LiveText.{LivesText}
-use Rattle.smx_filters.specs.ReplayText.{ReplaysText}
-use Rattle.smx_filters.specs.RunText.{RunsText}
 use Rattle.smx_run.specs.Statuses.{status_of_outcome}
-use Rattle.smx_filters.specs.StepsText.{StepsText}
-use Rattle.smx_filters.specs.TraceText.{TracesText}
 use Rattle.smx_run.specs.declared.main_fault.Done.{Done}
 use Rattle.smx_run.specs.declared.main_fault.Done.TheVariants.{Finished, Judged}
 use Rattle.smx_run.specs.declared.main_fault.MainFault.{MainFault}
 use Rattle.smx_command_line.specs.declared.jobs.Job.{Job}
-use Rattle.smx_command_line.specs.declared.jobs.Job.TheVariants.{Run, Check, Replay, Trace, Draw, Steps, Live}
+use Rattle.smx_command_line.specs.declared.jobs.Job.TheVariants.{Run, Check, Make, Live}
 
--- a run, a replay, a trace, a drawing, a page or a live session that succeeded has finished
-abbrev pub outcome_of_writing : Result (Unit {0}) MainFault → Result Done MainFault
-outcome_of_writing (Ok done) = Ok Finished
-outcome_of_writing (Err fault) = Err fault
+-- the outcome of a job, if `done` says what a success has done
+abbrev pub outcome_of : {T : Type 0} → (T → Done) → Result T MainFault → Result Done MainFault
+outcome_of done (Ok answer) = Ok (done answer)
+outcome_of done (Err fault) = Err fault
 
--- a check that succeeded has judged
-abbrev pub outcome_of_check : Result Verdict MainFault → Result Done MainFault
-outcome_of_check (Ok verdict) = Ok (Judged verdict)
-outcome_of_check (Err fault) = Err fault
+-- a run, a product or a live session that succeeded has finished
+abbrev pub finished : Unit {0} → Done
+finished done = Finished
 
 -- the reader's bytes before and after, whether it has ended, and how often it failed; the same of the writer
 pub record Devices : Type 0 where
@@ -60,56 +54,21 @@ pub record Writes (d : Devices) (input output : List ℕ) : Type 0 where
   pub before : d.before ≡ Some []
   pub after : d.after ≡ Some output
 
--- the programs were run, and the status is that of the result
-pub record EndsRun (fronts : Bool) (workers : ℕ) (d : Devices) (code : ExitCode) : Type 0 where
-  pub answer : Result (Unit {0}) MainFault
-  pub ran : RunsText fronts workers d.had d.left d.ended d.read_failures d.before d.after d.flushed d.write_failures
-      answer
-  pub status : exit_status code ≡ status_of_outcome (outcome_of_writing answer)
-
--- the transcript was judged, with or without an explanation, and the status is that of the result
-pub record EndsCheck (explain : Bool) (d : Devices) (code : ExitCode) : Type 0 where
-  pub answer : Result Verdict MainFault
-  pub judged : FiltersText (judging explain) d.had d.left d.ended d.read_failures d.before d.after d.flushed
-      d.write_failures answer
-  pub status : exit_status code ≡ status_of_outcome (outcome_of_check answer)
-
--- the transcript or its first entries were replayed, and the status is that of the result
-pub record EndsReplay (at : Option ℕ) (d : Devices) (code : ExitCode) : Type 0 where
-  pub answer : Result (Unit {0}) MainFault
-  pub replayed : ReplaysText at d.had d.left d.ended d.read_failures d.before d.after d.flushed d.write_failures answer
-  pub status : exit_status code ≡ status_of_outcome (outcome_of_writing answer)
-
--- the transcript was traced, and the status is that of the result
-pub record EndsTrace (each : Bool) (d : Devices) (code : ExitCode) : Type 0 where
-  pub answer : Result (Unit {0}) MainFault
-  pub traced : TracesText each d.had d.left d.ended d.read_failures d.before d.after d.flushed d.write_failures answer
-  pub status : exit_status code ≡ status_of_outcome (outcome_of_writing answer)
-
--- the configuration of the transcript was drawn, and the status is that of the result
-pub record EndsDraw (form : Form) (d : Devices) (code : ExitCode) : Type 0 where
-  pub answer : Result (Unit {0}) MainFault
-  pub drawn : DrawsText form d.had d.left d.ended d.read_failures d.before d.after d.flushed d.write_failures answer
-  pub status : exit_status code ≡ status_of_outcome (outcome_of_writing answer)
-
--- the page of the transcript was written, and the status is that of the result
-pub record EndsSteps (d : Devices) (code : ExitCode) : Type 0 where
-  pub answer : Result (Unit {0}) MainFault
-  pub stepped : StepsText d.had d.left d.ended d.read_failures d.before d.after d.flushed d.write_failures answer
-  pub status : exit_status code ≡ status_of_outcome (outcome_of_writing answer)
+-- this filter did its work, and the status is that of the result
+pub record EndsFilter {V K T : Type 0} (f : Filter V K T) (done : T → Done) (d : Devices) (code : ExitCode) : Type 0 where
+  pub answer : Result T MainFault
+  pub filtered : FiltersText f d.had d.left d.ended d.read_failures d.before d.after d.flushed d.write_failures answer
+  pub status : exit_status code ≡ status_of_outcome (outcome_of done answer)
 
 -- the lines were answered, with or without explanations, and the status is that of the result
 pub record EndsLive (explain : Bool) (d : Devices) (code : ExitCode) : Type 0 where
   pub answer : Result (Unit {0}) MainFault
   pub lived : LivesText explain d.had d.left d.ended d.read_failures d.before d.after d.flushed d.write_failures answer
-  pub status : exit_status code ≡ status_of_outcome (outcome_of_writing answer)
+  pub status : exit_status code ≡ status_of_outcome (outcome_of finished answer)
 
 -- the job was done, and the status is that of the result
 abbrev pub EndsJob : Job → Devices → ExitCode → Type 0
-EndsJob (Run workers fronts explain) d code = EndsRun fronts workers d code
-EndsJob (Check explain) d code = EndsCheck explain d code
-EndsJob (Replay at explain) d code = EndsReplay at d code
-EndsJob (Trace waits explain) d code = EndsTrace waits d code
-EndsJob (Draw form explain) d code = EndsDraw form d code
-EndsJob (Steps explain) d code = EndsSteps d code
+EndsJob (Run workers fronts explain) d code = EndsFilter (running fronts workers) finished d code
+EndsJob (Check explain) d code = EndsFilter (judging explain) Judged d code
+EndsJob (Make product explain) d code = EndsFilter (making product) finished d code
 EndsJob (Live explain) d code = EndsLive explain d code

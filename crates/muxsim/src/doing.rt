@@ -2,7 +2,7 @@
 
 ghost use Rattle.std.specs.Prelude.{◌≡◌};
 ghost use Rattle.std.specs.Process.{exit_status};
-ghost use Rattle.muxsim.specs.Ends.{devices, outcome_of_writing, EndsJob, EndsRun};
+ghost use Rattle.muxsim.specs.Ends.{EndsJob, devices, finished, outcome_of};
 ghost use Rattle.smx_command_line.specs.Jobs.{CanRun};
 ghost use Rattle.smx_run.specs.Devices.{AreReady};
 ghost use Rattle.smx_run.specs.Refusals.{answer_of};
@@ -11,8 +11,8 @@ ghost use Rattle.smx_run.specs.Statuses.{status_of, status_of_outcome};
 use smx_command_line::Job;
 use smx_explain::{DriverExplanation, FaultExplanation, TextKind};
 use smx_filters::{
-    Done, Feed, MainFault, Refusal, Sink, check_explained, check_text, draw_text, replay_text,
-    run_explained, run_text, steps_text, trace_text,
+    Done, Feed, MainFault, Refusal, Sink, check_explained, check_text, make_text, run_explained,
+    run_text,
 };
 use smx_live::live_text;
 use smx_run::{NoGate, RunFault};
@@ -40,8 +40,19 @@ pub fn do_job<R: Threads + Wait + Sync + Eprint, F: Feed, S: Sink>(
         Job::Run {
             workers,
             fronts,
-            explain,
-        } => run(rt, alloc, feed, sink, workers, fronts, explain),
+            explain: false,
+        } => match run_text(rt, alloc, feed, sink, workers, fronts, &NoGate) {
+            Ok(()) => ended(rt, Ok(Done::Finished)),
+            Err(fault) => ended(rt, Err(fault)),
+        },
+        Job::Run {
+            workers,
+            fronts,
+            explain: true,
+        } => {
+            let outcome = run_explained(rt, alloc, feed, sink, workers, fronts, &NoGate);
+            written(rt, TextKind::Programs, outcome, true)
+        }
         Job::Check { explain: false } => match check_text(alloc, feed, sink) {
             Ok(verdict) => ended(rt, Ok(Done::Judged(verdict))),
             Err(fault) => ended(rt, Err(fault)),
@@ -50,51 +61,14 @@ pub fn do_job<R: Threads + Wait + Sync + Eprint, F: Feed, S: Sink>(
             Ok(verdict) => ended(rt, Ok(Done::Judged(verdict))),
             Err(refusal) => refused(rt, TextKind::Transcript, refusal),
         },
-        Job::Replay { at, explain } => {
-            let outcome = replay_text(alloc, feed, sink, at);
-            written(rt, TextKind::Transcript, outcome, explain)
-        }
-        Job::Trace { waits, explain } => {
-            let outcome = trace_text(alloc, feed, sink, waits);
-            written(rt, TextKind::Transcript, outcome, explain)
-        }
-        Job::Draw { form, explain } => {
-            let outcome = draw_text(alloc, feed, sink, form);
-            written(rt, TextKind::Transcript, outcome, explain)
-        }
-        Job::Steps { explain } => {
-            let outcome = steps_text(alloc, feed, sink);
+        Job::Make { product, explain } => {
+            let outcome = make_text(alloc, feed, sink, product);
             written(rt, TextKind::Transcript, outcome, explain)
         }
         Job::Live { explain } => {
             let outcome = live_text(alloc, feed, sink, explain);
             written(rt, TextKind::Programs, outcome, explain)
         }
-    }
-}
-
-// Runs the programs. If `explain`, shows what is wrong with a text that is refused.
-fn run<R: Threads + Wait + Sync + Eprint, F: Feed, S: Sink>(
-    rt: &R,
-    alloc: Global,
-    feed: &mut F,
-    sink: &mut S,
-    workers: usize,
-    fronts: bool,
-    explain: bool,
-) -> ExitCode
-    requires workers { CanRun (Job.Run workers fronts explain) }
-    requires ready { AreReady (F.ended feed.old) (F.failures feed.old) (S.failures sink.old) }
-    ensures { EndsRun fronts workers (devices F.remaining F.ended F.failures S.contents S.flushed S.failures
-        feed.old feed.new sink.old sink.new) result }
-{
-    if explain {
-        let outcome = run_explained(rt, alloc, feed, sink, workers, fronts, &NoGate);
-        return written(rt, TextKind::Programs, outcome, true);
-    }
-    match run_text(rt, alloc, feed, sink, workers, fronts, &NoGate) {
-        Ok(()) => ended(rt, Ok(Done::Finished)),
-        Err(fault) => ended(rt, Err(fault)),
     }
 }
 
@@ -106,7 +80,7 @@ fn written<R: Eprint>(
     outcome: Result<(), Refusal>,
     explain: bool,
 ) -> ExitCode
-    ensures { exit_status result ≡ status_of_outcome (outcome_of_writing (answer_of outcome)) }
+    ensures { exit_status result ≡ status_of_outcome (outcome_of finished (answer_of outcome)) }
 {
     match outcome {
         Ok(()) => ended(rt, Ok(Done::Finished)),

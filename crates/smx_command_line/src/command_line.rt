@@ -8,8 +8,7 @@ use crate::jobs::Job;
 use crate::subcommands::{self, SEE};
 use clap::error::ErrorKind;
 use clap::{ArgMatches, Command, Error};
-use smx_draw::Form;
-use smx_run::MAX_WORKERS;
+use smx_run::{MAX_WORKERS, Product};
 use std::alloc::{AllocError, Global};
 use std::convert::AsStr;
 use std::mem::forget;
@@ -49,20 +48,27 @@ fn job_of(alloc: Global, matches: &ArgMatches) -> Result<Job, Error>
             fronts: run.get_flag("fronts"),
             explain: run.get_flag("explain"),
         }),
-        Some(("replay", replay)) => Ok(Job::Replay {
-            at: replay.get_one::<usize>("at"),
-            explain: replay.get_flag("explain"),
-        }),
-        Some(("trace", trace)) => Ok(Job::Trace {
-            waits: trace.get_flag("waits"),
-            explain: trace.get_flag("explain"),
-        }),
-        Some(("draw", draw)) => Ok(drawing_of(draw)),
-        Some(("live", live)) => Ok(Job::Live {
-            explain: live.get_flag("explain"),
-        }),
         Some(("check", check)) => Ok(Job::Check {
             explain: check.get_flag("explain"),
+        }),
+        Some(("replay", replay)) => Ok(Job::Make {
+            product: Product::Replay {
+                at: replay.get_one::<usize>("at"),
+            },
+            explain: replay.get_flag("explain"),
+        }),
+        Some(("trace", trace)) => Ok(Job::Make {
+            product: Product::Trace {
+                waits: trace.get_flag("waits"),
+            },
+            explain: trace.get_flag("explain"),
+        }),
+        Some(("draw", draw)) => Ok(Job::Make {
+            product: drawing_of(draw),
+            explain: draw.get_flag("explain"),
+        }),
+        Some(("live", live)) => Ok(Job::Live {
+            explain: live.get_flag("explain"),
         }),
         // Only `commands` is left: clap has rejected all others, and words without a subcommand.
         Some(_) | None => Err(help_of_commands(alloc)?),
@@ -80,18 +86,16 @@ fn workers_of(run: &ArgMatches) -> usize
     }
 }
 
-// Returns what is to be drawn: a page of steps, or a picture in the requested language. clap has already rejected
-// `--dot` with `--steps`.
-fn drawing_of(draw: &ArgMatches) -> Job
-    ensures { CanRun result }
-{
-    let explain = draw.get_flag("explain");
+// Returns what is to be drawn: a page, or a picture in the requested language. clap has already rejected `--dot` with
+// `--steps`.
+fn drawing_of(draw: &ArgMatches) -> Product {
     if draw.get_flag("steps") {
-        return Job::Steps { explain };
+        return Product::Page;
     }
-    let dot = draw.get_flag("dot");
-    let form = if dot { Form::Dot } else { Form::Svg };
-    Job::Draw { form, explain }
+    if draw.get_flag("dot") {
+        return Product::Dot;
+    }
+    Product::Svg
 }
 
 // Returns clap's answer to `help commands`. The word `commands` alone asks for the same page of help.

@@ -1,6 +1,6 @@
 //! The jobs that the program does.
 
-use smx_draw::Form;
+use smx_run::Product;
 
 /// A job of the program.
 #[derive(Clone, Copy, Debug, PartialEq, Eq)]
@@ -20,30 +20,10 @@ pub enum Job {
         /// Whether the verdict, or a fault of the text or of its drivers, is explained.
         explain: bool,
     },
-    /// Performs the commands of the input, a transcript, and writes the transcript that results.
-    Replay {
-        /// The number of entries to replay, from the first on; `None` for all.
-        at: Option<usize>,
-        /// Whether a fault of the text or of its drivers is explained.
-        explain: bool,
-    },
-    /// Performs the commands of the input, a transcript, and writes a trace. The trace has the transcript that results,
-    /// what each entry changes, and why the first message of each queue can't move.
-    Trace {
-        /// Whether the trace says below each entry, too, why the first message of each queue can't move.
-        waits: bool,
-        /// Whether a fault of the text or of its drivers is explained.
-        explain: bool,
-    },
-    /// Draws the configuration that the transcript of the input shows.
-    Draw {
-        /// The language of the picture.
-        form: Form,
-        /// Whether a fault of the text is explained.
-        explain: bool,
-    },
-    /// Performs the commands of the input, a transcript, and writes a page with a step for each command.
-    Steps {
+    /// Makes this product of the transcript of the input, and writes it.
+    Make {
+        /// A replay, a trace, a picture or a page.
+        product: Product,
         /// Whether a fault of the text or of its drivers is explained.
         explain: bool,
     },

@@ -3,13 +3,14 @@ use Rattle.smx_filters.proofs.Common.{◌≡◌, ◌≢◌, ℕ, ◌≤◌, Bool
 use Rattle.smx_filters.proofs.Common.{refl, sym, ap, subst, ◌∙◌, arith, inl, inr, ProgramLists, Entry, DriverSpec}
 use Rattle.smx_filters.proofs.Common.{Transcript, Version, IsReportOf, call_of, Spells, transcript_grammar}
 use Rattle.smx_filters.proofs.Common.{transcript_text, TextFault, IsVerdict, ConfigFault, Verdict, Legal, RefusesAlone}
-use Rattle.smx_filters.proofs.Common.{RunFault, checking, Answers, Filter, GivesFor, replaying, IsWrittenFor, running}
+use Rattle.smx_filters.proofs.Common.{RunFault, checking, Answers, Filter, GivesFor, IsWrittenFor, running}
 use Rattle.smx_filters.proofs.Common.{MainFault, Refused, Text, TooLong, ReadFailed, WriteFailed}
 use Rattle.std.proofs.Common.{◌++◌}
 use Rattle.smx_types.specs.declared.view.ConfigView.{ConfigView}
 use Rattle.smx_model.specs.DriverList.{IsDriverList}
 use Rattle.smx_text.specs.ProgramsText.{programs_grammar}
 use Rattle.smx_config.specs.declared.config_fault.ConfigFault.TheVariants as config
+use Rattle.smx_run.specs.declared.product.Product.TheVariants.{Replay, Trace}
 use Rattle.smx_run.specs.declared.run_fault.RunFault.TheVariants as run
 use Rattle.smx_model.proofs.HistoryLemmas.{determined}
 use Rattle.smx_config.proofs.DriverFaultLemmas.{one_fault as one_refusal}
@@ -22,9 +23,8 @@ use Rattle.smx_explain.specs.Explanations.{IsExplanation}
 use Rattle.smx_filters.specs.CheckText.{verdict_line}
 use Rattle.smx_filters.specs.ExplainText.{explaining}
 use Rattle.smx_filters.specs.Filters.{HasEnoughMemory, RefusesFor}
-use Rattle.smx_filters.specs.ReplayText.{IsPastEnd, RefusesPart, asked_part}
+use Rattle.smx_filters.specs.Products.{IsPastEnd, RefusesPart, asked_part, making}
 use Rattle.smx_filters.specs.RunText.{IsTranscriptFor}
-use Rattle.smx_filters.specs.TraceText.{tracing}
 
 -- ---- reports
 
@@ -176,9 +176,9 @@ explained reading judged same_output input = one_answer explaining reading (λ t
 -- a replay
 pub replayed : HasOneReading transcript_grammar → HasOneReplay
     → (at : Option ℕ) (input : List ℕ) (one other : Result (Unit {0} × List ℕ) MainFault)
-    → Answers (replaying at) input one → Answers (replaying at) input other
+    → Answers (making (Replay at)) input one → Answers (making (Replay at)) input other
     → HasEnoughMemory one → HasEnoughMemory other → one ≡ other
-replayed reading replay at input = one_answer (replaying at) reading (λ t. Unit {0})
+replayed reading replay at input = one_answer (making (Replay at)) reading (λ t. Unit {0})
     (λ t fits a b x y h k. (
       refl,
       h.1.written.text
@@ -195,9 +195,9 @@ pub traced : HasOneReading transcript_grammar
     → ((each : Bool) (t : Transcript) (one other : List ℕ) → IsTraceText each t one → IsTraceText each t other
     → one ≡ other)
     → (each : Bool) (input : List ℕ) (one other : Result (Unit {0} × List ℕ) MainFault)
-    → Answers (tracing each) input one → Answers (tracing each) input other
+    → Answers (making (Trace each)) input one → Answers (making (Trace each)) input other
     → HasEnoughMemory one → HasEnoughMemory other → one ≡ other
-traced reading determined each input = one_answer (tracing each) reading (λ t. Unit {0})
+traced reading determined each input = one_answer (making (Trace each)) reading (λ t. Unit {0})
     (λ t fits a b x y h k. (refl, determined each t x y h k))
     (λ t fits r s. refused_alone t.drivers r s)
     (λ t fits a x r h refuses. only_memory_refuses one_refusal t.drivers h.replays.valid_drivers r refuses)

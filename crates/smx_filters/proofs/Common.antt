@@ -26,7 +26,6 @@ pub use Rattle.smx_text.specs.declared.text_fault.TextFault.{TextFault}
 pub use Rattle.smx_filters.specs.CheckText.{checking}
 pub use Rattle.smx_filters.specs.Filters.{Filter, Answers, GivesFor, IsFaultOf, FiltersText}
 pub use Rattle.smx_run.specs.Input.{IsInput}
-pub use Rattle.smx_filters.specs.ReplayText.{replaying}
 pub use Rattle.smx_filters.specs.RunText.{running, IsWrittenFor}
 pub use Rattle.smx_run.specs.declared.input.TheConstants.{MAX_INPUT}
 pub use Rattle.smx_run.specs.declared.main_fault.MainFault.{MainFault}

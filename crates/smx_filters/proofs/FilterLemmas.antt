@@ -76,9 +76,3 @@ module _ {V K T : Type 0} (filter : Filter V K T) (had left : Option (List ℕ))
   passed_on e (Err f) is a = subst
       (λ (x : MainFault). FiltersText filter had left ended failures held held flushed written (Err x)) (sym is)
       (at_answer e a)
-
--- drivers that are not valid are refused for their fault, and others because memory ran out
-pub alone_of : (drivers : List DriverSpec) (f : ConfigFault) → RefusesDrivers drivers f
-    → RefusesAlone drivers (run_fault_of f)
-alone_of drivers config.NoMemory refused = refused
-alone_of drivers f refused = (refused, λ is. cc)

@@ -2,11 +2,8 @@ pub mod Filters
 pub mod FrontsText
 pub mod RunText
 pub mod CheckText
-pub mod ReplayText
-pub mod TraceText
-pub mod DrawText
+pub mod Products
 pub mod ExplainText
 pub mod WorkedVerdicts
 pub mod WorkedFronts
 pub mod InMemory
-pub mod StepsText

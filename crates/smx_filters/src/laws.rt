@@ -16,7 +16,6 @@ ghost use Rattle.smx_text.specs.declared.text_fault.TextFault.{TextFault};
 ghost use Rattle.smx_config.specs.declared.config_fault.ConfigFault.{ConfigFault};
 ghost use Rattle.smx_config.specs.declared.verdict.Verdict.{Verdict};
 ghost use Rattle.smx_config.specs.declared.verdict.Verdict.TheVariants.{Legal};
-ghost use Rattle.smx_draw.specs.declared.form.Form.{Form};
 ghost use Rattle.smx_steps.specs.Pages.{IsOver};
 ghost use Rattle.smx_shared.specs.declared.front.Front.{Front};
 ghost use Rattle.smx_run.specs.Fronts.{AreFrontsFrom};
@@ -25,17 +24,16 @@ ghost use Rattle.smx_run.specs.Refusals.{answer_of, is_in_text};
 ghost use Rattle.smx_run.specs.declared.main_fault.MainFault.{MainFault};
 ghost use Rattle.smx_run.specs.declared.main_fault.MainFault.TheVariants.{Refused, Text};
 ghost use Rattle.smx_run.specs.declared.main_fault.Refusal.{Refusal as AnyRefusal};
+ghost use Rattle.smx_run.specs.declared.product.Product.{Product};
+ghost use Rattle.smx_run.specs.declared.product.Product.TheVariants.{Page, Replay, Trace};
 ghost use Rattle.smx_run.specs.declared.run_fault.RunFault.TheVariants as run;
 ghost use Rattle.smx_filters.specs.CheckText.{checking};
-ghost use Rattle.smx_filters.specs.DrawText.{drawing};
 ghost use Rattle.smx_filters.specs.ExplainText.{KeepsText, explaining, judging};
 ghost use Rattle.smx_filters.specs.Filters.{Answers, GivesFor, HasEnoughMemory, RefusesFor};
 ghost use Rattle.smx_filters.specs.FrontsText.{fronts_text};
 ghost use Rattle.smx_filters.specs.InMemory.{EndsInMemory, FiltersInMemory};
-ghost use Rattle.smx_filters.specs.ReplayText.{replaying};
+ghost use Rattle.smx_filters.specs.Products.{RefusesProduct, making};
 ghost use Rattle.smx_filters.specs.RunText.{IsWrittenFor, running};
-ghost use Rattle.smx_filters.specs.StepsText.{RefusesSteps, stepping};
-ghost use Rattle.smx_filters.specs.TraceText.{tracing};
 
 use smx_config::laws::{reports_are_judged_legal, there_is_one_verdict};
 use smx_explain::laws::{a_legal_transcript_needs_none, a_transcript_has_one_explanation};
@@ -51,10 +49,7 @@ use smx_trace::laws::{
 pub fn filters_end_in_memory()
     ensures runs { (fronts : Bool) (workers : ℕ) → FiltersInMemory (running fronts workers) }
     ensures checks { FiltersInMemory checking }
-    ensures replays { (at : Option ℕ) → FiltersInMemory (replaying at) }
-    ensures traces { (each : Bool) → FiltersInMemory (tracing each) }
-    ensures drawings { (form : Form) → FiltersInMemory (drawing form) }
-    ensures pages { FiltersInMemory stepping }
+    ensures products { (product : Product) → FiltersInMemory (making product) }
 {}
 
 /// One worker writes only one transcript for given programs.
@@ -66,7 +61,7 @@ pub fn one_worker_writes_one_transcript()
 /// If a page is refused as too long, the refusal names a number of entries. A page of this number of entries is over a
 /// limit.
 pub fn a_page_refused_as_long_is_over_a_limit()
-    ensures { (t : Transcript) (count : ℕ) → RefusesSteps t (run.LongPage count) → IsOver t count }
+    ensures { (t : Transcript) (count : ℕ) → RefusesProduct Page t (run.LongPage count) → IsOver t count }
 {}
 
 /// This law is about a check (with or without an explanation), a replay, a trace, and a run on one worker whose output
@@ -77,10 +72,10 @@ pub fn an_input_has_one_answer()
         → Answers checking input one → Answers checking input other
         → HasEnoughMemory one → HasEnoughMemory other → one ≡ other }
     ensures replayed { (at : Option ℕ) (input : List ℕ) (one other : Result (Unit {0} × List ℕ) MainFault)
-        → Answers (replaying at) input one → Answers (replaying at) input other
+        → Answers (making (Replay at)) input one → Answers (making (Replay at)) input other
         → HasEnoughMemory one → HasEnoughMemory other → one ≡ other }
-    ensures traced { (each : Bool) (input : List ℕ) (one other : Result (Unit {0} × List ℕ) MainFault)
-        → Answers (tracing each) input one → Answers (tracing each) input other
+    ensures traced { (waits : Bool) (input : List ℕ) (one other : Result (Unit {0} × List ℕ) MainFault)
+        → Answers (making (Trace waits)) input one → Answers (making (Trace waits)) input other
         → HasEnoughMemory one → HasEnoughMemory other → one ≡ other }
     ensures explained { (input : List ℕ) (one other : Result (Verdict × List ℕ) MainFault)
         → Answers explaining input one → Answers explaining input other
@@ -149,7 +144,7 @@ pub fn a_run_writes_the_fronts_of_one_report()
 /// If a check judges an input legal, the replay of all its entries gives this input back, byte by byte.
 pub fn a_legal_transcript_is_given_back()
     ensures { (input line output : List ℕ) (done : Unit {0}) → GivesFor checking input Legal line
-        → GivesFor (replaying None) input done output → output ≡ input }
+        → GivesFor (making (Replay None)) input done output → output ≡ input }
 {
     one_transcript_has_one_reading();
     a_transcript_has_one_replay();
@@ -160,10 +155,10 @@ pub fn a_legal_transcript_is_given_back()
 /// input and a value of `at`, a replay has only one possible output.
 pub fn a_replay_is_one_legal_transcript()
     ensures legal { (at : Option ℕ) (input output : List ℕ) (done : Unit {0})
-        → GivesFor (replaying at) input done output
+        → GivesFor (making (Replay at)) input done output
         → (line : List ℕ) × GivesFor checking output Legal line }
-    ensures one { (at : Option ℕ) (input one other : List ℕ) (done : Unit {0}) → GivesFor (replaying at) input done one
-        → GivesFor (replaying at) input done other → one ≡ other }
+    ensures one { (at : Option ℕ) (input one other : List ℕ) (done : Unit {0}) → GivesFor (making (Replay at)) input done one
+        → GivesFor (making (Replay at)) input done other → one ≡ other }
 {
     one_transcript_has_one_reading();
     a_transcript_has_one_replay();

@@ -7,11 +7,18 @@ use super::texts::{
     IN_TURN, IN_TURN_REPLAYED, IN_TURN_TRACED, OPENED_AND_CLOSED, OPENS_AND_CLOSES,
     OTHER_CONFIGURATION, TWO_PROCESSES, WRONG_REPLY,
 };
+use smx_filters::Product;
 use std::io::ErrorKind;
 use std::mem::forget;
 use std::process::Abort;
 use std::sync::Wait;
 use std::thread::Threads;
+
+const REPLAY: Task = Task::Make(Product::Replay { at: None });
+
+const TRACE: Task = Task::Make(Product::Trace { waits: true });
+
+const STEPS: Task = Task::Make(Product::Page);
 
 // Tasks, each with its input, its expected output and its expected status.
 const DONE: [(Task, &[u8], &[u8], u8); 6] = [
@@ -19,8 +26,8 @@ const DONE: [(Task, &[u8], &[u8], u8); 6] = [
     (Task::Check, TWO_PROCESSES, b"legal 2\n", 0),
     (Task::Check, WRONG_REPLY, b"illegal 2\n", 4),
     (Task::Check, OTHER_CONFIGURATION, b"config differs\n", 4),
-    (Task::Replay, IN_TURN, IN_TURN_REPLAYED, 0),
-    (Task::Trace, IN_TURN, IN_TURN_TRACED, 0),
+    (REPLAY, IN_TURN, IN_TURN_REPLAYED, 0),
+    (TRACE, IN_TURN, IN_TURN_TRACED, 0),
 ];
 
 // A run and checks that explain faults, each with its input, its expected output and its expected status.
@@ -133,9 +140,9 @@ fn writes_no_more<R: AllocGlobal + Abort + Threads + Wait + Sync>(
 fn a_job_reads_no_more(rt: HostRuntime) {
     reads_no_more(&rt, Task::Run, OPENS_AND_CLOSES);
     reads_no_more(&rt, Task::Check, TWO_PROCESSES);
-    reads_no_more(&rt, Task::Replay, IN_TURN);
-    reads_no_more(&rt, Task::Steps, IN_TURN);
-    reads_no_more(&rt, Task::Trace, IN_TURN);
+    reads_no_more(&rt, REPLAY, IN_TURN);
+    reads_no_more(&rt, STEPS, IN_TURN);
+    reads_no_more(&rt, TRACE, IN_TURN);
 }
 
 #[test]
@@ -154,22 +161,14 @@ fn a_job_writes_no_more(rt: HostRuntime) {
 fn a_page_writes_no_more(rt: HostRuntime) {
     let other = ErrorKind::Other;
     let stop = Stop::Fails(other);
-    let page = outcome(
-        &rt,
-        Task::Steps,
-        IN_TURN,
-        usize::MAX,
-        other,
-        usize::MAX,
-        stop,
-    );
+    let page = outcome(&rt, STEPS, IN_TURN, usize::MAX, other, usize::MAX, stop);
     let whole = page.taken.as_slice();
-    ends(&rt, Task::Steps, IN_TURN, whole, 0);
-    leaves(&rt, Task::Steps, IN_TURN, whole, stop);
+    ends(&rt, STEPS, IN_TURN, whole, 0);
+    leaves(&rt, STEPS, IN_TURN, whole, stop);
     for writes in [0usize, 1, 1_000, 20_000] {
         if writes < whole.len() {
-            leaves(&rt, Task::Steps, IN_TURN, &whole[..writes], stop);
-            leaves(&rt, Task::Steps, IN_TURN, &whole[..writes], Stop::TakesNone);
+            leaves(&rt, STEPS, IN_TURN, &whole[..writes], stop);
+            leaves(&rt, STEPS, IN_TURN, &whole[..writes], Stop::TakesNone);
         }
     }
     forget(page);

@@ -1,7 +1,7 @@
 //! The job that the words of a command line ask for.
 
 use smx_command_line::{Job, job};
-use smx_draw::Form;
+use smx_filters::Product;
 use std::mem::forget;
 use std::process::Abort;
 
@@ -28,81 +28,87 @@ const OTHERS: [(&[&str], Job); 16] = [
     ),
     (
         &["muxsim", "replay"],
-        Job::Replay {
-            at: None,
+        Job::Make {
+            product: Product::Replay { at: None },
             explain: false,
         },
     ),
     (
         &["muxsim", "replay", "--at", "0"],
-        Job::Replay {
-            at: Some(0),
+        Job::Make {
+            product: Product::Replay { at: Some(0) },
             explain: false,
         },
     ),
     (
         &["muxsim", "replay", "--explain", "--at=100000"],
-        Job::Replay {
-            at: Some(100_000),
+        Job::Make {
+            product: Product::Replay { at: Some(100_000) },
             explain: true,
         },
     ),
     (
         &["muxsim", "trace"],
-        Job::Trace {
-            waits: false,
+        Job::Make {
+            product: Product::Trace { waits: false },
             explain: false,
         },
     ),
     (
         &["muxsim", "trace", "--waits"],
-        Job::Trace {
-            waits: true,
+        Job::Make {
+            product: Product::Trace { waits: true },
             explain: false,
         },
     ),
     (
         &["muxsim", "trace", "--explain"],
-        Job::Trace {
-            waits: false,
+        Job::Make {
+            product: Product::Trace { waits: false },
             explain: true,
         },
     ),
     (
         &["muxsim", "draw"],
-        Job::Draw {
-            form: Form::Svg,
+        Job::Make {
+            product: Product::Svg,
             explain: false,
         },
     ),
     (
         &["muxsim", "draw", "--dot"],
-        Job::Draw {
-            form: Form::Dot,
+        Job::Make {
+            product: Product::Dot,
             explain: false,
         },
     ),
     (
         &["muxsim", "draw", "--explain"],
-        Job::Draw {
-            form: Form::Svg,
+        Job::Make {
+            product: Product::Svg,
             explain: true,
         },
     ),
     (
         &["muxsim", "draw", "--explain", "--dot"],
-        Job::Draw {
-            form: Form::Dot,
+        Job::Make {
+            product: Product::Dot,
             explain: true,
         },
     ),
     (
         &["muxsim", "draw", "--steps"],
-        Job::Steps { explain: false },
+        Job::Make {
+            product: Product::Page,
+            explain: false,
+        },
     ),
     (
         &["muxsim", "draw", "--explain", "--steps"],
-        Job::Steps { explain: true },
+        Job::Make {
+            product: Product::Page,
+            explain: true,
+        },
     ),
     (&["muxsim", "live"], Job::Live { explain: false }),
     (

@@ -1,10 +1,6 @@
 //! The text that a filter keeps if the text or its drivers have a fault.
 
-use smx_draw::Form;
-use smx_filters::{
-    Refusal, Source, Target, check_explained, draw_text, replay_text, run_explained, steps_text,
-    trace_text,
-};
+use smx_filters::{Product, Refusal, Source, Target, check_explained, make_text, run_explained};
 use smx_run::NoGate;
 use std::fmt::InlineText;
 use std::process::Abort;
@@ -42,15 +38,16 @@ fn each_keeps(rt: &(impl AllocGlobal + Abort), input: &[u8], words: &str) {
     let mut sink = Target::new(buffer.as_mut_slice());
     let checked = check_explained(alloc, &mut Source::new(input), &mut sink);
     keeps(rt, checked, words, input);
-    let mut sink = Target::new(buffer.as_mut_slice());
-    let replayed = replay_text(alloc, &mut Source::new(input), &mut sink, Some(0));
-    keeps(rt, replayed, words, input);
-    let mut sink = Target::new(buffer.as_mut_slice());
-    let traced = trace_text(alloc, &mut Source::new(input), &mut sink, false);
-    keeps(rt, traced, words, input);
-    let mut sink = Target::new(buffer.as_mut_slice());
-    let stepped = steps_text(alloc, &mut Source::new(input), &mut sink);
-    keeps(rt, stepped, words, input);
+    let products = [
+        Product::Replay { at: Some(0) },
+        Product::Trace { waits: false },
+        Product::Page,
+    ];
+    for product in products {
+        let mut sink = Target::new(buffer.as_mut_slice());
+        let made = make_text(alloc, &mut Source::new(input), &mut sink, product);
+        keeps(rt, made, words, input);
+    }
     assert_eq!(rt; buffer, [0u8; 64]);
 }
 
@@ -61,7 +58,7 @@ fn a_refused_text_is_kept(rt: HostRuntime) {
     each_keeps(&rt, OTHER_NAMESAKES, "refused: driver 1 same name");
     let mut buffer = [0u8; 64];
     let mut sink = Target::new(buffer.as_mut_slice());
-    let drawn = draw_text(alloc, &mut Source::new(PROGRAMS), &mut sink, Form::Svg);
+    let drawn = make_text(alloc, &mut Source::new(PROGRAMS), &mut sink, Product::Svg);
     keeps(&rt, drawn, "line 1: header", PROGRAMS);
     let mut feed = Source::new(TRANSCRIPT);
     let mut sink = Target::new(buffer.as_mut_slice());

@@ -5,8 +5,8 @@ ghost use Rattle.std.specs.Prelude.{◌≡◌, false};
 use super::devices::{Stop, one_byte_feed, one_byte_sink};
 use smx_config::Verdict;
 use smx_filters::{
-    Done, Feed, MainFault, Refusal, Sink, Source, Target, check_explained, check_text, replay_text,
-    run_explained, run_text, steps_text, trace_text,
+    Done, Feed, MainFault, Product, Refusal, Sink, Source, Target, check_explained, check_text,
+    make_text, run_explained, run_text,
 };
 use smx_live::live_text;
 use smx_run::NoGate;
@@ -23,9 +23,7 @@ use std::thread::Threads;
 pub enum Task {
     Run,
     Check,
-    Replay,
-    Trace,
-    Steps,
+    Make(Product),
     ExplainedRun,
     ExplainedCheck,
     Live,
@@ -81,9 +79,7 @@ fn perform<R: AllocGlobal + Threads + Wait + Sync, F: Feed, S: Sink>(
     ending(match task {
         Task::Run => finished(run_text(rt, alloc, feed, sink, 1, false, &NoGate)),
         Task::Check => judged(check_text(alloc, feed, sink)),
-        Task::Replay => finished(without_text(replay_text(alloc, feed, sink, None))),
-        Task::Trace => finished(without_text(trace_text(alloc, feed, sink, true))),
-        Task::Steps => finished(without_text(steps_text(alloc, feed, sink))),
+        Task::Make(product) => finished(without_text(make_text(alloc, feed, sink, product))),
         Task::ExplainedRun => {
             finished(without_text(run_explained(rt, alloc, feed, sink, 1, false, &NoGate)))
         }

@@ -9,9 +9,7 @@ use super::texts::{
     TWO_PROCESSES,
 };
 use smx_config::Verdict;
-use smx_filters::{
-    MainFault, Refusal, Source, Target, check_text, replay_text, run_text, steps_text, trace_text,
-};
+use smx_filters::{MainFault, Product, Refusal, Source, Target, check_text, make_text, run_text};
 use smx_run::{NoGate, RunFault};
 use smx_text::{Cause, TextFault};
 use std::process::Abort;
@@ -75,7 +73,8 @@ fn checks(rt: HostRuntime) {
 fn is_replay_answered(rt: &(impl AllocGlobal + Abort)) -> bool {
     let mut buffer = [0u8; 512];
     let mut sink = Target::new(buffer.as_mut_slice());
-    match replay_text(rt.alloc(), &mut Source::new(IN_TURN), &mut sink, None) {
+    let product = Product::Replay { at: None };
+    match make_text(rt.alloc(), &mut Source::new(IN_TURN), &mut sink, product) {
         Ok(()) => {
             assert!(rt; buffer.starts_with(IN_TURN_REPLAYED));
             true
@@ -102,7 +101,8 @@ fn a_replay(rt: HostRuntime) {
 fn is_trace_answered(rt: &(impl AllocGlobal + Abort)) -> bool {
     let mut buffer = [0u8; 1024];
     let mut sink = Target::new(buffer.as_mut_slice());
-    match trace_text(rt.alloc(), &mut Source::new(IN_TURN), &mut sink, true) {
+    let product = Product::Trace { waits: true };
+    match make_text(rt.alloc(), &mut Source::new(IN_TURN), &mut sink, product) {
         Ok(()) => {
             assert!(rt; buffer.starts_with(IN_TURN_TRACED));
             true
@@ -150,7 +150,12 @@ fn has(text: &[u8], part: &[u8]) -> bool {
 fn is_page_answered(rt: &(impl AllocGlobal + Abort)) -> bool {
     let mut buffer = [0u8; 32_768];
     let mut sink = Target::new(buffer.as_mut_slice());
-    match steps_text(rt.alloc(), &mut Source::new(TWO_CLONES), &mut sink) {
+    match make_text(
+        rt.alloc(),
+        &mut Source::new(TWO_CLONES),
+        &mut sink,
+        Product::Page,
+    ) {
         Ok(()) => {
             assert!(rt; buffer.starts_with(b"<!DOCTYPE html>\n"));
             for step in &TWO_CLONES_STEPPED {

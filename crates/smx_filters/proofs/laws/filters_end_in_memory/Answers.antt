@@ -5,8 +5,5 @@ pub returns : goal.returns
 returns c = record {
   runs = λ fronts workers. in_memory _;
   checks = in_memory _;
-  replays = λ at. in_memory _;
-  traces = λ each. in_memory _;
-  drawings = λ form. in_memory _;
-  pages = in_memory _;
+  products = λ product. in_memory _;
 }
