@@ -1,5 +1,6 @@
 -- A worked live session: what it reads and writes, and its answers, typed in by hand.
-use Rattle.std.specs.Prelude.{◌≡◌, ℕ, Bool, true, false, List, [], ◌∷◌, ◌++◌, codes, refl}
+use Rattle.std.specs.Prelude.{◌≡◌, ℕ, Bool, true, false, List, [], ◌∷◌, ◌++◌, codes, map, refl}
+use Rattle.std.specs.List.{list_all, list_any}
 use Rattle.std.specs.Fmt.{digits}
 use Rattle.smx_model.specs.Views.{view}
 use Rattle.smx_model.specs.Worked.Common.{Fd, OpenClone, ◌does◌gets◌, eth}
@@ -72,54 +73,25 @@ pub end_shown : closing_text begun ≡ codes "config\nnext 1 1\nend\n"
 unfolding digits
 end_shown = refl
 
--- a line that is not a command is refused in these words
-pub no_command_shown : fault_line NoCommand ≡ codes "? no command\n"
-no_command_shown = refl
+-- the words in which a line is refused
+pub refusals_shown : map fault_line (NoCommand ∷ NoMemory ∷ Full ∷ [])
+    ≡ codes "? no command\n" ∷ codes "? no memory\n" ∷ codes "? history full\n" ∷ []
+refusals_shown = refl
 
--- a line for which there is no memory is refused in these words
-pub no_memory_shown : fault_line NoMemory ≡ codes "? no memory\n"
-no_memory_shown = refl
+-- the answer to a last line without a line feed; there is none if there is no such line
+pub cuts_shown : map cut_words (codes "en" ∷ [] ∷ []) ≡ codes "? cut\n" ∷ [] ∷ []
+cuts_shown = refl
 
--- a command for which the history is full is refused in these words
-pub full_shown : fault_line Full ≡ codes "? history full\n"
-full_shown = refl
+-- the text of a table ends with the line `end`, if the table has a line and its last line is whole
+pub tables_end : map table_text (worked_table ∷ codes "programs 2\n" ∷ codes "programs 2\ndriver eth" ∷ [] ∷ [])
+    ≡ codes "programs 2\ndriver eth leaf 2 8 3 16\nend\n" ∷ codes "programs 2\nend\n"
+    ∷ codes "programs 2\ndriver eth" ∷ [] ∷ []
+tables_end = refl
 
--- the answer to a last line without a line feed is in these words
-pub cut_shown : cut_words (codes "en") ≡ codes "? cut\n"
-cut_shown = refl
+-- `driver` alone begins like a driver line, and so does a line that begins with a longer word
+pub driver_lines : list_all begins_driver (codes "driver" ∷ codes "drivers of none" ∷ []) ≡ true
+driver_lines = refl
 
--- there is no such answer if there is no such line
-pub no_cut_shown : cut_words [] ≡ []
-no_cut_shown = refl
-
--- the text of a table ends with the line `end`
-pub table_ends : table_text worked_table ≡ codes "programs 2\ndriver eth leaf 2 8 3 16\nend\n"
-table_ends = refl
-
--- and so does that of a table of its header only
-pub header_ends : table_text (codes "programs 2\n") ≡ codes "programs 2\nend\n"
-header_ends = refl
-
--- the text of a table whose last line is cut has no such line
-pub cut_table_ends : table_text (codes "programs 2\ndriver eth") ≡ codes "programs 2\ndriver eth"
-cut_table_ends = refl
-
--- nor has that of a table without a line
-pub no_table_ends : table_text [] ≡ []
-no_table_ends = refl
-
--- `driver` alone begins like a driver line
-pub driver_alone : begins_driver (codes "driver") ≡ true
-driver_alone = refl
-
--- and so does a line that begins with a longer word
-pub longer_word : begins_driver (codes "drivers of none") ≡ true
-longer_word = refl
-
--- but not one that begins with a shorter word
-pub shorter_word : begins_driver (codes "drive eth") ≡ false
-shorter_word = refl
-
--- nor one with a space before the word
-pub space_before : begins_driver (codes " driver eth") ≡ false
-space_before = refl
+-- but not one that begins with a shorter word, or with a space before the word
+pub other_lines : list_any begins_driver (codes "drive eth" ∷ codes " driver eth" ∷ []) ≡ false
+other_lines = refl

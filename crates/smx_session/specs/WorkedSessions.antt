@@ -1,5 +1,5 @@
 -- A worked session: a text, the session over it, and its states after its first lines, typed in by hand.
-use Rattle.std.specs.Prelude.{◌≡◌, ℕ, List, [], ◌∷◌, Some, None, codes, refl}
+use Rattle.std.specs.Prelude.{◌≡◌, ℕ, List, [], ◌∷◌, Some, None, codes, map, refl}
 use Rattle.std.specs.Fmt.{digits}
 use Rattle.smx_types.specs.declared.driver.DriverSpec.{DriverSpec}
 use Rattle.smx_types.specs.declared.version.Version.TheVariants.{V2}
@@ -38,20 +38,11 @@ hung =
       last = Some (5 does Hangup eth 0 gets Done []);
     }
 
--- before a command, only the next id and the next serial are shown
-pub nothing_is_shown : shown_lines begun ≡ codes "config\nnext 1 1\n"
+-- before a command, only the next id and the next serial are shown; then the descriptor and the hung-up stream too
+pub these_lines_are_shown : map shown_lines (begun ∷ opened ∷ hung ∷ []) ≡ codes "config\nnext 1 1\n"
+    ∷ codes "config\nnext 1 1\nfd 3 0 eth 0\n" ∷ codes "config\nnext 1 1\nfd 3 0 eth 0\nhung eth 0\n" ∷ []
 unfolding digits
-nothing_is_shown = refl
-
--- after the clone, its descriptor is shown
-pub one_is_shown : shown_lines opened ≡ codes "config\nnext 1 1\nfd 3 0 eth 0\n"
-unfolding digits
-one_is_shown = refl
-
--- after the hangup, the hung-up stream is shown too
-pub a_hangup_is_shown : shown_lines hung ≡ codes "config\nnext 1 1\nfd 3 0 eth 0\nhung eth 0\n"
-unfolding digits
-a_hangup_is_shown = refl
+these_lines_are_shown = refl
 
 -- the words for out-of-memory, if no session starts
 pub start_memory_words : start_fault_words start.NoMemory ≡ codes "no memory"
