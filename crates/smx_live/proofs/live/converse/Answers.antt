@@ -42,8 +42,9 @@ returns-in_err-answer g c =
     let gone = reads (c.loop-turn.invariant.gone read output l) p.consumed came.held p.stays in
     rw (is, of) (failed gone (g.S.Sink.flushed sink) (g.S.Sink.failures sink) came.fine (g.S.Sink.contents sink)
     c.in_err-answer.field-0.0
-    (turned_on gone.live came.found.0 came.found.1 c.answer.new.talk.session c.answer.new.talk.progress _ _
-    (g.S.Sink.flushed sink) _ (Err c.in_err-answer.field-0.0) (rw c.deref.ensures.value at c.in_err-answer.ensures)))
+    (turned_on {read = read ++ gone.more} {output = output ++ gone.said} gone.live came.found.0 came.found.1
+    c.answer.new.talk.session c.answer.new.talk.progress _ _ (g.S.Sink.flushed sink) _ (Err c.in_err-answer.field-0.0)
+    (rw c.deref.ensures.value at c.in_err-answer.ensures)))
 
 pub returns-then-branch : goal.returns-then-branch
 returns-then-branch g c =
@@ -51,8 +52,9 @@ returns-then-branch g c =
     let came = rw c.in-Some.is at p.came in
     let sink = c.answer.new.sink in λ read output l.
     let gone = reads (c.loop-turn.invariant.gone read output l) p.consumed came.held p.stays in
-    let h = turned_on gone.live came.found.0 came.found.1 c.answer.new.talk.session c.answer.new.talk.progress _ _ _ _
-    (Ok true) (rw (c.if-branch.true, c.deref.ensures.value) at c.in_ok-answer.ensures) in
+    let h = turned_on {read = read ++ gone.more} {output = output ++ gone.said} gone.live came.found.0 came.found.1
+    c.answer.new.talk.session c.answer.new.talk.progress _ _ _ _ (Ok true)
+    (rw (c.if-branch.true, c.deref.ensures.value) at c.in_ok-answer.ensures) in
     over gone (g.S.Sink.flushed sink) (g.S.Sink.failures sink) came.fine (g.S.Sink.contents sink) h.2 h.0 h.1 h.3 h.4
 
 pub loop-turn-preserved : goal.loop-turn-preserved
@@ -64,8 +66,9 @@ loop-turn-preserved g c =
     record {
       gone = λ read output l.
           let gone = reads (c.loop-turn.invariant.gone read output l) p.consumed came.held p.stays in
-          let h = turned_on gone.live came.found.0 came.found.1 c.answer.new.talk.session c.answer.new.talk.progress _ _
-          _ _ (Ok false) (rw (c.if-branch.false, c.deref.ensures.value) at c.in_ok-answer.ensures) in
+          let h = turned_on {read = read ++ gone.more} {output = output ++ gone.said} gone.live came.found.0
+          came.found.1 c.answer.new.talk.session c.answer.new.talk.progress _ _ _ _ (Ok false)
+          (rw (c.if-branch.false, c.deref.ensures.value) at c.in_ok-answer.ensures) in
           rw (← still)
           (turns gone h.2 h.3 (rw c.drop_line.ensures.held h.4) came.found.0.within c.drop_line.ensures.held);
       end = still;
