@@ -146,11 +146,9 @@ impl<K: EntrySink> Shared<K> {
         ensures seen { HasSeenMore seat.old.known seat.new.known }
         ensures meets { Meets seat.old other seat.new }
     {
-        self.turns
-            .table
-            .shared
-            .join_seat::<Meet>(&mut seat.token, other.token);
-        self.turns.table.shared.load::<Look>(&mut seat.token, FRONT);
+        let shared = &self.turns.table.shared;
+        shared.join_seat::<Meet>(&mut seat.token, other.token);
+        shared.load::<Look>(&mut seat.token, FRONT);
     }
 
     /// Returns the system with its whole history, after all its callers have ended. Fails only if a turn was never
