@@ -74,27 +74,17 @@ pub fn page(alloc: Global, transcript: Transcript) -> Result<Vec<u8>, PageFault>
     let opening = transcript_opening(alloc, transcript.version, drivers)?;
     let mut out = Vec::new(alloc);
     put(&mut out, HEAD)?;
-    let view = write_beginning(alloc, &config, opening.as_slice(), &mut out)?;
+    let view = config.show()?;
+    let picture = write_svg(alloc, drivers, &view)?;
+    put_step(
+        &mut out,
+        b"beginning",
+        opening.as_slice(),
+        picture.as_slice(),
+    )?;
     write_steps(alloc, &mut config, entries, view, &mut out)?;
     put(&mut out, FOOT)?;
     Ok(out)
-}
-
-// Appends the step of the beginning. Returns the view of the configuration. Fails only if out of memory.
-fn write_beginning(
-    alloc: Global,
-    config: &Config,
-    opening: &[u8],
-    out: &mut Vec<u8>,
-) -> Result<ConfigView, NoMemory>
-    ensures now { IfOk result (IsNow config.now) }
-    ensures added { OnOk result (AddsStep config.now.drivers (view config.now.drivers config.now.configuration)
-        (codes "beginning") opening.now out.old.items out.new.items) }
-{
-    let view = config.show()?;
-    let picture = write_svg(alloc, config.drivers(), &view)?;
-    put_step(out, b"beginning", opening, picture.as_slice())?;
-    Ok(view)
 }
 
 // Performs the commands of all entries, and appends their steps. Also fails if the page would be too long.
