@@ -70,8 +70,8 @@ const READ: usize = 4;
 #[derive(Clone, Copy, Debug)]
 pub struct Seat {
     pub driver: Name,
-    /// 0 for the driver itself, and the minor plus 1 for a stream.
-    pub slot: u64,
+    /// The minor of the stream, or nothing if the row belongs to the driver itself.
+    pub minor: Option<u32>,
     pub row: usize,
 }
 
@@ -80,7 +80,7 @@ impl Seat {
     pub fn of_driver(driver: &Name, row: Row) -> Seat {
         Seat {
             driver: *driver,
-            slot: 0,
+            minor: None,
             row: row as usize,
         }
     }
@@ -89,7 +89,7 @@ impl Seat {
     pub fn of_stream(driver: &Name, minor: u32, row: Row) -> Seat {
         Seat {
             driver: *driver,
-            slot: u64::from(minor) + 1,
+            minor: Some(minor),
             row: row as usize,
         }
     }
@@ -106,17 +106,12 @@ impl Seat {
         }
     }
 
-    /// Returns the minor, if the row belongs to a stream.
-    pub fn minor(&self) -> Option<u32> {
-        u32::try_from(self.slot.checked_sub(1)?).ok()
-    }
-
     /// Returns the key by which drivers and streams are sorted: by name and minor, and a driver before its streams.
-    pub fn order(&self) -> (u64, u64) {
+    pub fn order(&self) -> (u64, Option<u32>) {
         let text = self.driver.as_bytes();
         let mut padded = [0u8; 8];
         padded[..text.len()].copy_from_slice(text);
-        (u64::from_be_bytes(padded), self.slot)
+        (u64::from_be_bytes(padded), self.minor)
     }
 }
 

@@ -59,7 +59,7 @@ impl Plan {
     fn match_width(&mut self, column: usize, other: usize) -> Option<()> {
         let other = *self.blocks.get(other)?;
         let column = self.blocks.get_mut(column)?;
-        if other.frame == column.frame && other.seat.slot > 0 {
+        if other.frame == column.frame && other.seat.minor.is_some() {
             column.widen(other.width);
         }
         Some(())
@@ -185,7 +185,7 @@ impl Plan {
         let frame = *self.blocks.get(block.frame)?;
         let top = self.layers.get(frame.layer)?.top;
         let block = self.blocks.get_mut(at)?;
-        if block.seat.slot == 0 {
+        if block.seat.minor.is_none() {
             block.put_at(frame.left, top);
         } else {
             block.put_at(frame.left + block.left, top + block.top);

@@ -86,7 +86,7 @@ impl Plan {
         seats.dedup_by_key(|seat| seat.order());
         for seat in seats.as_slice() {
             let at = self.blocks.len();
-            if seat.slot == 0 {
+            if seat.minor.is_none() {
                 self.frames.push(at)?;
             }
             let frame = self.frames.last().copied().unwrap_or(at);
@@ -116,7 +116,7 @@ impl Plan {
     fn add_names(&mut self, alloc: Global) -> Result<(), NoMemory> {
         let mut name = Vec::new(alloc);
         for block in self.blocks.iter_mut() {
-            if let Some(minor) = block.seat.minor() {
+            if let Some(minor) = block.seat.minor {
                 name.clear();
                 let values = [Piece::Name(block.seat.driver), Piece::Number(minor)];
                 put(&mut name, b"@0 @1 closed", &values)?;

@@ -1,7 +1,6 @@
 //! Frames, links, columns and gauges. They are drawn first, so that the rows are on top of them.
 
-ghost use Rattle.std.specs.Prelude.{◌≡◌, ◌-◌, ◌++◌, OnOk};
-ghost use Rattle.smx_draw.specs.SvgElements.{frame_element, gauge_element, sized_gauge, stream_element, way_element};
+ghost use Rattle.smx_draw.specs.SvgElements.{frame_element, gauge_element, stream_element, way_element};
 
 use crate::pieces::Piece::{self, Driver, Link, Number};
 use crate::pieces::put;
@@ -107,35 +106,31 @@ impl Drawn for QueueRow {
 
     fn put_at(&self, at: Area, out: &mut Vec<u8>) -> Result<(), NoMemory> {
         match self.item {
-            QueueItem::Bytes(bytes, high, low) => put_gauge(out, at, bytes, high, low),
+            // The whole width of the gauge shows the high water mark.
+            QueueItem::Bytes(bytes, high, low) => {
+                let values = [
+                    Number(at.left),
+                    Number(at.top),
+                    Number(at.right.saturating_sub(at.left)),
+                    Number(bytes),
+                    Number(high),
+                    Number(low),
+                ];
+                let template = b"<svg class=\"gauge\" x=\"@0\" y=\"@1\" width=\"@2\" height=\"14\" \
+                    viewBox=\"0 0 @4 14\" preserveAspectRatio=\"none\">\
+                    <path class=\"bytes\" d=\"M0 0H@3V14H0Z\"/><path class=\"low\" d=\"M0 12H@5V14H0Z\"/></svg>\n";
+                put(out, template, &values)
+            }
             QueueItem::Message(..) | QueueItem::More(_) => Ok(()),
         }
     }
-}
-
-// Appends the gauge of a queue. The whole width of the gauge shows the high water mark.
-fn put_gauge(out: &mut Vec<u8>, at: Area, bytes: u32, high: u32, low: u32) -> Result<(), NoMemory>
-    ensures { OnOk result (out.new.items ≡ out.old.items ++ sized_gauge (at.right - at.left) bytes high low at) }
-{
-    let values = [
-        Number(at.left),
-        Number(at.top),
-        Number(at.right.saturating_sub(at.left)),
-        Number(bytes),
-        Number(high),
-        Number(low),
-    ];
-    let template = b"<svg class=\"gauge\" x=\"@0\" y=\"@1\" width=\"@2\" height=\"14\" \
-        viewBox=\"0 0 @4 14\" preserveAspectRatio=\"none\">\
-        <path class=\"bytes\" d=\"M0 0H@3V14H0Z\"/><path class=\"low\" d=\"M0 12H@5V14H0Z\"/></svg>\n";
-    put(out, template, &values)
 }
 
 /// Returns the streams of the picture. Fails only if it is out of memory.
 pub fn streams_of(alloc: Global, plan: &Plan) -> Result<Vec<Stream>, NoMemory> {
     let mut streams = Vec::new(alloc);
     for block in plan.blocks.as_slice() {
-        if let Some(minor) = block.seat.minor() {
+        if let Some(minor) = block.seat.minor {
             streams.push(Stream {
                 driver: block.seat.driver,
                 minor,
