@@ -37,13 +37,9 @@ fn all_targets(
 ) -> Result<Vec<u32>, NoMemory>
     ensures { IfOk result (λ v. v.items ≡ map (λ l. l.id) (filter (may_unlink kind stream) links.now.links)) }
 {
-    let mut ids = Vec::new(alloc);
-    for link in links.links() {
-        if may_unlink(kind, stream, link) {
-            ids.push(link.id)?;
-        }
-    }
-    Ok(ids)
+    let all = links.links().iter();
+    let goes = all.filter(|link| may_unlink(kind, stream, link));
+    Ok(goes.map(|link| link.id).collect(alloc)?)
 }
 
 // Returns the ids of the links that the command removes.

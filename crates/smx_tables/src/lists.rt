@@ -63,11 +63,7 @@ fn minors_of_each(alloc: Global, drivers: &[DriverSpec]) -> Result<Vec<u8>, NoMe
     requires { IsDriverList drivers.now }
     ensures { IfOk result (λ v. v.items ≡ map (λ d. d.minors) drivers.now) }
 {
-    let mut minors = Vec::with_capacity(alloc, drivers.len())?;
-    for driver in drivers {
-        minors.push(driver.minors as u8)?;
-    }
-    Ok(minors)
+    Ok(drivers.iter().map(|d| d.minors as u8).collect(alloc)?)
 }
 
 impl Lists {

@@ -56,19 +56,6 @@ impl Tables {
         Ok(room_for(self.alloc, message.bytes.as_slice().len(), 0)?)
     }
 
-    // Reserves room for the bytes of the message that a read returns. The end of file needs no room.
-    fn room_for_read(&self, stream: StreamId) -> Result<ReplyRoom, StepError>
-        ensures makes { MakesRoom self.now (read_outcome self.now.drivers self.now.configuration stream) result }
-        ensures in_place { delivered_by (after_outcome self.now.drivers self.now.configuration
-            (read_outcome self.now.drivers self.now.configuration stream)).1 ≡ [] → result ≢ Err step_error.NoMemory }
-    {
-        if self.is_at_end(stream) {
-            return Ok(no_room(self.alloc));
-        }
-        let side = Side::Read;
-        self.room_for_first(Place { stream, side })
-    }
-
     // Reserves room for the serials of all messages.
     fn room_for_all(&self) -> Result<ReplyRoom, StepError>
         ensures ok { IfOk result (HasRoomFor 0 (length self.now.configuration.flow)) }
@@ -112,7 +99,11 @@ impl Tables {
         match command {
             Command::Read { fd } => {
                 let stream = self.free_stream(process, *fd)?;
-                self.room_for_read(stream)
+                if self.is_at_end(stream) {
+                    return Ok(no_room(self.alloc));
+                }
+                let side = Side::Read;
+                self.room_for_first(Place { stream, side })
             }
             Command::Transmit { driver, minor } => {
                 let stream = self.live_leaf(driver, *minor)?;

@@ -8,9 +8,9 @@ pub returns-in-OpenClone-clause-makes : goal.returns-in-OpenClone-clause-makes
 returns-in-OpenClone-clause-makes c =
     let plain : carries_nothing c.args.command.now ≡ true = search rules in
     nothing_fits c.args.self.now.drivers c.args.self.now.configuration c.args.process c.args.command.now
-    c.no_room.result plain
+    c.no_room-in-OpenClone.result plain
     (step_drops c.args.self.now.drivers c.args.self.now.configuration c.args.process c.args.command.now
-    c.requires.swept) c.no_room.ensures
+    c.requires.swept) c.no_room-in-OpenClone.ensures
 
 pub returns-in-Unlink-clause-makes : goal.returns-in-Unlink-clause-makes
 returns-in-Unlink-clause-makes c = rw (c.in-Unlink.is, unlink_is) c.room_for_unlink.ensures
