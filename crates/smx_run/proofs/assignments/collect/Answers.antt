@@ -33,9 +33,7 @@ remove-requires g c =
     let assigned = rw (← len) at (before.assigned (p % workers) (mod-lt p c.requires.workers)
     ∙ next_in_assignment workers p _ _ _ programs) in
     let some = some_left made_calls _ _ c.index_mut.result.now _ _ within c.index_mut.ensures.value assigned in
-    let many : 0 < length c.index_mut.result.now.items =
-    omega (arith, ap length some, length-map c.index_mut.result.now.items (called known_at)) in
-    search rules
+    omega (arith, ap length some, length-map c.index_mut.result.now.items (called known_at))
 
 pub loop-process-preserved : goal.loop-process-preserved
 loop-process-preserved g c =
@@ -56,9 +54,8 @@ loop-process-preserved g c =
     let first = take_from made_calls items (p % c.len.result) assignment c.remove.new.self one within
     c.index_mut.ensures.value
     (first_and_rest (called known_at) _ _ c.remove.result done.value done.items less) in
-    let others = keep_others made_calls items (p % c.len.result) c.remove.new.self in
     let taken = take_next workers p (p + 1) _ _ _ _ _ one programs refl before.assigned (mod-lt p c.requires.workers)
-    (rw len at first) (rw len at others) in
+    (rw len at first) (rw len at (keep_others made_calls items (p % c.len.result) c.remove.new.self)) in
     record {
       room = omega (arith, before.room, c.push_reserved.ensures.capacity);
       counted = omega (arith, before.counted, c.push_reserved.ensures.len);
