@@ -1,15 +1,14 @@
 //! Makes the text of a page from a transcript.
 
-ghost use Rattle.std.specs.Prelude.{◌≡◌, ℕ, ◌+◌, ◌<◌, ◌≤◌, List, [], ◌++◌, codes, length, IfOk, IfErr, OnOk};
+ghost use Rattle.std.specs.Prelude.{◌≡◌, ℕ, ◌+◌, ◌<◌, ◌≤◌, List, [], ◌++◌, length, IfOk, IfErr, OnOk};
 ghost use Rattle.std.specs.Bool.{OnFalse, OnTrue};
 ghost use Rattle.smx_types.specs.declared.driver.DriverSpec.{DriverSpec as AnyDriver};
-ghost use Rattle.smx_model.specs.Views.{view};
 ghost use Rattle.smx_config.specs.declared.config_fault.ConfigFault.TheVariants.{NoMemory as OutOfMemory};
 ghost use Rattle.smx_trace.specs.Tracing.{IsNow};
 ghost use Rattle.smx_steps.specs.Escapes.{escaped, escaped_byte};
 ghost use Rattle.smx_steps.specs.Pages.{IsPageOf, RefusesPage};
 ghost use Rattle.smx_steps.specs.Stepping.{HasStepped, IsStopped, PerformsStep};
-ghost use Rattle.smx_steps.specs.Steps.{AddsStep, step_text};
+ghost use Rattle.smx_steps.specs.Steps.{step_text};
 ghost use Rattle.smx_steps.specs.declared.frame.TheConstants.{FOOT as AnyFoot};
 ghost use Rattle.smx_steps.specs.declared.pages.PageFault.TheVariants.{Refused};
 

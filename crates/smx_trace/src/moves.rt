@@ -1,6 +1,6 @@
 //! The changes of queued messages. A message is found in a view by its serial.
 
-ghost use Rattle.std.specs.Prelude.{◌≡◌, ◌∷◌, ◌++◌, [], ◌==◌, codes, find, map, nat_eq, option_copied, IfOk, OnOk};
+ghost use Rattle.std.specs.Prelude.{◌≡◌, ◌++◌, ◌==◌, codes, find, map, nat_eq, option_copied, IfOk, OnOk};
 ghost use Rattle.indexmap.specs.IndexMap.{get};
 ghost use Rattle.smx_model.specs.Changes.{arrival_change, message_changes, missing_from, same_serial};
 ghost use Rattle.smx_model.specs.Changes as change;
