@@ -6,7 +6,6 @@ use Rattle.smx_filters.proofs.Common.{refl, Version, Legal, ◌∙◌}
 use Rattle.std.proofs.Common.{append-nil, length, []}
 use Rattle.std.specs.Prelude.{IfOk, String, string_bytes}
 use Rattle.smx_text.specs.TranscriptText.{IsAllowed}
-use Rattle.smx_explain.specs.Explanations.{IsExplanation}
 use Rattle.smx_explain.proofs.ExplanationLemmas.{legal_unexplained}
 use Rattle.smx_config.specs.Verdicts.{IsVerdict}
 use Rattle.smx_filters.specs.CheckText.{IsJudged, IsRefusedCheck, judged_of, verdict_line}

@@ -1,12 +1,10 @@
 -- A filter that fails on the bytes that it read.
 use Rattle.smx_filters.proofs.Common.{◌≡◌, ◌≢◌, ℕ, List, Option, Some, None, Bool, Result, Ok, Err, Vec, sym, subst}
-use Rattle.smx_filters.proofs.Common.{rules, arith, inl, IsErrAnd, Global, DriverSpec, TextFault, RefusesDrivers}
-use Rattle.smx_filters.proofs.Common.{ConfigFault, RefusesAlone, RunFault, MainFault, Refused, Text, TooLong}
+use Rattle.smx_filters.proofs.Common.{rules, arith, inl, IsErrAnd, Global, TextFault}
+use Rattle.smx_filters.proofs.Common.{RunFault, MainFault, Refused, Text, TooLong}
 use Rattle.smx_filters.proofs.Common.{ReadFailed, WriteFailed, Filter, Answers, FiltersText, IsFaultOf, IsInput}
 use Rattle.std.specs.Prelude.{IsErrOf}
 use Rattle.std.specs.Io.KnownBytes.{Keeps}
-use Rattle.smx_config.specs.declared.config_fault.ConfigFault.TheVariants as config
-use Rattle.smx_run.specs.RunFaults.{run_fault_of}
 use Rattle.smx_filters.specs.Filters.{RefusesFor}
 use Rattle.smx_run.specs.Input.{IsWhole}
 

@@ -1,9 +1,8 @@
 -- The output and the refusals of a replay, and the laws of replays over bytes.
-use Rattle.smx_filters.proofs.Common.{◌≡◌, ℕ, List, length, Option, Some, None, Vec, Result, Ok, Err, refl, sym, ap}
-use Rattle.smx_filters.proofs.Common.{subst, ◌∙◌, IsErrAnd, Global, DriverSpec, Transcript, Version, ReadsAny, Spells}
-use Rattle.smx_filters.proofs.Common.{transcript_grammar, transcript_text, RefusesDrivers, IsVerdict, ConfigFault}
-use Rattle.smx_filters.proofs.Common.{Legal, RefusesAlone, RunFault, checking, Answers, GivesFor}
-use Rattle.smx_filters.proofs.Common.{MainFault, Refused}
+use Rattle.smx_filters.proofs.Common.{◌≡◌, ℕ, List, length, Option, Some, None, refl, sym, ap}
+use Rattle.smx_filters.proofs.Common.{subst, ◌∙◌, Transcript, Version, Spells}
+use Rattle.smx_filters.proofs.Common.{transcript_grammar, transcript_text, IsVerdict}
+use Rattle.smx_filters.proofs.Common.{Legal, checking, GivesFor}
 use Rattle.smx_model.specs.DriverList.{IsDriverList}
 use Rattle.smx_text.specs.Grammar.{full_text}
 use Rattle.smx_text.specs.TranscriptText.{IsAllowed}
