@@ -65,6 +65,8 @@ pub fn calls_of_an_example()
     ensures in_turn { calls_from 0 programs.programs ≡ (0, OpenClone ip) ∷ (0, Dup 0) ∷ (1, CloseAll) ∷ [] }
     ensures the_first { BeginsCalls ((0, OpenClone ip) ∷ []) 0 programs.programs }
     ensures not_the_last { BeginsCalls ((1, CloseAll) ∷ []) 0 programs.programs → ⊥ }
+    ensures no_more { BeginsCalls ((0, OpenClone ip) ∷ (0, Dup 0) ∷ (1, CloseAll) ∷ (1, CloseAll) ∷ [])
+        0 programs.programs → ⊥ }
 {}
 
 /// A worker that performs commands in order may stop before the last command. `StopsAmong` excludes a stop after the

@@ -55,6 +55,7 @@ pub fn knowledge_examples()
     ensures not_of_another_history { HasSeenMore astray (knows 0 1 9) → ⊥ }
     ensures not_of_another_limit { HasSeenMore (knows 0 0 9) (knows 0 1 8) → ⊥ }
     ensures not_of_another_process { HasSeenMore (knows 0 0 9) (knows 1 1 9) → ⊥ }
+    ensures not_past_the_limit { HasSeenMore (knows 0 0 0) (knows 0 1 0) → ⊥ }
     ensures not_illegal { HasSeenMore (knows 0 0 9) (knows 0 2 9) → ⊥ }
     ensures not_unmade { HasSeenMore (knows 0 0 9) idle → ⊥ }
 {
@@ -118,6 +119,10 @@ pub fn meeting_examples()
     ghost id: { SharedId }
     ensures meets { Meets (first id) (other id (knows 0 1 9)) (meets (after id 4096 1) (knows 0 1 9)) }
     ensures not_unnoted { Meets (first id) (other id (knows 0 1 9)) (after id 4096 1) → ⊥ }
+    ensures not_without_theirs { Meets (first id) (meets (other id (knows 0 1 9)) (knows 2 0 9))
+        (meets (after id 4096 1) (knows 0 1 9)) → ⊥ }
+    ensures not_without_those_before { Meets (meets (first id) (knows 2 0 9)) (other id (knows 0 1 9))
+        (meets (after id 4096 1) (knows 0 1 9)) → ⊥ }
     ensures notes_all { Meets (meets (first id) (knows 3 0 9)) (meets (other id (knows 0 1 9)) (knows 2 0 9))
         (record (after id 4096 1)
         { met = met_seat (knows 0 1 9) ∷ met_seat (knows 2 0 9) ∷ met_seat (knows 3 0 9) ∷ [] }) }
