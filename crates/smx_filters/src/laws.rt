@@ -17,6 +17,7 @@ ghost use Rattle.smx_config.specs.declared.config_fault.ConfigFault.{ConfigFault
 ghost use Rattle.smx_config.specs.declared.verdict.Verdict.{Verdict};
 ghost use Rattle.smx_config.specs.declared.verdict.Verdict.TheVariants.{Legal};
 ghost use Rattle.smx_steps.specs.Pages.{IsOver};
+ghost use Rattle.smx_steps.specs.declared.pages.TheConstants.{MAX_PAGE, MAX_STEPS};
 ghost use Rattle.smx_shared.specs.declared.front.Front.{Front};
 ghost use Rattle.smx_run.specs.Fronts.{AreFrontsFrom};
 ghost use Rattle.smx_run.specs.ProgramOrder.{calls_from};
@@ -32,7 +33,7 @@ ghost use Rattle.smx_filters.specs.ExplainText.{KeepsText, explaining, judging};
 ghost use Rattle.smx_filters.specs.Filters.{Answers, GivesFor, HasEnoughMemory, RefusesFor};
 ghost use Rattle.smx_filters.specs.FrontsText.{fronts_text};
 ghost use Rattle.smx_filters.specs.InMemory.{EndsInMemory, FiltersInMemory};
-ghost use Rattle.smx_filters.specs.Products.{RefusesProduct, making};
+ghost use Rattle.smx_filters.specs.Products.{IsProductOf, RefusesProduct, making};
 ghost use Rattle.smx_filters.specs.RunText.{IsWrittenFor, running};
 
 use smx_config::laws::{reports_are_judged_legal, there_is_one_verdict};
@@ -62,6 +63,12 @@ pub fn one_worker_writes_one_transcript()
 /// limit.
 pub fn a_page_refused_as_long_is_over_a_limit()
     ensures { (t : Transcript) (count : ℕ) → RefusesProduct Page t (run.LongPage count) → IsOver t count }
+{}
+
+/// A page that is given has at most 1,000 entries and 32 MiB.
+pub fn a_page_is_within_its_limits()
+    ensures { (t : Transcript) (output : List ℕ) → IsProductOf Page t output
+        → (length t.entries ≤ MAX_STEPS) × (length output ≤ MAX_PAGE) }
 {}
 
 /// This law is about a check (with or without an explanation), a replay, a trace, and a run on one worker whose output
