@@ -58,8 +58,8 @@ RefusesSteps t other = (length t.entries ≤ MAX_STEPS) × RefusesAlone t.driver
 
 -- ---- each product
 
--- The output is this product of a transcript. A replay, a trace and a page depend neither on its replies nor on its view,
--- and a picture only on its drivers and its view.
+-- The output is this product of a transcript. A replay, a trace and a page depend neither on its replies nor on its
+-- view, and a picture only on its drivers and its view.
 abbrev pub IsProductOf : Product → Transcript → List ℕ → Type 0
 IsProductOf (Replay at) t output = (IsPastEnd at t → ⊥) × IsReplayed (asked_part at t) output
 IsProductOf (Trace waits) t output = IsTraceText waits t output

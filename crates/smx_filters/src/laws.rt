@@ -2,8 +2,8 @@
 //! write. Each law is the contract of a function that does nothing.
 
 ghost use Rattle.std.specs.Global.{Global};
-ghost use Rattle.std.specs.Prelude.{◌≡◌, ◌≤◌, ◌++◌, ℕ, Bool, true, false, List, [], All, length, map, Option, Some, None};
-ghost use Rattle.std.specs.Prelude.{Result, Err, Vec};
+ghost use Rattle.std.specs.Prelude.{◌≡◌, ◌≤◌, ◌++◌, ℕ, Bool, true, false, List, [], All, length, map, Option};
+ghost use Rattle.std.specs.Prelude.{Some, None, Result, Err, Vec};
 ghost use Rattle.smx_types.specs.ProgramLists.{ProgramLists};
 ghost use Rattle.smx_types.specs.declared.transcript.Transcript.{Transcript};
 ghost use Rattle.smx_types.specs.declared.version.Version.{Version};
@@ -164,8 +164,9 @@ pub fn a_replay_is_one_legal_transcript()
     ensures legal { (at : Option ℕ) (input output : List ℕ) (done : Unit {0})
         → GivesFor (making (Replay at)) input done output
         → (line : List ℕ) × GivesFor checking output Legal line }
-    ensures one { (at : Option ℕ) (input one other : List ℕ) (done : Unit {0}) → GivesFor (making (Replay at)) input done one
-        → GivesFor (making (Replay at)) input done other → one ≡ other }
+    ensures one { (at : Option ℕ) (input one other : List ℕ) (done : Unit {0})
+        → GivesFor (making (Replay at)) input done one → GivesFor (making (Replay at)) input done other
+        → one ≡ other }
 {
     one_transcript_has_one_reading();
     a_transcript_has_one_replay();
